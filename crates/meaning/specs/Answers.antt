@@ -1,0 +1,75 @@
+-- What the answers of the public functions say, in the paper's numbers, and what every lent buffer holds afterwards.
+-- Assumes nothing: these are definitions.
+use mathlib.Core.List.{List, [], _∷_, _++_}
+use Prim.Native.Nat.{ℕ, _-_}
+use lib.ListN.{length, drop, replicate}
+use Rattle.meaning.specs.declared.Refusal.{Refusal}
+use Rattle.meaning.specs.declared.Shape.{Shape}
+use Rattle.meaning.specs.declared.Entry.{Entry}
+use Rattle.meaning.specs.declared.Part.{Part}
+use Rattle.meaning.specs.declared.Judged.{Judged}
+use Rattle.meaning.specs.declared.Judged.the-variants.{Accepted, Refused as RefusedSet}
+use Rattle.meaning.specs.declared.Made.{Made}
+use Rattle.meaning.specs.declared.Made.the-variants.{Done, Refused}
+use Rattle.meaning.specs.declared.Viewed.{Viewed}
+use Rattle.meaning.specs.declared.Viewed.the-variants.{Sheet, Set, Refused as RefusedView}
+use Rattle.meaning.specs.Refusals.{Reply, refused, done, refusal}
+
+-- ---- the answer of index, list, writer and correction, and the lent buffer
+
+-- "Index, list, writer and correction answer the count or length of what they made."
+abbrev pub made : {A : Type 0} → Reply (List A) → Made
+made (refused r) = Refused r
+made (done xs) = Done (length xs)
+
+-- "All lent buffers then keep every byte and entry"; else "bytes of the output buffer beyond the written length are zero"
+abbrev pub bytesLeft : Reply (List ℕ) → List ℕ → List ℕ
+bytesLeft (refused r) b = b
+bytesLeft (done bs) b = bs ++ replicate (length b - length bs) 0
+
+-- "Index entries beyond the count stay as they were"
+abbrev pub entriesLeft : Reply (List Entry) → List Entry → List Entry
+entriesLeft (refused r) b = b
+entriesLeft (done es) b = es ++ drop (length es) b
+
+-- ---- number, place and label of each answer; 0, 0, 0 where nothing is refused
+
+abbrev pub noRefusal : Refusal
+noRefusal = refusal 0 0 0
+
+abbrev pub judgedRefusal : Judged → Refusal
+judgedRefusal (Accepted x) = noRefusal
+judgedRefusal (RefusedSet r) = r
+
+abbrev pub madeRefusal : Made → Refusal
+madeRefusal (Done n) = noRefusal
+madeRefusal (Refused r) = r
+
+abbrev pub viewedRefusal : Viewed → Refusal
+viewedRefusal (Sheet q) = noRefusal
+viewedRefusal (Set q) = noRefusal
+viewedRefusal (RefusedView r) = r
+
+-- ---- the values of each answer
+
+-- the set's length, its lines, its type; 0, 0, 0 for a refusal
+abbrev pub judgedShape : Judged → Shape
+judgedShape (Accepted x) = x
+judgedShape (RefusedSet r) = record { length = 0; lines = 0; kind = 0 }
+
+-- how much was made; 0 for a refusal
+abbrev pub madeCount : Made → ℕ
+madeCount (Done n) = n
+madeCount (Refused r) = 0
+
+-- the flag: 1 where the sheet's part is shown, 0 where the set's
+abbrev pub viewedFlag : Viewed → ℕ
+viewedFlag (Sheet q) = 1
+viewedFlag (Set q) = 0
+viewedFlag (RefusedView r) = 0
+
+-- place and length of the part; 0 and 0 for a refusal
+abbrev pub viewedPart : Viewed → Part
+viewedPart (Sheet q) = q
+viewedPart (Set q) = q
+viewedPart (RefusedView r) = record { place = 0; length = 0 }

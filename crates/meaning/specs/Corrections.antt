@@ -1,0 +1,61 @@
+-- "Corrections": a new content for one line of a set in its buffer.
+-- Assumes nothing: these are definitions.
+use mathlib.Core.Bool.{Bool, cond, not, _&&_, _||_}
+use mathlib.Core.List.{List, [], _∷_, _++_}
+use Prim.Native.Nat.{ℕ, pred, _+_}
+use lib.ListN.{length, take, set}
+use lib.Dec.{leb, eqb}
+use Rattle.meaning.specs.Field.{Field, field, labelAtLine, isNil}
+use Rattle.meaning.specs.Refusals.{Spot, start, byte, Fault, atLine, ask, Reply, refused, done, thenTo, refusal, verdict, badUse, noSuchLine, fixedLine, badContent}
+use Rattle.meaning.specs.Pieces.{Parsed}
+use Rattle.meaning.specs.Lines.{size, offset, lowBytes}
+use Rattle.meaning.specs.Rules.{profile, fits}
+use Rattle.meaning.specs.Reading.{read}
+use Rattle.meaning.specs.Lists.{withoutSum, withSum, setWithRoom}
+
+-- 20, FixedLine: "line is 8000, 8100 or 9218"
+abbrev pub fixed : ℕ → Bool
+fixed l = eqb l 8000 || (eqb l 8100 || eqb l 9218)
+
+-- 18, BadUse: "another set follows (place: first set's length)"
+abbrev pub aloneFaults : Parsed → List Fault
+aloneFaults d = ask (isNil (d .rest)) (atLine badUse (length (d .fields)) 0)
+
+-- 19, NoSuchLine: "line number 0 or beyond the set; place: set length"
+abbrev pub lineNumberFaults : List Field → ℕ → List Fault
+lineNumberFaults fs n = ask (leb 1 n && leb n (length fs)) (atLine noSuchLine (length fs) 0)
+
+-- "19, 20, 6 (place in the new content), 14 (empty included)": what is wrong with content c for line number n
+unfoldable pub changeFaults : List Field → ℕ → List ℕ → List Fault
+changeFaults fs n c =
+    lineNumberFaults fs n
+    ++ (ask (not (fixed (labelAtLine fs (pred n)))) (atLine fixedLine (pred n) (labelAtLine fs (pred n)))
+    ++ (lowBytes (pred n) 0 c
+    ++ ask (fits (profile fs) (field (labelAtLine fs (pred n)) c)) (atLine badContent (pred n) (labelAtLine fs (pred n)))))
+
+-- the correction's places: offsets in the set, and in the new content
+abbrev pub inChange : List Field → ℕ → Spot → ℕ
+inChange fs k start = offset fs k
+inChange fs k (byte i) = i
+
+-- "The new content is written into the middle of the buffer": the lines with content c in the one that has k lines before it
+abbrev pub recontent : List Field → ℕ → List ℕ → List Field
+recontent fs k c = set fs k (field (labelAtLine fs k) c)
+
+-- "8100 [is] brought up to date": line 2 is computed from the other lines
+abbrev pub resum : List Field → List Field
+resum fs = withSum (withoutSum fs)
+
+-- the lines after the correction of line number n
+abbrev pub changed : List Field → ℕ → List ℕ → List Field
+changed fs n c = resum (recontent fs (pred n) c)
+
+abbrev pub correctLines : ℕ → ℕ → List ℕ → Parsed → Reply (List ℕ)
+correctLines room n c d =
+    thenTo (verdict (inChange (d .fields)) (aloneFaults d ++ changeFaults (d .fields) n c) (changed (d .fields) n c)) (λ fs. setWithRoom fs room)
+
+-- "Order: 18 (used length), the set's own refusals, 18 (second set), 19, 20, 6, 14, 22." The set that stands in buffer b, of which `used` bytes are used, after the
+-- correction of line n to content c; "used length over the buffer (place: buffer length)"
+unfoldable pub correct : List ℕ → ℕ → ℕ → List ℕ → Reply (List ℕ)
+correct b used n c =
+    cond (leb used (length b)) (thenTo (read (take used b)) (λ d. correctLines (length b) n c d)) (refused (refusal badUse (length b) 0))

@@ -1,0 +1,34 @@
+-- Decimal digits of a fixed width, most significant first, and the number that digits write. Bytes by name.
+-- Assumes nothing: these are definitions.
+use mathlib.Core.Bool.{Bool, true, false, _&&_}
+use mathlib.Core.List.{List, [], _∷_, _++_}
+use Prim.Native.Nat.{ℕ, zero, suc, _+_, _-_, _*_, _/_, _%_}
+use lib.Dec.{leb}
+
+abbrev pub zeroByte : ℕ
+zeroByte = 48
+
+abbrev pub nineByte : ℕ
+nineByte = 57
+
+-- the last k digits of n
+abbrev pub digits : ℕ → ℕ → List ℕ
+digits zero n = []
+digits (suc k) n = digits k (n / 10) ++ ((zeroByte + n % 10) ∷ [])
+
+-- "digits" are 30h to 39h
+abbrev pub digit : ℕ → Bool
+digit b = leb zeroByte b && leb b nineByte
+
+abbrev pub allDigits : List ℕ → Bool
+allDigits [] = true
+allDigits (b ∷ bs) = digit b && allDigits bs
+
+-- the number that digits write, behind those that wrote a
+abbrev pub numberFrom : ℕ → List ℕ → ℕ
+numberFrom a [] = a
+numberFrom a (b ∷ bs) = numberFrom (a * 10 + (b - zeroByte)) bs
+
+-- the number that digits write
+abbrev pub number : List ℕ → ℕ
+number bs = numberFrom 0 bs

@@ -1,0 +1,37 @@
+-- A set, a list and a sheet are lists of fields: labels with contents. In a sheet the label is a line number.
+-- Assumes nothing: these are definitions.
+use mathlib.Core.Bool.{Bool, true, false, _||_}
+use mathlib.Core.List.{List, [], _∷_, map}
+use Prim.Native.Nat.{ℕ}
+use lib.ListN.{getD}
+use lib.Dec.{eqb}
+
+pub record Field : Type 0 where
+  pub label : ℕ
+  pub content : List ℕ
+
+abbrev pub field : ℕ → List ℕ → Field
+field l c = record { label = l; content = c }
+
+abbrev pub labels : List Field → List ℕ
+labels fs = map (λ (f : Field). f .label) fs
+
+-- what stands behind the last line
+abbrev pub noField : Field
+noField = field 0 []
+
+-- label and content of the line that has k lines before it
+abbrev pub labelAtLine : List Field → ℕ → ℕ
+labelAtLine fs k = getD fs k noField .label
+
+abbrev pub contentAtLine : List Field → ℕ → List ℕ
+contentAtLine fs k = getD fs k noField .content
+
+-- x is among xs
+unfoldable pub elem : ℕ → List ℕ → Bool
+elem x [] = false
+elem x (y ∷ ys) = eqb x y || elem x ys
+
+abbrev pub isNil : List ℕ → Bool
+isNil [] = true
+isNil (b ∷ bs) = false

@@ -1,0 +1,110 @@
+-- "Numbered replies", 8 to 17, over the lines of a set, in the paper's order.
+-- Assumes nothing: these are definitions. They see three things only: the profile, the labels, and each content by itself.
+use mathlib.Core.Bool.{Bool, true, false, cond, not, _&&_, _||_}
+use mathlib.Core.List.{List, [], _∷_, _++_}
+use Prim.Native.Nat.{ℕ, _+_}
+use lib.ListN.{length, getD}
+use lib.Dec.{eqb}
+use Rattle.meaning.specs.declared.Row.{Row}
+use Rattle.meaning.specs.declared.Known.{Known}
+use Rattle.meaning.specs.declared.Known.the-variants.{Of, Nothing}
+use Rattle.meaning.specs.Limits.{typeOf}
+use Rattle.meaning.specs.Digits.{number, allDigits}
+use Rattle.meaning.specs.Field.{Field, labels, contentAtLine}
+use Rattle.meaning.specs.Lines.{size}
+use Rattle.meaning.specs.Refusals.{Fault, atLine, ask, noStart, unknownSet, noSum, badContent, otherVersion, badSum}
+use Rattle.meaning.specs.Kinds.{is0210}
+use Rattle.meaning.specs.FieldTable.{fitsLabel}
+use Rattle.meaning.specs.Tables.{table, find}
+use Rattle.meaning.specs.Groups.{State, first, Role, unknown, strayed, plain, member, role, next, placeFaults}
+use Rattle.meaning.specs.Missing.{ascending, missingFaults}
+
+-- ---- the profile: what the contents of the fixed lines choose
+
+-- the set type that a content of 8000 names: four digits, the number of one of the five
+unfoldable pub typeNamed : List ℕ → Known
+typeNamed c = cond (eqb (length c) 4 && allDigits c) (typeOf (number c)) Nothing
+
+pub record Profile : Type 0 where
+  pub kind : Known
+
+unfoldable pub profile : List Field → Profile
+profile fs = record { kind = typeNamed (contentAtLine fs 0) }
+
+abbrev pub tableOf : Known → List Row
+tableOf (Of t) = table t
+tableOf Nothing = []
+
+abbrev pub rowsOf : Profile → List Row
+rowsOf p = tableOf (p .kind)
+
+-- ---- 8, 9, 10
+
+-- the line that has k lines before it is there and has label l
+abbrev pub labelIs : List Field → ℕ → ℕ → Bool
+labelIs fs k l = eqb (getD (labels fs) k 0) l
+
+abbrev pub isKnown : Known → Bool
+isKnown (Of t) = true
+isKnown Nothing = false
+
+abbrev pub typeKnown : List Field → Bool
+typeKnown fs = isKnown (profile fs .kind)
+
+-- 8, NoStart: "line 1 is not 8000"; 9, UnknownSet: "8000 names none of the five"; 10, NoSum: "line 2 is absent (place: set length) or not 8100"
+unfoldable pub startFaults : List Field → List Fault
+startFaults fs =
+    ask (labelIs fs 0 8000) (atLine noStart 0 0)
+    ++ (ask (typeKnown fs) (atLine unknownSet 0 0)
+    ++ ask (labelIs fs 1 8100) (atLine noSum 1 0))
+
+-- ---- 11 to 15: "then all lines, in order, each by 11, 12, 13, 14, 15"
+
+-- a field whose content fits its label
+unfoldable pub fits : Profile → Field → Bool
+fits p f = fitsLabel (f .label) (f .content)
+
+-- a field that is not 9218, or is the version that is read
+unfoldable pub current : Profile → Field → Bool
+current p f = not (eqb (f .label) 9218) || is0210 (f .content)
+
+-- 14, BadContent: "content breaks length, kind or rule"; 15, OtherVersion: "9218 well formed, not 02.10"
+unfoldable pub contentFaults : Profile → ℕ → Field → List Fault
+contentFaults p k f = cond (fits p f) (ask (current p f) (atLine otherVersion k (f .label))) (atLine badContent k (f .label) ∷ [])
+
+-- a label that is not in the table has no content to judge
+unfoldable pub judgedContent : Role → Profile → ℕ → Field → List Fault
+judgedContent unknown p k f = []
+judgedContent strayed p k f = contentFaults p k f
+judgedContent (plain r) p k f = contentFaults p k f
+judgedContent (member r) p k f = contentFaults p k f
+
+unfoldable pub lineRules : Role → Profile → State → ℕ → Field → List Fault
+lineRules o p st k f = placeFaults o st k (f .label) ++ judgedContent o p k f
+
+-- the role of a field's line behind a state
+abbrev pub roleIn : Profile → State → Field → Role
+roleIn p st f = role (find (rowsOf p) (f .label)) (st .header) (f .label)
+
+unfoldable pub rulesFrom : Profile → State → ℕ → List Field → List Fault
+rulesFrom p st k [] = []
+rulesFrom p st k (f ∷ fs) = lineRules (roleIn p st f) p st k f ++ rulesFrom p (next (roleIn p st f) st k (f .label)) (k + 1) fs
+
+-- ---- 17
+
+-- BadSum: "8100 is not the set's length", "place of line 2"; "the sum of all line lengths of the set, its own included"
+unfoldable pub sumFaults : List Field → List Fault
+sumFaults fs = ask (eqb (number (contentAtLine fs 1)) (size fs)) (atLine badSum 1 0)
+
+-- ---- all of them, in order
+
+-- "then 8, 9, 10; then all lines, in order, each by 11, 12, 13, 14, 15; then 16": what reader and writer go by
+unfoldable pub ruleFaults : List Field → List Fault
+ruleFaults fs =
+    startFaults fs
+    ++ (rulesFrom (profile fs) first 0 fs
+    ++ missingFaults (ascending (rowsOf (profile fs))) (labels fs))
+
+-- "then 17": the reader's alone, since the writer computes the sum
+unfoldable pub setFaults : List Field → List Fault
+setFaults fs = ruleFaults fs ++ sumFaults fs

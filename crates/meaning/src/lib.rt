@@ -1,0 +1,215 @@
+// The types that every crate shares: set types with the limits, refusals with their numbers, rows, index entries, answers.
+// Assumes nothing; each function here says in its contract which definition of specs/ it equals.
+ghost use mathlib.Core.Path.{_≡_};
+ghost use Rattle.meaning.specs.Limits.{limits, typeOf, typeNumber};
+ghost use Rattle.meaning.specs.Refusals.{numbers};
+
+// The five set types of GDT 2.1 that are read and written.
+pub enum SetType {
+    T6300,
+    T6301,
+    T6302,
+    T6310,
+    T6311,
+}
+
+// The set type that a number names, or none of the five.
+pub enum Known {
+    Of(SetType),
+    Nothing,
+}
+
+// The limits of a set as values, for specs/ to cite.
+pub struct Limits {
+    pub lines: usize,
+    pub line: usize,
+    pub set: usize,
+}
+
+impl SetType {
+    // A set has at most this many lines.
+    pub const LINES: usize = 512;
+
+    // A line has at most this many bytes, its end included.
+    pub const LINE_BYTES: usize = 999;
+
+    // A set that is written or corrected has at most this many bytes.
+    pub const SET_BYTES: usize = 99_999;
+
+    // The constants are those that specs/ cite.
+    pub fn limits() -> Limits
+        ensures { λ r. ⌜ r ≡ limits ⌝ }
+    {
+        Limits {
+            lines: SetType::LINES,
+            line: SetType::LINE_BYTES,
+            set: SetType::SET_BYTES,
+        }
+    }
+
+    // The set type with this number.
+    pub fn of(number: usize) -> Known
+        ensures { λ r. ⌜ r ≡ typeOf number ⌝ }
+    {
+        match number {
+            6300 => Known::Of(SetType::T6300),
+            6301 => Known::Of(SetType::T6301),
+            6302 => Known::Of(SetType::T6302),
+            6310 => Known::Of(SetType::T6310),
+            6311 => Known::Of(SetType::T6311),
+            _ => Known::Nothing,
+        }
+    }
+
+    // Its number.
+    pub fn number(self) -> usize
+        ensures { λ r. ⌜ r ≡ typeNumber self ⌝ }
+    {
+        match self {
+            SetType::T6300 => 6300,
+            SetType::T6301 => 6301,
+            SetType::T6302 => 6302,
+            SetType::T6310 => 6310,
+            SetType::T6311 => 6311,
+        }
+    }
+}
+
+// A refusal: its number, its place and its label. Every lent buffer then holds what it held before.
+pub struct Refusal {
+    pub no: usize,
+    pub place: usize,
+    pub label: usize,
+}
+
+impl Refusal {
+    pub const EMPTY: usize = 1;
+
+    pub const BAD_LENGTH: usize = 2;
+
+    pub const CUT_LINE: usize = 3;
+
+    pub const BAD_END: usize = 4;
+
+    pub const BAD_LABEL: usize = 5;
+
+    pub const BAD_BYTE: usize = 6;
+
+    pub const TOO_MANY_LINES: usize = 7;
+
+    pub const NO_START: usize = 8;
+
+    pub const UNKNOWN_SET: usize = 9;
+
+    pub const NO_SUM: usize = 10;
+
+    pub const NOT_IN_SET: usize = 11;
+
+    pub const STRAY: usize = 12;
+
+    pub const REPEATED: usize = 13;
+
+    pub const BAD_CONTENT: usize = 14;
+
+    pub const OTHER_VERSION: usize = 15;
+
+    pub const MISSING: usize = 16;
+
+    pub const BAD_SUM: usize = 17;
+
+    pub const BAD_USE: usize = 18;
+
+    pub const NO_SUCH_LINE: usize = 19;
+
+    pub const FIXED_LINE: usize = 20;
+
+    pub const BAD_LIST: usize = 21;
+
+    pub const NO_ROOM: usize = 22;
+
+    // The numbers are those that specs/ cite, in the paper's order.
+    pub fn numbers() -> [usize; 22]
+        ensures { λ r. ⌜ r ≡ numbers ⌝ }
+    {
+        [
+            Refusal::EMPTY,
+            Refusal::BAD_LENGTH,
+            Refusal::CUT_LINE,
+            Refusal::BAD_END,
+            Refusal::BAD_LABEL,
+            Refusal::BAD_BYTE,
+            Refusal::TOO_MANY_LINES,
+            Refusal::NO_START,
+            Refusal::UNKNOWN_SET,
+            Refusal::NO_SUM,
+            Refusal::NOT_IN_SET,
+            Refusal::STRAY,
+            Refusal::REPEATED,
+            Refusal::BAD_CONTENT,
+            Refusal::OTHER_VERSION,
+            Refusal::MISSING,
+            Refusal::BAD_SUM,
+            Refusal::BAD_USE,
+            Refusal::NO_SUCH_LINE,
+            Refusal::FIXED_LINE,
+            Refusal::BAD_LIST,
+            Refusal::NO_ROOM,
+        ]
+    }
+}
+
+// A row of a set table: a label, its header's label (0 at set level), whether it repeats, whether it is required.
+pub struct Row {
+    pub label: u16,
+    pub under: u16,
+    pub many: bool,
+    pub required: bool,
+}
+
+// What an accepted set is: its length in bytes, its lines, the number of its type.
+pub struct Shape {
+    pub length: usize,
+    pub lines: usize,
+    pub kind: usize,
+}
+
+// What judging a set answers.
+pub enum Judged {
+    // The set at the front keeps every rule; bytes behind it were not judged.
+    Accepted(Shape),
+    // The first fault in the paper's order.
+    Refused(Refusal),
+}
+
+// What index, list, writer and correction answer.
+pub enum Made {
+    // What was asked for stands in the lent buffer: so many entries, or so many bytes.
+    Done(usize),
+    // Nothing was changed.
+    Refused(Refusal),
+}
+
+// A line of the index: its label, the place of its content, the content's length, and the number of its header's line or 0.
+#[repr(C)]
+pub struct Entry {
+    pub label: usize,
+    pub place: usize,
+    pub length: usize,
+    pub header: usize,
+}
+
+// A part of a lent slice.
+pub struct Part {
+    pub place: usize,
+    pub length: usize,
+}
+
+// What a view answers: which slice holds the content that is shown, and where.
+pub enum Viewed {
+    // A pending correction: the part of the sheet.
+    Sheet(Part),
+    // No pending correction for the line: the part of the set.
+    Set(Part),
+    // Nothing is shown.
+    Refused(Refusal),
+}
