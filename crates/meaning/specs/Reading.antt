@@ -25,13 +25,14 @@ scan s = cond (isNil s) (refused (refusal empty 0 0)) (pieceThen lineForm (lineF
 abbrev pub inSet : List Field → ℕ → Spot → ℕ
 inSet fs k spot = offset fs k + behind lineLead spot
 
-abbrev pub ruled : Reply Parsed → Reply Parsed
-ruled (refused r) = refused r
-ruled (done d) = verdict (inSet (d .fields)) (setFaults (d .fields)) d
+-- the lines that were scanned, judged by the rules
+abbrev pub byRules : Reply Parsed → Reply Parsed
+byRules (refused r) = refused r
+byRules (done d) = verdict (inSet (d .fields)) (setFaults (d .fields)) d
 
 -- the lines of the set at the front of s and the bytes behind it, or the refusal
 unfoldable pub read : List ℕ → Reply Parsed
-read s = ruled (scan s)
+read s = byRules (scan s)
 
 -- ---- what judging answers
 

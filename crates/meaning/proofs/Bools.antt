@@ -1,0 +1,62 @@
+-- Facts on tests and on every element of a list that know nothing of sets.
+-- Assumes nothing.
+use mathlib.Core.Path.{_≡_, refl, sym, ap, _∙_}
+use mathlib.Core.Bool.{Bool, true, false, cond, not, _&&_, _||_, true≢false}
+use mathlib.Core.List.{List, [], _∷_, _++_}
+use Prim.Native.Nat.{ℕ, zero, suc, _<_}
+use native.Mathlib.Omega.{arith}
+use lib.ListN.{length, drop, getD, set}
+use Rattle.meaning.specs.Field.{isNil}
+
+-- ---- tests
+
+pub and-left : (a b : Bool) → a && b ≡ true → a ≡ true
+and-left true b e = refl
+and-left false b e = e
+
+pub and-right : (a b : Bool) → a && b ≡ true → b ≡ true
+and-right true b e = e
+and-right false b e = cc
+
+pub and-both : {a b : Bool} → a ≡ true → b ≡ true → a && b ≡ true
+and-both p q = rw p q
+
+pub and-no : (a : Bool) {b : Bool} → b ≡ false → a && b ≡ false
+and-no true e = e
+and-no false e = refl
+
+pub or-right : (a : Bool) {b : Bool} → b ≡ true → a || b ≡ true
+or-right true e = refl
+or-right false e = e
+
+pub not-true : (b : Bool) → not b ≡ true → b ≡ false
+not-true true e = sym e
+not-true false e = refl
+
+-- ---- lists of no bytes
+
+pub nil-is : (t : List ℕ) → isNil t ≡ true → t ≡ []
+nil-is [] e = refl
+nil-is (b ∷ bs) e = absurd (true≢false (sym e))
+
+-- ---- every element
+
+abbrev pub Every {ℓ} : {A : Type ℓ} → (A → Type 0) → List A → Type 0
+Every P [] = Unit
+Every P (x ∷ xs) = P x × Every P xs
+
+module _ {A : Type 0} (P : A → Type 0) where
+  pub every-set : (xs : List A) (k : ℕ) (y : A) → P y → Every P xs → Every P (set xs k y)
+  every-set [] k y p h = tt
+  every-set (x ∷ xs) zero y p h = (p, h .1)
+  every-set (x ∷ xs) (suc k) y p h = (h .0, every-set xs k y p (h .1))
+
+  pub every-at : (xs : List A) (k : ℕ) (d : A) → k < length xs → Every P xs → P (getD xs k d)
+  every-at [] k d l h = absurd (omega arith)
+  every-at (x ∷ xs) zero d l h = h .0
+  every-at (x ∷ xs) (suc k) d l h = every-at xs k d (omega arith) (h .1)
+
+  pub every-drop : (n : ℕ) (xs : List A) → Every P xs → Every P (drop n xs)
+  every-drop zero xs h = h
+  every-drop (suc n) [] h = h
+  every-drop (suc n) (x ∷ xs) h = every-drop n xs (h .1)

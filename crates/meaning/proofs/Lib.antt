@@ -1,0 +1,17 @@
+pub mod Bools
+pub mod DigitLaws
+pub mod FaultLaws
+pub mod PieceLaws
+pub mod LineLaws
+pub mod EntryLaws
+pub mod FieldLaws
+pub mod RuleLaws
+pub mod SetLaws
+pub mod SizeLaws
+pub mod CorrectionLaws
+pub mod WriterLaws
+pub mod PlaceLaws
+pub mod ViewLaws
+pub mod Texts
+pub mod Examples
+pub mod Demands

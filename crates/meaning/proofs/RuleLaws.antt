@@ -1,0 +1,139 @@
+-- The rules under the replacement of one content: what sees labels and profile alone stays, and the new content must fit by itself.
+-- Assumes nothing.
+use mathlib.Core.Path.{_≡_, refl, sym, ap, _∙_}
+use mathlib.Core.Bool.{Bool, true, false, cond, not, _||_}
+use mathlib.Core.List.{List, [], _∷_, _++_, map, cons≢nil}
+use Prim.Native.Nat.{ℕ, zero, suc, _+_}
+use lib.ListN.{length, getD, set, List·getD-map}
+use lib.Seq.{map-set-same, getD-set-other}
+use borrow.Author.Tests.{ne-eqb, eqb-true}
+use Rattle.meaning.specs.Field.{Field, labels, noField, labelAtLine, contentAtLine}
+use Rattle.meaning.specs.Refusals.{Fault, atLine, unknownSet, noSum}
+use Rattle.meaning.specs.Groups.{State, first, Role, unknown, strayed, plain, member, next, placeFaults}
+use Rattle.meaning.specs.Missing.{ascending, missingFaults}
+use Rattle.meaning.specs.Rules.{labelIs, typeKnown, Profile, profile, rowsOf, roleIn, startFaults, fits, current, contentFaults, judgedContent, lineRules, rulesFrom, sumFaults, ruleFaults, setFaults}
+use Rattle.meaning.proofs.FaultLaws.{append-none, none-both, ask-none, ask-last, cond-none}
+
+-- ---- one line
+
+-- a content that may stand for another with the same label
+pub record Fit (p : Profile) (g : Field) : Type 0 where
+  pub right : fits p g ≡ true
+  pub version-right : current p g ≡ true
+
+pub not-version : (p : Profile) (g : Field) → (g .label ≡ 9218 → ⊥) → current p g ≡ true
+unfolding current
+not-version p g h = rw (ne-eqb (g .label) 9218 h)
+
+fit-none : (p : Profile) (k : ℕ) (g : Field) → Fit p g → contentFaults p k g ≡ []
+unfolding contentFaults
+fit-none p k g h = rw (h .right, h .version-right)
+
+judged-none : (o : Role) (p : Profile) (k : ℕ) (g : Field) → Fit p g → judgedContent o p k g ≡ []
+unfolding judgedContent
+judged-none unknown p k g h = refl
+judged-none strayed p k g h = fit-none p k g h
+judged-none (plain r) p k g h = fit-none p k g h
+judged-none (member r) p k g h = fit-none p k g h
+
+line-keep : (o : Role) (p : Profile) (st : State) (k : ℕ) (f g : Field) → g .label ≡ f .label → Fit p g
+    → lineRules o p st k f ≡ [] → lineRules o p st k g ≡ []
+unfolding lineRules
+line-keep o p st k f g e h q =
+    none-both (placeFaults o st k (g .label)) _ (rw e (append-none (placeFaults o st k (f .label)) _ q .0)) (judged-none o p k g h)
+
+-- a line without faults is in the table, in its place, and its content fits
+pub line-fits : (o : Role) (p : Profile) (st : State) (k : ℕ) (g : Field) → lineRules o p st k g ≡ [] → fits p g ≡ true
+unfolding lineRules placeFaults judgedContent contentFaults
+line-fits unknown p st k g e = absurd (cons≢nil e)
+line-fits strayed p st k g e = absurd (cons≢nil e)
+line-fits (plain r) p st k g e = cond-none (fits p g) _ _ (append-none (placeFaults (plain r) st k (g .label)) (contentFaults p k g) e .1)
+line-fits (member r) p st k g e = cond-none (fits p g) _ _ (append-none (placeFaults (member r) st k (g .label)) (contentFaults p k g) e .1)
+
+-- ---- all lines
+
+pub rules-keep : (p : Profile) (st : State) (k : ℕ) (fs : List Field) (i : ℕ) (g : Field) → g .label ≡ labelAtLine fs i → Fit p g
+    → rulesFrom p st k fs ≡ [] → rulesFrom p st k (set fs i g) ≡ []
+unfolding rulesFrom
+rules-keep p st k [] i g e h q = refl
+rules-keep p st k (f ∷ fs) zero g e h q =
+    let r = append-none (lineRules (roleIn p st f) p st k f) _ q in
+    let a : lineRules (roleIn p st g) p st k f ≡ [] = rw e (r .0) in
+    let b : rulesFrom p (next (roleIn p st g) st k (g .label)) (k + 1) fs ≡ [] = rw e (r .1) in
+    none-both _ _ (line-keep (roleIn p st g) p st k f g e h a) b
+rules-keep p st k (f ∷ fs) (suc i) g e h q =
+    let r = append-none (lineRules (roleIn p st f) p st k f) _ q in
+    none-both _ _ (r .0) (rules-keep p (next (roleIn p st f) st k (f .label)) (k + 1) fs i g e h (r .1))
+
+-- ---- what is chosen, and what is missing, stays
+
+pub labels-keep : (fs : List Field) (i : ℕ) (g : Field) → g .label ≡ labelAtLine fs i → labels (set fs i g) ≡ labels fs
+labels-keep fs i g e = map-set-same (λ (f : Field). f .label) fs i g noField e
+
+content-keep : (fs : List Field) (i k : ℕ) (g : Field) → (k ≡ i → ⊥) → contentAtLine (set fs i g) k ≡ contentAtLine fs k
+content-keep fs i k g h = ap (λ (f : Field). f .content) (getD-set-other fs i k g noField h)
+
+pub profile-keep : (fs : List Field) (i : ℕ) (g : Field) → (0 ≡ i → ⊥) → profile (set fs i g) ≡ profile fs
+unfolding profile
+profile-keep fs i g n = rw (content-keep fs i 0 g n)
+
+start-keep : (fs : List Field) (i : ℕ) (g : Field) → g .label ≡ labelAtLine fs i → (0 ≡ i → ⊥) → startFaults (set fs i g) ≡ startFaults fs
+unfolding startFaults
+start-keep fs i g e n = rw (labels-keep fs i g e, profile-keep fs i g n)
+
+-- ---- all rules but the sum
+
+pub record Ruled (fs : List Field) : Type 0 where
+  pub begins : startFaults fs ≡ []
+  pub each-line : rulesFrom (profile fs) first 0 fs ≡ []
+  pub none-missing : missingFaults (ascending (rowsOf (profile fs))) (labels fs) ≡ []
+
+pub ruled-of : (fs : List Field) → ruleFaults fs ≡ [] → Ruled fs
+unfolding ruleFaults
+ruled-of fs e =
+    let a = append-none (startFaults fs) _ e in
+    let b = append-none (rulesFrom (profile fs) first 0 fs) _ (a .1) in
+    record { begins = a .0; each-line = b .0; none-missing = b .1 }
+
+pub no-rule-faults : (fs : List Field) → Ruled fs → ruleFaults fs ≡ []
+unfolding ruleFaults
+no-rule-faults fs r = rw (r .begins, r .each-line, r .none-missing)
+
+pub ruled : (fs : List Field) → setFaults fs ≡ [] → Ruled fs × (sumFaults fs ≡ [])
+unfolding setFaults
+ruled fs e = let a = append-none (ruleFaults fs) (sumFaults fs) e in (ruled-of fs (a .0), a .1)
+
+pub unruled : (fs : List Field) → Ruled fs → sumFaults fs ≡ [] → setFaults fs ≡ []
+unfolding setFaults
+unruled fs r e = none-both (ruleFaults fs) (sumFaults fs) (no-rule-faults fs r) e
+
+-- one content for another that fits by itself keeps every rule but the sum
+pub ruled-keep : (fs : List Field) (i : ℕ) (g : Field) → g .label ≡ labelAtLine fs i → (0 ≡ i → ⊥) → Fit (profile fs) g → Ruled fs → Ruled (set fs i g)
+ruled-keep fs i g e n h r =
+    let p : profile (set fs i g) ≡ profile fs = profile-keep fs i g n in
+    record {
+      begins = rw (start-keep fs i g e n) (r .begins);
+      each-line = rw p (rules-keep (profile fs) first 0 fs i g e h (r .each-line));
+      none-missing = rw (p, labels-keep fs i g e) (r .none-missing);
+    }
+
+-- ---- lines 1 and 2
+
+pub record Begins (fs : List Field) : Type 0 where
+  pub type-known : typeKnown fs ≡ true
+  pub first-label : labelAtLine fs 0 ≡ 8000
+  pub second-label : labelAtLine fs 1 ≡ 8100
+
+label-so : (fs : List Field) (k l : ℕ) → labelIs fs k l ≡ true → labelAtLine fs k ≡ l
+label-so fs k l e = sym (List·getD-map (λ (f : Field). f .label) fs k noField) ∙ eqb-true _ l e
+
+pub begins-of : (fs : List Field) → startFaults fs ≡ [] → Begins fs
+unfolding startFaults
+begins-of fs e =
+    let a = ask-none (labelIs fs 0 8000) _ _ e in
+    let b = ask-none (typeKnown fs) (atLine unknownSet 0 0) _ (a .1) in
+    record {
+      type-known = b .0;
+      first-label = label-so fs 0 8000 (a .0);
+      second-label = label-so fs 1 8100 (ask-last (labelIs fs 1 8100) (atLine noSum 1 0) (b .1));
+    }
