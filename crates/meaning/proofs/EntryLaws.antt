@@ -106,6 +106,14 @@ right s e =
       high = lows-back 0 0 (entryContent s) (a .1);
     }
 
+-- the bytes of an entry are bytes
+every-append : (a b : List ℕ) → Every Byte a → Every Byte b → Every Byte (a ++ b)
+every-append [] b h k = k
+every-append (x ∷ a) b h k = (h .0, every-append a b (h .1) k)
+
+pub entry-bytes : (f : Field) → f .label < 65536 → length (f .content) < 65536 → Every Byte (f .content) → Every Byte (entryThen f [])
+entry-bytes f l n h = (omega arith, (omega arith, (omega arith, (omega arith, every-append (f .content) [] h tt))))
+
 -- ---- the form of a list's entries
 
 pub entry-lawful : Lawful entryForm Listed Byte

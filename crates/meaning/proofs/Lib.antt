@@ -15,3 +15,4 @@ pub mod ViewLaws
 pub mod Texts
 pub mod Examples
 pub mod Demands
+pub mod NumberLaws

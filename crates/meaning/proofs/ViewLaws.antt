@@ -8,7 +8,7 @@ use native.Mathlib.Omega.{arith}
 use lib.Dec.{leb, eqb}
 use lib.ListN.{length, take, drop, getD, set}
 use lib.Seq.{take-at, drop-at, drop-drop, getD-set-other, getD-set-same}
-use borrow.Author.Tests.{le-leb, eq-eqb, ne-eqb}
+use borrow.Author.Tests.{le-leb, eqb-true, eqb-false}
 use Rattle.meaning.specs.declared.Part.{Part}
 use Rattle.meaning.specs.declared.Viewed.{Viewed}
 use Rattle.meaning.specs.declared.Viewed.the-variants.{Sheet, Set, Refused}
@@ -17,16 +17,18 @@ use Rattle.meaning.specs.Refusals.{Fault, Reply, refused, done}
 use Rattle.meaning.specs.Pieces.{Parsed, parsed, pieces, putAll}
 use Rattle.meaning.specs.Lines.{lineLead, offset, render}
 use Rattle.meaning.specs.Entries.{entryWhole, entryLabel, entryContent, entryField, entryWidth, entryThen}
+use Rattle.meaning.specs.Rules.{profile}
 use Rattle.meaning.specs.Reading.{read}
-use Rattle.meaning.specs.Corrections.{changeFaults, recontent, resum, changed}
-use Rattle.meaning.specs.Views.{sheetEntryFaults, sheetForm, sheet, part, latest, standing, viewed, partOf, seen, view}
+use Rattle.meaning.specs.Corrections.{changeFaults, recontent, resum, changed, correct}
+use Rattle.meaning.specs.Views.{sheetEntryFaults, sheetForm, sheet, part, latest, standing, viewing, viewed, partOf, seen, view}
 use Rattle.meaning.proofs.Bools.{nil-is, Every}
 use Rattle.meaning.proofs.FaultLaws.{ask-none}
 use Rattle.meaning.proofs.PieceLaws.{Lawful, pieces-put, pieces-only}
-use Rattle.meaning.proofs.EntryLaws.{Byte, content-entry, label-entry, whole-entry, rest-entry, field-entry, entire, entry-back, short-back}
-use Rattle.meaning.proofs.SetLaws.{accepted}
+use Rattle.meaning.proofs.EntryLaws.{Byte, content-entry, label-entry, whole-entry, rest-entry, field-entry, entire, entry-back, short-back, entry-bytes}
+use Rattle.meaning.proofs.FieldLaws.{fits-short}
+use Rattle.meaning.proofs.SetLaws.{accepted, read-render}
 use Rattle.meaning.proofs.PlaceLaws.{content-at}
-use Rattle.meaning.proofs.CorrectionLaws.{Change, change, no-change-faults}
+use Rattle.meaning.proofs.CorrectionLaws.{Change, change, no-change-faults, Holds, holds-standing, same-lines, alike-changed, still-standing, correct-only}
 
 -- ---- the form of a sheet's entries
 
@@ -91,10 +93,59 @@ latest-shows fs s h n at (e ∷ es) v q =
 -- a view of a line of an accepted set under a sheet without faults
 pub view-shows : (s h : List ℕ) (n : ℕ) (fs es : List Field) → Every Byte h → read s ≡ done (parsed fs []) → 1 ≤ n → n ≤ length fs
     → sheet fs h ≡ done (parsed es []) → view s h n ≡ newest n es (contentAtLine fs (pred n))
-unfolding view viewed
+unfolding view viewed viewing
 view-shows s h n fs es b r lo hi q =
     let w = pieces-only (sheetForm fs) (Pending fs) Byte (sheet-lawful fs) (length h) 0 h es [] b q in
     let c : partOf (part (offset fs (pred n) + lineLead) (length (contentAtLine fs (pred n)))) s ≡ contentAtLine fs (pred n) =
     ap (λ (x : List ℕ). take (length (contentAtLine fs (pred n))) (drop (offset fs (pred n) + lineLead) x)) (accepted s (parsed fs []) r .bytes)
     ∙ content-at fs (pred n) [] (omega arith) in
     rw (r, le-leb 1 n lo, le-leb n (length fs) hi, q) (latest-shows fs s h n 0 es (standing fs n) (w .whole) ∙ ap (newest n es) c)
+
+-- ---- "as it would stand": under a sheet with one pending correction a line shows what it holds once that correction is made
+
+content-resum : (fs : List Field) (k : ℕ) → (k ≡ 1 → ⊥) → contentAtLine (resum fs) k ≡ contentAtLine fs k
+content-resum [] k h = refl
+content-resum (f ∷ []) zero h = refl
+content-resum (f ∷ []) (suc zero) h = absurd (h refl)
+content-resum (f ∷ []) (suc (suc k)) h = refl
+content-resum (f ∷ x ∷ fs) zero h = refl
+content-resum (f ∷ x ∷ fs) (suc zero) h = absurd (h refl)
+content-resum (f ∷ x ∷ fs) (suc (suc k)) h = refl
+
+newest-one : (fs : List Field) (n m : ℕ) (c : List ℕ) → 1 ≤ n → n ≤ length fs → 1 ≤ m
+    → newest m (field n c ∷ []) (contentAtLine fs (pred m)) ≡ contentAtLine (recontent fs (pred n) c) (pred m)
+unfolding newest
+newest-one fs n m c lo hi lo′ = pick (eqb n m) refl
+  where
+    pick : (t : Bool) → eqb n m ≡ t → cond t c (contentAtLine fs (pred m)) ≡ contentAtLine (recontent fs (pred n) c) (pred m)
+    pick true e =
+        let q : pred m ≡ pred n = ap pred (sym (eqb-true n m e)) in
+        sym (ap (contentAtLine (recontent fs (pred n) c)) q
+        ∙ ap (λ (f : Field). f .content) (getD-set-same fs (pred n) (field (labelAtLine fs (pred n)) c) noField (omega arith)))
+    pick false e =
+        let ne : n ≡ m → ⊥ = eqb-false n m e in
+        sym (ap (λ (f : Field). f .content) (getD-set-other fs (pred n) (pred m) (field (labelAtLine fs (pred n)) c) noField (λ q. ne (omega arith))))
+
+pub view-as-corrected : (b : List ℕ) (used n m : ℕ) (c x : List ℕ) → Every Byte c → correct b used n c ≡ done x → (m ≡ 2 → ⊥)
+    → (fs : List Field) → read (take used b) ≡ done (parsed fs []) → 1 ≤ m → m ≤ length fs
+    → view (take used b) (entryThen (field n c) []) m ≡ view x [] m
+unfolding pieces newest
+view-as-corrected b used n m c x bc e ne fs r lo hi =
+    let y = correct-only b used n c x e in
+    let h : Holds b used fs = record { fits-in = y .held .fits-in; front = r } in
+    let q : y .lines ≡ fs = same-lines b used (y .lines) fs (y .held) h in
+    let ch : Change fs n c = subst (λ (gs : List Field). Change gs n c) q (y .asked) in
+    let st = holds-standing b used fs h in
+    let new : List Field = changed fs n c in
+    let a = alike-changed fs n c st ch in
+    let sh = fits-short (profile fs) (field (labelAtLine fs (pred n)) c) (ch .right) in
+    let one : Pending fs (field n c) = record { asked = ch; label-fits = omega (arith, ch .most, st .few); not-long = omega (arith, sh .few-bytes) } in
+    let p : sheet fs (entryThen (field n c) []) ≡ done (parsed (field n c ∷ []) []) =
+    pieces-put (sheetForm fs) (Pending fs) Byte (sheet-lawful fs) (length (entryThen (field n c) [])) 0 (field n c ∷ []) [] (omega arith) (one, tt) refl in
+    let bytes : Every Byte (entryThen (field n c) []) = entry-bytes (field n c) (one .label-fits) (one .not-long) bc in
+    let rx : read x ≡ done (parsed new []) =
+    ap read (y .made ∙ ap (λ (gs : List Field). render (changed gs n c) []) q) ∙ read-render new [] (still-standing fs n c st ch) refl in
+    view-shows (take used b) (entryThen (field n c) []) m fs (field n c ∷ []) bytes r lo hi p
+    ∙ (newest-one fs n m c (ch .least) (ch .most) lo
+    ∙ (sym (content-resum (recontent fs (pred n) c) (pred m) (λ z. ne (omega arith)))
+    ∙ sym (view-shows x [] m new [] tt rx lo (omega (arith, a .length-so)) refl)))

@@ -15,8 +15,8 @@ use Rattle.meaning.specs.Reading.{scan, read, judge}
 use Rattle.meaning.specs.Index.{headerLine, entriesFrom, indexOf, index}
 use Rattle.meaning.specs.Lists.{list, write}
 use Rattle.meaning.specs.Corrections.{changeFaults, correct}
-use Rattle.meaning.specs.Views.{sheetEntryFaults, latest, viewed, view}
+use Rattle.meaning.specs.Views.{sheetEntryFaults, latest, viewing, viewed, view}
 
 unfoldable pub computes : Unit {0}
-unfolding typeOf elem pieces lineFaults entryFaults rows6300 rows6301 rows6302 rows6310 rows6311 table rowLabel findIn find isAlnum isNum decimals whole unsigned isFloat twoAt isRule020 isRule008 isRule090 firstIsIn isRule112 isRule116 isCharset isVersion is0210 ofKind fieldTable fieldRowIn fieldRow hasLength fitsRow fitsLabel belongs roleOf role next after placeFaults onCondition needed lacks missingLabel lacking insert ascending groupLacks stays groupsLack missingFaults typeNamed profile startFaults fits current contentFaults judgedContent lineRules rulesFrom sumFaults ruleFaults setFaults scan read judge headerLine entriesFrom indexOf index list write changeFaults correct sheetEntryFaults latest viewed view
+unfolding typeOf elem pieces lineFaults entryFaults rows6300 rows6301 rows6302 rows6310 rows6311 table rowLabel findIn find isAlnum isNum decimals whole unsigned isFloat twoAt isRule020 isRule008 isRule090 firstIsIn isRule112 isRule116 isCharset isVersion is0210 ofKind fieldTable fieldRowIn fieldRow hasLength fitsRow fitsLabel belongs roleOf role next after placeFaults onCondition needed lacks missingLabel lacking insert ascending groupLacks stays groupsLack missingFaults typeNamed profile startFaults fits current contentFaults judgedContent lineRules rulesFrom sumFaults ruleFaults setFaults scan read judge headerLine entriesFrom indexOf index list write changeFaults correct sheetEntryFaults latest viewing viewed view
 computes = tt

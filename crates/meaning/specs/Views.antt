@@ -46,17 +46,20 @@ latest n at (e ∷ es) v =
 abbrev pub standing : List Field → ℕ → Viewed
 standing fs n = Set (part (offset fs (pred n) + lineLead) (length (contentAtLine fs (pred n))))
 
--- "the answer is the part of the sheet if the line has an entry there, else the part of the set, with a flag for which"
+-- "The set alone must fill its slice (18). Order: set, 18, the asked line (19), then each sheet entry"
+unfoldable pub viewing : List ℕ → List ℕ → ℕ → Reply Viewed
+viewing s h n =
+    thenTo (read s) (λ d.
+    thenTo (verdict (inSet (d .fields)) (aloneFaults d ++ lineNumberFaults (d .fields) n) (d .fields)) (λ fs.
+    thenTo (sheet fs h) (λ e. done (latest n 0 (e .fields) (standing fs n)))))
+
 abbrev pub shown : Reply Viewed → Viewed
 shown (refused r) = Refused r
 shown (done v) = v
 
--- "The set alone must fill its slice (18). Order: set, 18, the asked line (19), then each sheet entry"
+-- "the answer is the part of the sheet if the line has an entry there, else the part of the set, with a flag for which"
 unfoldable pub viewed : List ℕ → List ℕ → ℕ → Viewed
-viewed s h n =
-    shown (thenTo (read s) (λ d.
-    thenTo (verdict (inSet (d .fields)) (aloneFaults d ++ lineNumberFaults (d .fields) n) (d .fields)) (λ fs.
-    thenTo (sheet fs h) (λ e. done (latest n 0 (e .fields) (standing fs n))))))
+viewed s h n = shown (viewing s h n)
 
 -- ---- the part itself
 
