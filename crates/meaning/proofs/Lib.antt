@@ -12,7 +12,8 @@ pub mod CorrectionLaws
 pub mod WriterLaws
 pub mod PlaceLaws
 pub mod ViewLaws
-pub mod Texts
+pub mod Asking
 pub mod Examples
 pub mod Demands
 pub mod NumberLaws
+pub mod Decided

@@ -1,0 +1,119 @@
+-- What the tables of examples ask of the definitions, and how an answer is written: the replies and the lent bytes of all six parts.
+-- Assumes nothing.
+use mathlib.Core.List.{List, [], _∷_, _++_, map}
+use Prim.Native.Nat.{ℕ}
+use Prim.Native.Char.{code}
+use Prim.Native.String.{String}
+use lib.ListN.{length, replicate}
+use Rattle.meaning.specs.declared.Entry.{Entry}
+use Rattle.meaning.specs.declared.Judged.{Judged}
+use Rattle.meaning.specs.declared.Judged.the-variants.{Accepted, Refused as RefusedSet}
+use Rattle.meaning.specs.declared.Made.{Made}
+use Rattle.meaning.specs.declared.Made.the-variants.{Done, Refused}
+use Rattle.meaning.specs.declared.Viewed.{Viewed}
+use Rattle.meaning.specs.declared.Viewed.the-variants.{Sheet, Set, Refused as RefusedView}
+use Rattle.meaning.specs.Field.{Field, field}
+use Rattle.meaning.specs.Refusals.{Reply, refused, done}
+use Rattle.meaning.specs.Pieces.{putAll}
+use Rattle.meaning.specs.Lines.{render}
+use Rattle.meaning.specs.Entries.{entryForm}
+use Rattle.meaning.specs.Reading.{judge}
+use Rattle.meaning.specs.Index.{index}
+use Rattle.meaning.specs.Lists.{withSum, list, write}
+use Rattle.meaning.specs.Corrections.{correct}
+use Rattle.meaning.specs.Views.{viewed, view}
+use Rattle.meaning.specs.Answers.{made, bytesLeft}
+
+-- ---- how sets, lists and sheets are written here
+
+-- the bytes of a text
+abbrev pub text : String → List ℕ
+text Prim.Native.String.String.[] = []
+text (Prim.Native.String.String._∷_ c s) = code c ∷ text s
+
+-- a line, or an entry of a list or sheet
+abbrev pub line : ℕ → String → Field
+line l c = field l (text c)
+
+-- the set of a list of lines, 8100 with the right sum put in behind the first
+abbrev pub setOf : List Field → List ℕ
+setOf fs = render (withSum fs) []
+
+-- the bytes of a list or a sheet
+abbrev pub entriesOf : List Field → List ℕ
+entriesOf es = putAll entryForm es []
+
+-- what a lent buffer holds before a call
+abbrev pub before : ℕ
+before = 7
+
+-- ---- what is asked
+
+pub data Question : Type 0 where
+  -- of a set
+  judging : List ℕ → Question
+  -- the header column of the index of a set, for so many entries
+  indexing : List ℕ → ℕ → Question
+  -- a set, for a buffer of so many bytes
+  listing : List ℕ → ℕ → Question
+  -- a list, for a buffer of so many bytes
+  writing : List ℕ → ℕ → Question
+  -- a set at the front of a buffer with so many bytes more, its used length, a line number and a new content
+  correcting : List ℕ → ℕ → ℕ → ℕ → List ℕ → Question
+  -- a set, a sheet and a line number
+  viewing : List ℕ → List ℕ → ℕ → Question
+
+-- ---- what is answered
+
+pub data Answer : Type 0 where
+  accepted : (length lines kind : ℕ) → Answer
+  refusedBy : (number place label : ℕ) → Answer
+  headers : List ℕ → Answer
+  holds : (length : ℕ) → (buffer : List ℕ) → Answer
+  fromSheet : List ℕ → Answer
+  fromSet : List ℕ → Answer
+
+pub onJudged : Judged → Answer
+onJudged (Accepted x) = accepted (x .length) (x .lines) (x .kind)
+onJudged (RefusedSet r) = refusedBy (r .no) (r .place) (r .label)
+
+pub onIndex : Reply (List Entry) → Answer
+onIndex (refused r) = refusedBy (r .no) (r .place) (r .label)
+onIndex (done es) = headers (map (λ (e : Entry). e .header) es)
+
+pub onMade : Made → List ℕ → Answer
+onMade (Done n) b = holds n b
+onMade (Refused r) b = refusedBy (r .no) (r .place) (r .label)
+
+pub onViewed : Viewed → List ℕ → Answer
+onViewed (Sheet q) c = fromSheet c
+onViewed (Set q) c = fromSet c
+onViewed (RefusedView r) c = refusedBy (r .no) (r .place) (r .label)
+
+-- a reply on a lent buffer
+pub onBuffer : Reply (List ℕ) → List ℕ → Answer
+onBuffer r b = onMade (made r) (bytesLeft r b)
+
+unfoldable pub answer : Question → Answer
+unfolding onJudged onIndex onMade onViewed onBuffer
+answer (judging s) = onJudged (judge s)
+answer (indexing s room) = onIndex (index s room)
+answer (listing s room) = onBuffer (list s room) (replicate room before)
+answer (writing l room) = onBuffer (write l room) (replicate room before)
+answer (correcting s more used n c) = onBuffer (correct (s ++ replicate more before) used n c) (s ++ replicate more before)
+answer (viewing s h n) = onViewed (viewed s h n) (view s h n)
+
+-- ---- a table of examples
+
+pub record Example : Type 0 where
+  pub question : Question
+  pub expected : Answer
+
+abbrev pub example : Question → Answer → Example
+example q a = record { question = q; expected = a }
+
+abbrev pub asked : List Example → List Answer
+asked es = map (λ (e : Example). answer (e .question)) es
+
+abbrev pub expected : List Example → List Answer
+expected es = map (λ (e : Example). e .expected) es

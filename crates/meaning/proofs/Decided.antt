@@ -1,0 +1,215 @@
+-- The open points that docs/DECISIONS.md decides, each with inputs that show the decision, and the order of the rules where two apply: one table, one theorem.
+-- Assumes nothing. B1 to B44 are the names in docs/DECISIONS.md; contents alone (B25 to B27) are in FieldExamples.
+use mathlib.Core.Path.{_≡_, refl}
+use mathlib.Core.List.{List, [], _∷_, _++_}
+use Prim.Native.Nat.{ℕ}
+use lib.ListN.{replicate}
+use Rattle.meaning.specs.Field.{Field, field}
+use Rattle.meaning.specs.Computes.{computes}
+use Rattle.meaning.proofs.Asking.{text, line, setOf, entriesOf, Question, judging, indexing, listing, writing, correcting, viewing, Answer, accepted, refusedBy, headers, holds, fromSheet, fromSet, answer, Example, example, asked, expected}
+
+-- ---- sets that the points are shown on
+
+-- the paper's set P as a list, and its bytes
+pLines : List Field
+pLines = line 8000 "6300" ∷ line 9218 "02.10" ∷ line 3000 "0" ∷ []
+
+p : List ℕ
+p = text "01380006300\r\n014810000051\r\n014921802.10\r\n01030000\r\n"
+
+-- a 6310 set of five lines and 65 bytes, and then others
+b : List Field → List ℕ
+b more = setOf (line 8000 "6310" ∷ line 9218 "02.10" ∷ line 3000 "7" ∷ line 8402 "EKG01" ∷ more)
+
+-- ---- "Line and set"
+
+lines : List Example
+unfolding p b pLines
+lines =
+    -- B1: only bytes four to seven of the next line count
+    example (judging (p ++ text "xyz8000")) (accepted 51 4 6300)
+    ∷ example (judging (p ++ text "013800")) (refusedBy 3 51 0)
+    -- B2: 512 lines, then nothing, another set, anything else
+    ∷ example (judging (b (replicate 507 (line 6220 "x")))) (accepted 5135 512 6310)
+    ∷ example (judging (b (replicate 507 (line 6220 "x")) ++ text "xyz8000")) (accepted 5135 512 6310)
+    ∷ example (judging (b (replicate 507 (line 6220 "x")) ++ text "x")) (refusedBy 7 5135 0)
+    -- B3: all lines before 8; the set may end early
+    ∷ example (judging (text "014810000051\r\n0993000")) (refusedBy 3 14 0)
+    ∷ example (judging (text "014810000051\r\n01380006300\r\n")) (refusedBy 8 0 0)
+    -- B4
+    ∷ example (judging (setOf (line 8000 "63000" ∷ []))) (refusedBy 9 0 0)
+    ∷ example (judging (setOf (line 8000 "630" ∷ []))) (refusedBy 9 0 0)
+    ∷ example (judging (setOf (line 8000 "6303" ∷ []))) (refusedBy 9 0 0)
+    -- B5
+    ∷ example (judging (text "01380006300\r\n")) (refusedBy 10 13 0)
+    ∷ example (judging (text "01380006300\r\n01030000\r\n014810000051\r\n")) (refusedBy 10 13 0)
+    -- B6
+    ∷ example (judging (b (line 8100 "00079" ∷ []))) (refusedBy 13 65 8100)
+    -- B7
+    ∷ example (judging (text "01380006300\r\n01381000051\r\n01392182.10\r\n")) (refusedBy 14 13 8100)
+    -- B11
+    ∷ example (judging (setOf (line 8000 "6300" ∷ line 9218 "02.10" ∷ field 3000 (127 ∷ 255 ∷ 32 ∷ []) ∷ []))) (accepted 53 4 6300)
+    ∷ example (judging (setOf (line 8000 "6300" ∷ line 9218 "02.10" ∷ field 3000 (32 ∷ 31 ∷ []) ∷ []))) (refusedBy 6 49 0) ∷ []
+
+-- ---- "Groups"
+
+groups : List Example
+unfolding b
+groups =
+    -- B12
+    example (judging (b (line 8410 "A" ∷ line 8461 "1" ∷ []))) (refusedBy 16 65 8421)
+    ∷ example (judging (b (line 8410 "A" ∷ line 8461 "1" ∷ line 8421 "l" ∷ []))) (accepted 95 8 6310)
+    -- B13
+    ∷ example (judging (b (line 8410 "A" ∷ line 8438 " " ∷ []))) (refusedBy 16 65 8437)
+    -- B14
+    ∷ example (judging (b (line 8411 "A" ∷ []))) (refusedBy 12 65 8411)
+    -- B15
+    ∷ example (judging (b (line 8410 "A" ∷ line 8470 "x" ∷ line 8470 "y" ∷ []))) (accepted 95 8 6310)
+    -- B16
+    ∷ example (judging (b (line 8410 "A" ∷ line 8990 "x" ∷ line 8420 "1" ∷ []))) (refusedBy 12 85 8420)
+    -- B17
+    ∷ example (judging (b (line 8410 "A" ∷ line 8412 "x" ∷ []))) (refusedBy 11 75 8412)
+    -- B18
+    ∷ example (judging (b (line 8410 "A" ∷ line 6330 "x" ∷ line 6331 "y" ∷ line 8420 "1" ∷ []))) (refusedBy 12 95 8420)
+    -- B19
+    ∷ example (judging (b (line 6330 "x" ∷ []))) (refusedBy 16 65 6331)
+    ∷ example (judging (b (line 6330 "x" ∷ line 6332 "x" ∷ line 6331 "y" ∷ []))) (refusedBy 12 85 6331)
+    ∷ example (judging (b (line 6330 "x" ∷ line 6333 "y" ∷ []))) (refusedBy 12 75 6333)
+    ∷ example (judging (b (line 6330 "x" ∷ line 6331 "y" ∷ line 6331 "y" ∷ []))) (refusedBy 12 85 6331)
+    -- B20: a pair before a group, a group before a pair
+    ∷ example (judging (b (line 6344 "x" ∷ line 8410 "A" ∷ line 8420 "1" ∷ []))) (refusedBy 16 65 6345)
+    ∷ example (judging (b (line 8410 "A" ∷ line 8420 "1" ∷ line 6344 "x" ∷ []))) (refusedBy 16 65 8421)
+    -- set level comes before groups; the lowest label comes first
+    ∷ example (judging (setOf (line 8000 "6310" ∷ line 9218 "02.10" ∷ line 3000 "7" ∷ line 6302 "x" ∷ []))) (refusedBy 16 0 8402)
+    ∷ example (judging (setOf (line 8000 "6310" ∷ []))) (refusedBy 16 0 3000)
+    ∷ example (judging (setOf (line 8000 "6310" ∷ line 3000 "7" ∷ []))) (refusedBy 16 0 8402)
+    ∷ example (judging (b (line 6302 "x" ∷ []))) (refusedBy 16 65 6303)
+    -- B21
+    ∷ example (judging (b (line 6330 "x" ∷ line 6331 "y" ∷ line 6330 "x" ∷ line 6331 "y" ∷ []))) (accepted 105 9 6310)
+    ∷ example (judging (setOf (line 8000 "6301" ∷ line 6330 "x" ∷ []))) (refusedBy 11 27 6330)
+    -- B22
+    ∷ example (judging (b (line 6226 "7" ∷ line 6228 "x" ∷ []))) (accepted 85 7 6310)
+    -- B23
+    ∷ example (judging (b (line 6302 "x" ∷ line 6303 "A" ∷ line 6304 "1" ∷ line 6305 "1" ∷ line 6305 "1" ∷ []))) (refusedBy 13 105 6305)
+    ∷ example (judging (b (line 6302 "x" ∷ line 6303 "A" ∷ line 6305 "1" ∷ line 6330 "n" ∷ line 6331 "c" ∷ []))) (refusedBy 16 65 6304)
+    -- B24: two tests with the same name stay two; a name is the header of its pair
+    ∷ example (indexing (b (line 8410 "A" ∷ line 8411 "x" ∷ line 8410 "A" ∷ line 8411 "x" ∷ line 6330 "n" ∷ line 6331 "c" ∷ line 6220 "z" ∷ [])) 12)
+    (headers (0 ∷ 0 ∷ 0 ∷ 0 ∷ 0 ∷ 0 ∷ 6 ∷ 0 ∷ 8 ∷ 0 ∷ 10 ∷ 0 ∷ []))
+    -- B33, B35: the need of the index is the lines of the first set
+    ∷ example (indexing (b [] ++ b []) 4) (refusedBy 22 5 0) ∷ []
+
+-- ---- where two rules apply, the first in the paper's order answers
+
+orders : List Example
+unfolding p b
+orders =
+    -- 2 before 3, 3 before 4, 4 before 5, 5 before 6, 6 before 8
+    example (judging (text "0a980006300")) (refusedBy 2 0 0)
+    ∷ example (judging (text "0138000")) (refusedBy 3 0 0)
+    ∷ example (judging (text "0138x006300\r ")) (refusedBy 4 0 0)
+    ∷ example (judging (text "0138x0063\t0\r\n")) (refusedBy 5 0 0)
+    ∷ example (judging (text "01390006\t00\r\n")) (refusedBy 6 8 0)
+    -- an earlier line's 14 before a later one's 11; 11, 12 and 13 before 14
+    ∷ example (judging (b (line 8418 "xy" ∷ []))) (refusedBy 12 65 8418)
+    ∷ example (judging (b (line 3000 "01234567890" ∷ []))) (refusedBy 13 65 3000)
+    ∷ example (judging (b (line 8412 "0123456789012345678901234567890123456789012345678901234567890" ∷ []))) (refusedBy 11 65 8412)
+    ∷ example (judging (b (line 6200 "00011999" ∷ line 8412 "x" ∷ []))) (refusedBy 14 65 6200)
+    -- 14 before 15, 15 before 16, 16 before 17
+    ∷ example (judging (setOf (line 8000 "6300" ∷ line 9218 "2.10" ∷ []))) (refusedBy 14 27 9218)
+    ∷ example (judging (setOf (line 8000 "6300" ∷ line 9218 "02.00" ∷ []))) (refusedBy 15 27 9218)
+    ∷ example (judging (text "01380006300\r\n014810000040\r\n014921802.10\r\n")) (refusedBy 16 0 3000) ∷ []
+
+-- ---- list and writer
+
+lists : List Example
+unfolding p pLines b
+lists =
+    -- a set's list, and the set of that list, with zeros behind
+    example (listing p 26) (holds 22 (entriesOf pLines ++ replicate 4 0))
+    ∷ example (writing (entriesOf pLines) 53) (holds 51 (p ++ replicate 2 0))
+    -- B33: the needs
+    ∷ example (listing p 21) (refusedBy 22 22 0)
+    ∷ example (writing (entriesOf pLines) 50) (refusedBy 22 51 0)
+    -- 1 before all; B28: entry by entry
+    ∷ example (writing [] 0) (refusedBy 1 0 0)
+    ∷ example (writing (entriesOf (line 8000 "6300" ∷ replicate 511 (line 3000 "0"))) 0) (refusedBy 7 2558 0)
+    ∷ example (writing (entriesOf (line 8000 "6300" ∷ line 3000 "\t" ∷ replicate 511 (line 3000 "0"))) 0) (refusedBy 6 12 0)
+    ∷ example (writing (entriesOf (line 8000 "6300" ∷ replicate 510 (line 3000 "0")) ++ (1 ∷ [])) 0) (refusedBy 7 2558 0)
+    -- B29
+    ∷ example (writing (entriesOf (line 8000 "" ∷ [])) 0) (refusedBy 9 0 0)
+    ∷ example (writing (entriesOf (line 8000 "6300" ∷ line 3000 "" ∷ [])) 0) (refusedBy 14 8 3000)
+    ∷ example (writing (entriesOf (line 8000 "6300" ∷ field 3000 (replicate 991 65) ∷ [])) 0) (refusedBy 14 8 3000)
+    -- B30
+    ∷ example (writing (entriesOf (line 8100 "00051" ∷ pLines)) 0) (refusedBy 8 0 0)
+    ∷ example (writing (entriesOf (line 8000 "6300" ∷ line 8100 "00051" ∷ [])) 0) (refusedBy 13 8 8100)
+    ∷ example (writing (entriesOf (line 8000 "6300" ∷ line 9218 "02.10" ∷ line 8000 "6300" ∷ [])) 0) (refusedBy 13 17 8000)
+    -- B31, and entries that are cut
+    ∷ example (writing (entriesOf (line 8000 "6300" ∷ line 0 "x" ∷ [])) 0) (refusedBy 11 8 0)
+    ∷ example (writing (entriesOf (line 8000 "6300" ∷ line 10000 "x" ∷ [])) 0) (refusedBy 21 8 0)
+    ∷ example (writing (entriesOf (line 8000 "6300" ∷ []) ++ (1 ∷ 0 ∷ 184 ∷ [])) 0) (refusedBy 21 8 0)
+    ∷ example (writing (entriesOf (line 8000 "6300" ∷ []) ++ (1 ∷ 0 ∷ 184 ∷ 11 ∷ [])) 0) (refusedBy 21 8 0)
+    -- B32
+    ∷ example (writing (entriesOf (line 8000 "6300" ∷ line 9218 "02.10" ∷ [])) 0) (refusedBy 16 0 3000)
+    ∷ example (writing (entriesOf (line 8000 "6310" ∷ line 9218 "02.10" ∷ line 3000 "7" ∷ line 8402 "EKG01" ∷ line 8410 "A" ∷ line 8420 "1" ∷ [])) 0) (refusedBy 16 31 8421)
+    -- B35
+    ∷ example (listing (p ++ p) 22) (holds 22 (entriesOf pLines)) ∷ []
+
+-- ---- corrections
+
+corrections : List Example
+unfolding p
+corrections =
+    -- B36
+    example (correcting p 9 51 4 []) (refusedBy 14 41 3000)
+    ∷ example (correcting p 9 51 4 (text "01234567890")) (refusedBy 14 41 3000)
+    ∷ example (correcting p 9 51 4 (text "01234567890\t")) (refusedBy 6 11 0)
+    -- B37
+    ∷ example (correcting p 9 0 4 (text "1")) (refusedBy 1 0 0)
+    ∷ example (correcting [] 9 10 4 (text "1")) (refusedBy 18 9 0)
+    -- B38
+    ∷ example (correcting (p ++ p) 0 102 4 (text "1")) (refusedBy 18 51 0)
+    -- 19 before 20, and the fixed lines
+    ∷ example (correcting p 9 51 0 (text "1")) (refusedBy 19 51 0)
+    ∷ example (correcting p 9 51 5 (text "1")) (refusedBy 19 51 0)
+    ∷ example (correcting p 9 51 1 (text "\t")) (refusedBy 20 0 8000)
+    ∷ example (correcting p 9 51 3 (text "02.10")) (refusedBy 20 27 9218)
+    -- B44: the same content again, a buffer that is just large enough, a shorter content
+    ∷ example (correcting p 2 51 4 (text "0")) (holds 51 (p ++ replicate 2 0))
+    ∷ example (correcting p 1 51 4 (text "12")) (holds 52 (text "01380006300\r\n014810000052\r\n014921802.10\r\n011300012\r\n"))
+    ∷ example (correcting (text "01380006300\r\n014810000052\r\n014921802.10\r\n011300012\r\n") 1 52 4 (text "0")) (holds 51 (p ++ replicate 2 0)) ∷ []
+
+-- ---- views
+
+views : List Example
+unfolding p
+views =
+    -- the set's content, the last pending one; B43: any line
+    example (viewing p [] 4) (fromSet (text "0"))
+    ∷ example (viewing p [] 2) (fromSet (text "00051"))
+    ∷ example (viewing p (entriesOf (line 4 "1" ∷ line 4 "22" ∷ [])) 4) (fromSheet (text "22"))
+    ∷ example (viewing p (entriesOf (line 4 "1" ∷ [])) 1) (fromSet (text "6300"))
+    -- the set's own refusals, 18, the asked line
+    ∷ example (viewing [] (1 ∷ []) 4) (refusedBy 1 0 0)
+    ∷ example (viewing (p ++ p) (1 ∷ []) 9) (refusedBy 18 51 0)
+    ∷ example (viewing p (1 ∷ []) 5) (refusedBy 19 51 0)
+    ∷ example (viewing p (1 ∷ []) 0) (refusedBy 19 51 0)
+    -- each entry by 21, 19, 20, 6, 14; B39, B41
+    ∷ example (viewing p (entriesOf (line 4 "1" ∷ []) ++ (1 ∷ 0 ∷ 4 ∷ [])) 4) (refusedBy 21 5 0)
+    ∷ example (viewing p (entriesOf (line 4 "1" ∷ []) ++ (1 ∷ 0 ∷ 4 ∷ 0 ∷ [])) 4) (refusedBy 21 5 0)
+    ∷ example (viewing p (entriesOf (line 4 "1" ∷ line 5 "1" ∷ [])) 4) (refusedBy 19 5 0)
+    ∷ example (viewing p (entriesOf (line 4 "1" ∷ line 0 "1" ∷ [])) 4) (refusedBy 19 5 0)
+    ∷ example (viewing p (entriesOf (line 4 "1" ∷ line 10000 "1" ∷ [])) 4) (refusedBy 19 5 0)
+    ∷ example (viewing p (entriesOf (line 4 "1" ∷ line 2 "\t" ∷ [])) 4) (refusedBy 20 5 8100)
+    ∷ example (viewing p (entriesOf (line 4 "1" ∷ line 4 "01234567890\t" ∷ [])) 4) (refusedBy 6 20 0)
+    ∷ example (viewing p (entriesOf (line 4 "1" ∷ line 4 "01234567890" ∷ [])) 4) (refusedBy 14 5 3000)
+    -- B40
+    ∷ example (viewing p (entriesOf (line 4 "" ∷ line 4 "1" ∷ [])) 4) (refusedBy 14 0 3000) ∷ []
+
+-- ---- all of them
+
+decided : List Example
+decided = lines ++ (groups ++ (orders ++ (lists ++ (corrections ++ views))))
+
+all-decided : asked decided ≡ expected decided
+unfolding computes answer decided lines groups orders lists corrections views p pLines b
+all-decided = refl
