@@ -1,28 +1,24 @@
 -- What the tables of examples ask of the definitions, and how an answer is written: the replies and the lent bytes of all six parts.
 -- Assumes nothing.
+use mathlib.Core.Bool.{cond}
 use mathlib.Core.List.{List, [], _∷_, _++_, map}
 use Prim.Native.Nat.{ℕ}
 use Prim.Native.Char.{code}
 use Prim.Native.String.{String}
-use lib.ListN.{length, replicate}
+use lib.Dec.{eqb}
+use lib.ListN.{take, replicate}
+use Rattle.meaning.specs.declared.Refusal.{Refusal}
 use Rattle.meaning.specs.declared.Entry.{Entry}
 use Rattle.meaning.specs.declared.Judged.{Judged}
-use Rattle.meaning.specs.declared.Judged.the-variants.{Accepted, Refused as RefusedSet}
-use Rattle.meaning.specs.declared.Made.{Made}
-use Rattle.meaning.specs.declared.Made.the-variants.{Done, Refused}
 use Rattle.meaning.specs.declared.Viewed.{Viewed}
-use Rattle.meaning.specs.declared.Viewed.the-variants.{Sheet, Set, Refused as RefusedView}
 use Rattle.meaning.specs.Field.{Field, field}
-use Rattle.meaning.specs.Refusals.{Reply, refused, done}
 use Rattle.meaning.specs.Pieces.{putAll}
 use Rattle.meaning.specs.Lines.{render}
 use Rattle.meaning.specs.Entries.{entryForm}
 use Rattle.meaning.specs.Reading.{judge}
-use Rattle.meaning.specs.Index.{index}
-use Rattle.meaning.specs.Lists.{withSum, list, write}
-use Rattle.meaning.specs.Corrections.{correct}
+use Rattle.meaning.specs.Lists.{withSum}
 use Rattle.meaning.specs.Views.{viewed, view}
-use Rattle.meaning.specs.Answers.{made, bytesLeft}
+use Rattle.meaning.specs.Answers.{Call, indexCall, listCall, writeCall, correctCall, judgedRefusal, judgedShape, madeRefusal, madeCount, viewedRefusal, viewedFlag}
 
 -- ---- how sets, lists and sheets are written here
 
@@ -70,37 +66,31 @@ pub data Answer : Type 0 where
   refusedBy : (number place label : ℕ) → Answer
   headers : List ℕ → Answer
   holds : (length : ℕ) → (buffer : List ℕ) → Answer
-  fromSheet : List ℕ → Answer
-  fromSet : List ℕ → Answer
+  shows : (flag : ℕ) → (content : List ℕ) → Answer
+
+-- the refusal's numbers, or what else is answered where they are 0
+pub told : Refusal → Answer → Answer
+told r a = cond (eqb (r .no) 0) a (refusedBy (r .no) (r .place) (r .label))
 
 pub onJudged : Judged → Answer
-onJudged (Accepted x) = accepted (x .length) (x .lines) (x .kind)
-onJudged (RefusedSet r) = refusedBy (r .no) (r .place) (r .label)
+onJudged j = told (judgedRefusal j) (accepted (judgedShape j .length) (judgedShape j .lines) (judgedShape j .kind))
 
-pub onIndex : Reply (List Entry) → Answer
-onIndex (refused r) = refusedBy (r .no) (r .place) (r .label)
-onIndex (done es) = headers (map (λ (e : Entry). e .header) es)
+pub onIndex : Call Entry → Answer
+onIndex c = told (madeRefusal (c .answer)) (headers (map (λ (e : Entry). e .header) (take (madeCount (c .answer)) (c .buffer))))
 
-pub onMade : Made → List ℕ → Answer
-onMade (Done n) b = holds n b
-onMade (Refused r) b = refusedBy (r .no) (r .place) (r .label)
+pub onBuffer : Call ℕ → Answer
+onBuffer c = told (madeRefusal (c .answer)) (holds (madeCount (c .answer)) (c .buffer))
 
 pub onViewed : Viewed → List ℕ → Answer
-onViewed (Sheet q) c = fromSheet c
-onViewed (Set q) c = fromSet c
-onViewed (RefusedView r) c = refusedBy (r .no) (r .place) (r .label)
-
--- a reply on a lent buffer
-pub onBuffer : Reply (List ℕ) → List ℕ → Answer
-onBuffer r b = onMade (made r) (bytesLeft r b)
+onViewed v c = told (viewedRefusal v) (shows (viewedFlag v) c)
 
 unfoldable pub answer : Question → Answer
-unfolding onJudged onIndex onMade onViewed onBuffer
+unfolding told onJudged onIndex onBuffer onViewed
 answer (judging s) = onJudged (judge s)
-answer (indexing s room) = onIndex (index s room)
-answer (listing s room) = onBuffer (list s room) (replicate room before)
-answer (writing l room) = onBuffer (write l room) (replicate room before)
-answer (correcting s more used n c) = onBuffer (correct (s ++ replicate more before) used n c) (s ++ replicate more before)
+answer (indexing s room) = onIndex (indexCall s (replicate room (record { label = before; place = before; length = before; header = before })))
+answer (listing s room) = onBuffer (listCall s (replicate room before))
+answer (writing l room) = onBuffer (writeCall l (replicate room before))
+answer (correcting s more used n c) = onBuffer (correctCall (s ++ replicate more before) used n c)
 answer (viewing s h n) = onViewed (viewed s h n) (view s h n)
 
 -- ---- a table of examples

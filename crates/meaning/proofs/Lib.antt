@@ -17,3 +17,4 @@ pub mod Examples
 pub mod Demands
 pub mod NumberLaws
 pub mod Decided
+pub mod TableLaws

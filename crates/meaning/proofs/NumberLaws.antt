@@ -8,17 +8,17 @@ use lib.Dec.{leb, eqb}
 use lib.ListN.{length, take, drop}
 use Rattle.meaning.specs.declared.Refusal.{Refusal}
 use Rattle.meaning.specs.declared.Row.{Row}
-use Rattle.meaning.specs.Limits.{maxLines, maxSetBytes}
+use Rattle.meaning.specs.Limits.{maxLines, maxEntries, maxSetBytes}
 use Rattle.meaning.specs.Digits.{number}
 use Rattle.meaning.specs.Field.{Field, field, elem, isNil, labels, labelAtLine, contentAtLine}
 use Rattle.meaning.specs.Refusals.{Spot, Fault, atLine, atByte, ask, Reply, refused, done, thenTo, verdict, withRoom, empty, badLength, cutLine, badEnd, badLabel, badByte, tooManyLines, noStart, unknownSet, noSum, notInSet, stray, repeated, badContent, otherVersion, missing, badSum, badUse, noSuchLine, fixedLine, badList, noRoom}
 use Rattle.meaning.specs.Pieces.{Form, Parsed, parsed, andBefore, pieceThen, pieces, putAll}
 use Rattle.meaning.specs.Lines.{leastByte, lowBytes, contentAt, lineFaults, lineForm, lengthOk, wholeOk, endOk, labelOk, size, render}
 use Rattle.meaning.specs.Entries.{entryOk, entryWhole, entryLabel, entryContent, entryField, entryWidth, entryFaults, entryForm, listSize}
-use Rattle.meaning.specs.Groups.{State, first, Role, unknown, strayed, plain, member, role, next, after, placeFaults, noHeader}
+use Rattle.meaning.specs.Groups.{State, first, Role, unknown, strayed, atSetLevel, member, role, next, after, labelFaults, noHeader}
 use Rattle.meaning.specs.Tables.{setLevel, find}
-use Rattle.meaning.specs.Missing.{lacks, missingLabel, lacking, ascending, among, groupLacks, stays, groupsLack, missingFaults}
-use Rattle.meaning.specs.Rules.{Profile, profile, rowsOf, roleIn, labelIs, typeKnown, startFaults, fits, current, contentFaults, judgedContent, lineRules, rulesFrom, sumFaults, ruleFaults, setFaults}
+use Rattle.meaning.specs.Missing.{needed, rowsUnder, ascending, missingLabel, lackingOf, lacking, among, openLacking, stays, groupsLacking, missingFaults}
+use Rattle.meaning.specs.Rules.{Profile, profile, rowsOf, roleIn, labelIs, typeKnown, startFaults, fits, current, contentFaults, contentRules, lineRules, rulesFrom, sumFaults, ruleFaults, setFaults}
 use Rattle.meaning.specs.Reading.{scan, inSet, byRules, read}
 use Rattle.meaning.specs.Index.{indexOf, index}
 use Rattle.meaning.specs.Lists.{withoutSum, withSum, list, inList, setWithRoom, written, write}
@@ -142,12 +142,12 @@ module _ (P : ℕ → Type 0) where
       given-rule (labelIs (withSum (f ∷ fs)) 0 8000) (atLine noStart 0 0) _ (p .n8)
       (given-rule (typeKnown (withSum (f ∷ fs))) (atLine unknownSet 0 0) [] (p .n9) tt)
 
-  given-place : RuleNumbers → (o : Role) (st : State) (k l : ℕ) → Given (placeFaults o st k l)
-  unfolding placeFaults
-  given-place p unknown st k l = (p .n11, tt)
-  given-place p strayed st k l = (p .n12, tt)
-  given-place p (plain r) st k l = given-ask (r .many || not (elem (r .label) (st .top))) (atLine repeated k l) (p .n13)
-  given-place p (member r) st k l = given-ask (r .many || not (elem (r .label) (st .members))) (atLine repeated k l) (p .n13)
+  given-label : RuleNumbers → (o : Role) (st : State) (k l : ℕ) → Given (labelFaults o st k l)
+  unfolding labelFaults
+  given-label p unknown st k l = (p .n11, tt)
+  given-label p strayed st k l = (p .n12, tt)
+  given-label p (atSetLevel r) st k l = given-ask (r .many || not (elem (r .label) (st .top))) (atLine repeated k l) (p .n13)
+  given-label p (member r) st k l = given-ask (r .many || not (elem (r .label) (st .members))) (atLine repeated k l) (p .n13)
 
   given-content : RuleNumbers → (q : Profile) (k : ℕ) (f : Field) → Given (contentFaults q k f)
   unfolding contentFaults
@@ -155,38 +155,42 @@ module _ (P : ℕ → Type 0) where
       given-cond (fits q f) (ask (current q f) (atLine otherVersion k (f .label))) (atLine badContent k (f .label) ∷ [])
       (given-ask (current q f) (atLine otherVersion k (f .label)) (p .n15)) (p .n14, tt)
 
-  given-judged : RuleNumbers → (o : Role) (q : Profile) (k : ℕ) (f : Field) → Given (judgedContent o q k f)
-  unfolding judgedContent
-  given-judged p unknown q k f = tt
-  given-judged p strayed q k f = given-content p q k f
-  given-judged p (plain r) q k f = given-content p q k f
-  given-judged p (member r) q k f = given-content p q k f
+  given-content-rules : RuleNumbers → (o : Role) (q : Profile) (k : ℕ) (f : Field) → Given (contentRules o q k f)
+  unfolding contentRules
+  given-content-rules p unknown q k f = tt
+  given-content-rules p strayed q k f = given-content p q k f
+  given-content-rules p (atSetLevel r) q k f = given-content p q k f
+  given-content-rules p (member r) q k f = given-content p q k f
 
   given-rules : RuleNumbers → (q : Profile) (st : State) (k : ℕ) (fs : List Field) → Given (rulesFrom q st k fs)
   unfolding rulesFrom lineRules
   given-rules p q st k [] = tt
   given-rules p q st k (f ∷ fs) =
       given-append (lineRules (roleIn q st f) q st k f) _
-      (given-append (placeFaults (roleIn q st f) st k (f .label)) _ (given-place p (roleIn q st f) st k (f .label)) (given-judged p (roleIn q st f) q k f))
+      (given-append (labelFaults (roleIn q st f) st k (f .label)) _ (given-label p (roleIn q st f) st k (f .label)) (given-content-rules p (roleIn q st f) q k f))
       (given-rules p q (next (roleIn q st f) st k (f .label)) (k + 1) fs)
+
+  given-lacking-of : P missing → (rs : List Row) (h k : ℕ) (has : ℕ → Bool) → Given (lackingOf rs h k has)
+  unfolding lackingOf
+  given-lacking-of n16 [] h k has = tt
+  given-lacking-of n16 (r ∷ rs) h k has =
+      given-rule (not (needed r has && not (has (r .label)))) (atLine missing k (missingLabel h (r .label))) (lackingOf rs h k has) n16 (given-lacking-of n16 rs h k has)
 
   given-lacking : P missing → (rs : List Row) (h k : ℕ) (has : ℕ → Bool) → Given (lacking rs h k has)
   unfolding lacking
-  given-lacking n16 [] h k has = tt
-  given-lacking n16 (r ∷ rs) h k has =
-      given-rule (not (lacks r h has)) (atLine missing k (missingLabel h (r .label))) (lacking rs h k has) n16 (given-lacking n16 rs h k has)
+  given-lacking n16 rs h k has = given-lacking-of n16 (ascending (rowsUnder rs h)) h k has
 
-  given-group : P missing → (rs : List Row) (st : State) → Given (groupLacks rs st)
-  unfolding groupLacks
+  given-group : P missing → (rs : List Row) (st : State) → Given (openLacking rs st)
+  unfolding openLacking
   given-group n16 rs st =
       given-cond (eqb (st .header) noHeader) [] (lacking rs (st .header) (st .line) (among (st .members))) tt (given-lacking n16 rs (st .header) (st .line) (among (st .members)))
 
-  given-groups : P missing → (rs : List Row) (st : State) (k : ℕ) (ls : List ℕ) → Given (groupsLack rs st k ls)
-  unfolding groupsLack
+  given-groups : P missing → (rs : List Row) (st : State) (k : ℕ) (ls : List ℕ) → Given (groupsLacking rs st k ls)
+  unfolding groupsLacking
   given-groups n16 rs st k [] = given-group n16 rs st
   given-groups n16 rs st k (l ∷ ls) =
-      given-append (cond (stays (role (find rs l) (st .header) l)) [] (groupLacks rs st)) _
-      (given-cond (stays (role (find rs l) (st .header) l)) [] (groupLacks rs st) tt (given-group n16 rs st))
+      given-append (cond (stays (role (find rs l) (st .header) l)) [] (openLacking rs st)) _
+      (given-cond (stays (role (find rs l) (st .header) l)) [] (openLacking rs st) tt (given-group n16 rs st))
       (given-groups n16 rs (next (role (find rs l) (st .header) l) st k l) (k + 1) ls)
 
   given-missing : P missing → (rs : List Row) (ls : List ℕ) → Given (missingFaults rs ls)
@@ -227,7 +231,7 @@ module _ (P : ℕ → Type 0) where
           numbered-verdict (inSet fs) (setFaults fs) d
           (given-append (ruleFaults fs) (sumFaults fs)
           (given-append (startFaults fs) _ (given-start q n10 fs)
-          (given-append (rulesFrom (profile fs) first 0 fs) _ (given-rules q (profile fs) first 0 fs) (given-missing (q .n16) (ascending (rowsOf (profile fs))) (labels fs))))
+          (given-append (rulesFrom (profile fs) first 0 fs) _ (given-rules q (profile fs) first 0 fs) (given-missing (q .n16) (rowsOf (profile fs)) (labels fs))))
           (given-ask (eqb (number (contentAtLine fs 1)) (size fs)) (atLine badSum 1 0) n17))
 
   numbered-index : ((s : List ℕ) → Numbered (read s)) → P noRoom → (s : List ℕ) (room : ℕ) → Numbered (index s room)
@@ -270,7 +274,7 @@ module _ (P : ℕ → Type 0) where
       numbered-then (verdict (inList (f ∷ fs)) (ruleFaults all) all) (λ gs. setWithRoom gs room)
       (numbered-verdict (inList (f ∷ fs)) (ruleFaults all) all
       (given-append (startFaults all) _ (given-start-with p f fs)
-      (given-append (rulesFrom (profile all) first 0 all) _ (given-rules p (profile all) first 0 all) (given-missing (p .n16) (ascending (rowsOf (profile all))) (labels all)))))
+      (given-append (rulesFrom (profile all) first 0 all) _ (given-rules p (profile all) first 0 all) (given-missing (p .n16) (rowsOf (profile all)) (labels all)))))
       (λ gs. numbered-set n22 gs room)
 
   -- a list of some bytes has a first entry
@@ -292,7 +296,7 @@ module _ (P : ℕ → Type 0) where
   numbered-write : P empty → P badList → P badByte → P tooManyLines → RuleNumbers → P noRoom → (l : List ℕ) (room : ℕ) → Numbered (write l room)
   unfolding write
   numbered-write n1 n21 n6 n7 p n22 [] room = n1
-  numbered-write n1 n21 n6 n7 p n22 (a ∷ l) room = numbered-entries n21 n6 n7 p n22 room 510 a l
+  numbered-write n1 n21 n6 n7 p n22 (a ∷ l) room = numbered-entries n21 n6 n7 p n22 room (maxEntries - 1) a l
 
 -- ---- which numbers
 

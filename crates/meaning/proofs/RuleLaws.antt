@@ -9,9 +9,9 @@ use lib.Seq.{map-set-same, getD-set-other}
 use borrow.Author.Tests.{ne-eqb, eqb-true}
 use Rattle.meaning.specs.Field.{Field, labels, noField, labelAtLine, contentAtLine}
 use Rattle.meaning.specs.Refusals.{Fault, atLine, unknownSet, noSum}
-use Rattle.meaning.specs.Groups.{State, first, Role, unknown, strayed, plain, member, next, placeFaults}
-use Rattle.meaning.specs.Missing.{ascending, missingFaults}
-use Rattle.meaning.specs.Rules.{labelIs, typeKnown, Profile, profile, rowsOf, roleIn, startFaults, fits, current, contentFaults, judgedContent, lineRules, rulesFrom, sumFaults, ruleFaults, setFaults}
+use Rattle.meaning.specs.Groups.{State, first, Role, unknown, strayed, atSetLevel, member, next, labelFaults}
+use Rattle.meaning.specs.Missing.{missingFaults}
+use Rattle.meaning.specs.Rules.{labelIs, typeKnown, Profile, profile, rowsOf, roleIn, startFaults, fits, current, contentFaults, contentRules, lineRules, rulesFrom, sumFaults, ruleFaults, setFaults}
 use Rattle.meaning.proofs.FaultLaws.{append-none, none-both, ask-none, ask-last, cond-none}
 
 -- ---- one line
@@ -29,26 +29,26 @@ fit-none : (p : Profile) (k : ℕ) (g : Field) → Fit p g → contentFaults p k
 unfolding contentFaults
 fit-none p k g h = rw (h .right, h .version-right)
 
-judged-none : (o : Role) (p : Profile) (k : ℕ) (g : Field) → Fit p g → judgedContent o p k g ≡ []
-unfolding judgedContent
-judged-none unknown p k g h = refl
-judged-none strayed p k g h = fit-none p k g h
-judged-none (plain r) p k g h = fit-none p k g h
-judged-none (member r) p k g h = fit-none p k g h
+content-rules-none : (o : Role) (p : Profile) (k : ℕ) (g : Field) → Fit p g → contentRules o p k g ≡ []
+unfolding contentRules
+content-rules-none unknown p k g h = refl
+content-rules-none strayed p k g h = fit-none p k g h
+content-rules-none (atSetLevel r) p k g h = fit-none p k g h
+content-rules-none (member r) p k g h = fit-none p k g h
 
 line-keep : (o : Role) (p : Profile) (st : State) (k : ℕ) (f g : Field) → g .label ≡ f .label → Fit p g
     → lineRules o p st k f ≡ [] → lineRules o p st k g ≡ []
 unfolding lineRules
 line-keep o p st k f g e h q =
-    none-both (placeFaults o st k (g .label)) _ (rw e (append-none (placeFaults o st k (f .label)) _ q .0)) (judged-none o p k g h)
+    none-both (labelFaults o st k (g .label)) _ (rw e (append-none (labelFaults o st k (f .label)) _ q .0)) (content-rules-none o p k g h)
 
 -- a line without faults is in the table, in its place, and its content fits
 pub line-fits : (o : Role) (p : Profile) (st : State) (k : ℕ) (g : Field) → lineRules o p st k g ≡ [] → fits p g ≡ true
-unfolding lineRules placeFaults judgedContent contentFaults
+unfolding lineRules labelFaults contentRules contentFaults
 line-fits unknown p st k g e = absurd (cons≢nil e)
 line-fits strayed p st k g e = absurd (cons≢nil e)
-line-fits (plain r) p st k g e = cond-none (fits p g) _ _ (append-none (placeFaults (plain r) st k (g .label)) (contentFaults p k g) e .1)
-line-fits (member r) p st k g e = cond-none (fits p g) _ _ (append-none (placeFaults (member r) st k (g .label)) (contentFaults p k g) e .1)
+line-fits (atSetLevel r) p st k g e = cond-none (fits p g) _ _ (append-none (labelFaults (atSetLevel r) st k (g .label)) (contentFaults p k g) e .1)
+line-fits (member r) p st k g e = cond-none (fits p g) _ _ (append-none (labelFaults (member r) st k (g .label)) (contentFaults p k g) e .1)
 
 -- ---- all lines
 
@@ -86,7 +86,7 @@ start-keep fs i g e n = rw (labels-keep fs i g e, profile-keep fs i g n)
 pub record Ruled (fs : List Field) : Type 0 where
   pub begins : startFaults fs ≡ []
   pub each-line : rulesFrom (profile fs) first 0 fs ≡ []
-  pub none-missing : missingFaults (ascending (rowsOf (profile fs))) (labels fs) ≡ []
+  pub none-missing : missingFaults (rowsOf (profile fs)) (labels fs) ≡ []
 
 pub ruled-of : (fs : List Field) → ruleFaults fs ≡ [] → Ruled fs
 unfolding ruleFaults

@@ -3,6 +3,7 @@
 use mathlib.Core.Path.{_≡_, refl, sym, ap, ap₂, _∙_, subst}
 use mathlib.Core.Bool.{Bool, true, false, cond}
 use mathlib.Core.List.{List, [], _∷_, _++_}
+use mathlib.Core.Option.{Option, none, some}
 use Prim.Native.Nat.{ℕ, zero, suc, pred, _+_, _≤_, _<_}
 use native.Mathlib.Omega.{arith}
 use lib.Dec.{leb, eqb}
@@ -20,7 +21,7 @@ use Rattle.meaning.specs.Entries.{entryWhole, entryLabel, entryContent, 
 use Rattle.meaning.specs.Rules.{profile}
 use Rattle.meaning.specs.Reading.{read}
 use Rattle.meaning.specs.Corrections.{changeFaults, recontent, resum, changed, correct}
-use Rattle.meaning.specs.Views.{sheetEntryFaults, sheetForm, sheet, part, latest, standing, viewing, viewed, partOf, seen, view}
+use Rattle.meaning.specs.Views.{sheetEntryFaults, sheetForm, sheet, Pending, latest, part, shownPart, viewing, viewed, partOf, shownBytes, view}
 use Rattle.meaning.proofs.Bools.{nil-is, Every}
 use Rattle.meaning.proofs.FaultLaws.{ask-none}
 use Rattle.meaning.proofs.PieceLaws.{Lawful, pieces-put, pieces-only}
@@ -33,14 +34,14 @@ use Rattle.meaning.proofs.CorrectionLaws.{Change, change, no-change-fau
 -- ---- the form of a sheet's entries
 
 -- an entry that can stand in a sheet for the lines fs
-pub record Pending (fs : List Field) (e : Field) : Type 0 where
+pub record Allowed (fs : List Field) (e : Field) : Type 0 where
   pub asked : Change fs (e .label) (e .content)
   pub label-fits : e .label < 65536
   pub not-long : length (e .content) < 65536
 
-faults-pending : (fs : List Field) (e : Field) (t : List ℕ) → Pending fs e → sheetEntryFaults fs (entryThen e t) ≡ []
+faults-allowed : (fs : List Field) (e : Field) (t : List ℕ) → Allowed fs e → sheetEntryFaults fs (entryThen e t) ≡ []
 unfolding sheetEntryFaults
-faults-pending fs e t g =
+faults-allowed fs e t g =
     rw (whole-entry e t (g .not-long), label-entry e t (g .not-long) (g .label-fits), content-entry e t (g .not-long)) (no-change-faults fs (e .label) (e .content) (g .asked))
 
 two-bytes-small : (s : List ℕ) → Every Byte s → entryLabel s < 65536
@@ -50,10 +51,10 @@ two-bytes-small (b0 ∷ b1 ∷ []) b = omega arith
 two-bytes-small (b0 ∷ b1 ∷ b2 ∷ []) b = omega (arith, b .1 .1 .0)
 two-bytes-small (b0 ∷ b1 ∷ b2 ∷ b3 ∷ u) b = omega (arith, b .1 .1 .0, b .1 .1 .1 .0)
 
-pub sheet-lawful : (fs : List Field) → Lawful (sheetForm fs) (Pending fs) Byte
+pub sheet-lawful : (fs : List Field) → Lawful (sheetForm fs) (Allowed fs) Byte
 unfolding sheetEntryFaults
 sheet-lawful fs = record {
-  no-fault = λ e t g. faults-pending fs e t g;
+  no-fault = λ e t g. faults-allowed fs e t g;
   same = λ e t g. field-entry e t (g .not-long) (g .label-fits);
   rest = λ e t g. rest-entry e t (g .not-long);
   goes-on = λ e t g. refl;
@@ -72,34 +73,39 @@ pub newest : ℕ → List Field → List ℕ → List ℕ
 newest n [] old = old
 newest n (e ∷ es) old = newest n es (cond (eqb (e .label) n) (e .content) old)
 
-seen-cond : (t : Bool) (s h : List ℕ) (a b : Viewed) → seen s h (cond t a b) ≡ cond t (seen s h a) (seen s h b)
-seen-cond true s h a b = refl
-seen-cond false s h a b = refl
+-- what the line shows, where this is the last entry for it
+abbrev shownBy : List Field → List ℕ → List ℕ → ℕ → Option Pending → List ℕ
+shownBy fs s h n o = shownBytes s h (shownPart fs n o)
 
-pub latest-shows : (fs : List Field) (s h : List ℕ) (n at : ℕ) (es : List Field) (v : Viewed) → drop at h ≡ putAll (sheetForm fs) es []
-    → seen s h (latest n at es v) ≡ newest n es (seen s h v)
+pub latest-shows : (fs : List Field) (s h : List ℕ) (n at : ℕ) (es : List Field) (o : Option Pending) → drop at h ≡ putAll (sheetForm fs) es []
+    → shownBy fs s h n (latest n at es o) ≡ newest n es (shownBy fs s h n o)
 unfolding latest newest
-latest-shows fs s h n at [] v q = refl
-latest-shows fs s h n at (e ∷ es) v q =
+latest-shows fs s h n at [] o q = refl
+latest-shows fs s h n at (e ∷ es) o q =
     let t : List ℕ = putAll (sheetForm fs) es [] in
     let c : take (length (e .content)) (drop (at + 4) h) ≡ e .content =
     ap (take (length (e .content))) (sym (drop-drop 4 at h) ∙ ap (drop 4) q) ∙ take-at (e .content) t (length (e .content)) refl in
     let d : drop (at + (4 + length (e .content))) h ≡ t =
     sym (drop-drop (4 + length (e .content)) at h)
     ∙ (ap (drop (4 + length (e .content))) q ∙ (sym (drop-drop (length (e .content)) 4 (entryThen e t)) ∙ drop-at (e .content) t (length (e .content)) refl)) in
-    latest-shows fs s h n (at + (4 + length (e .content))) es (cond (eqb (e .label) n) (Sheet (part (at + 4) (length (e .content)))) v) d
-    ∙ ap (newest n es) (seen-cond (eqb (e .label) n) s h (Sheet (part (at + 4) (length (e .content)))) v ∙ ap (λ (x : List ℕ). cond (eqb (e .label) n) x (seen s h v)) c)
+    latest-shows fs s h n (at + (4 + length (e .content))) es (cond (eqb (e .label) n) (some (record { place = at + 4; content = e .content })) o) d
+    ∙ ap (newest n es) (pick (eqb (e .label) n) c)
+  where
+    pick : (t : Bool) → take (length (e .content)) (drop (at + 4) h) ≡ e .content
+        → shownBy fs s h n (cond t (some (record { place = at + 4; content = e .content })) o) ≡ cond t (e .content) (shownBy fs s h n o)
+    pick true c = c
+    pick false c = refl
 
 -- a view of a line of an accepted set under a sheet without faults
 pub view-shows : (s h : List ℕ) (n : ℕ) (fs es : List Field) → Every Byte h → read s ≡ done (parsed fs []) → 1 ≤ n → n ≤ length fs
     → sheet fs h ≡ done (parsed es []) → view s h n ≡ newest n es (contentAtLine fs (pred n))
 unfolding view viewed viewing
 view-shows s h n fs es b r lo hi q =
-    let w = pieces-only (sheetForm fs) (Pending fs) Byte (sheet-lawful fs) (length h) 0 h es [] b q in
+    let w = pieces-only (sheetForm fs) (Allowed fs) Byte (sheet-lawful fs) (length h) 0 h es [] b q in
     let c : partOf (part (offset fs (pred n) + lineLead) (length (contentAtLine fs (pred n)))) s ≡ contentAtLine fs (pred n) =
     ap (λ (x : List ℕ). take (length (contentAtLine fs (pred n))) (drop (offset fs (pred n) + lineLead) x)) (accepted s (parsed fs []) r .bytes)
     ∙ content-at fs (pred n) [] (omega arith) in
-    rw (r, le-leb 1 n lo, le-leb n (length fs) hi, q) (latest-shows fs s h n 0 es (standing fs n) (w .whole) ∙ ap (newest n es) c)
+    rw (r, le-leb 1 n lo, le-leb n (length fs) hi, q) (latest-shows fs s h n 0 es none (w .whole) ∙ ap (newest n es) c)
 
 -- ---- "as it would stand": under a sheet with one pending correction a line shows what it holds once that correction is made
 
@@ -139,9 +145,9 @@ view-as-corrected b used n m c x bc e ne fs r lo hi =
     let new : List Field = changed fs n c in
     let a = alike-changed fs n c st ch in
     let sh = fits-short (profile fs) (field (labelAtLine fs (pred n)) c) (ch .right) in
-    let one : Pending fs (field n c) = record { asked = ch; label-fits = omega (arith, ch .most, st .few); not-long = omega (arith, sh .few-bytes) } in
+    let one : Allowed fs (field n c) = record { asked = ch; label-fits = omega (arith, ch .most, st .few); not-long = omega (arith, sh .few-bytes) } in
     let p : sheet fs (entryThen (field n c) []) ≡ done (parsed (field n c ∷ []) []) =
-    pieces-put (sheetForm fs) (Pending fs) Byte (sheet-lawful fs) (length (entryThen (field n c) [])) 0 (field n c ∷ []) [] (omega arith) (one, tt) refl in
+    pieces-put (sheetForm fs) (Allowed fs) Byte (sheet-lawful fs) (length (entryThen (field n c) [])) 0 (field n c ∷ []) [] (omega arith) (one, tt) refl in
     let bytes : Every Byte (entryThen (field n c) []) = entry-bytes (field n c) (one .label-fits) (one .not-long) bc in
     let rx : read x ≡ done (parsed new []) =
     ap read (y .made ∙ ap (λ (gs : List Field). render (changed gs n c) []) q) ∙ read-render new [] (still-standing fs n c st ch) refl in

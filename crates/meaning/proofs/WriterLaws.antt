@@ -21,7 +21,7 @@ use Rattle.meaning.specs.Pieces.{Parsed, parsed, pieces, putAll}
 use Rattle.meaning.specs.Lines.{lineSize, size, render}
 use Rattle.meaning.specs.Entries.{entryThen, entryForm, listSize}
 use Rattle.meaning.specs.Tables.{rows6300, rows6301, rows6302, rows6310, rows6311, table, rowLabel, findIn, find}
-use Rattle.meaning.specs.Groups.{State, first, Role, unknown, strayed, plain, member, roleOf, role, next, placeFaults}
+use Rattle.meaning.specs.Groups.{State, first, Role, unknown, strayed, atSetLevel, member, roleOf, role, next, labelFaults}
 use Rattle.meaning.specs.Rules.{Profile, profile, tableOf, rowsOf, isKnown, typeKnown, roleIn, startFaults, lineRules, rulesFrom, ruleFaults, setFaults}
 use Rattle.meaning.specs.Reading.{read}
 use Rattle.meaning.specs.Lists.{withoutSum, withSum, list, inList, setWithRoom, written, write}
@@ -108,20 +108,20 @@ single-known : (k : Known) → isKnown k ≡ true → Single 8000 (find (tableOf
 single-known (Of t) e = single-8000 t
 single-known Nothing e = absurd (true≢false (sym e))
 
-role-plain : (o : Option Row) (r : Row) (h l : ℕ) → o ≡ some r → r .under ≡ 0 → role o h l ≡ plain r
+role-at-set-level : (o : Option Row) (r : Row) (h l : ℕ) → o ≡ some r → r .under ≡ 0 → role o h l ≡ atSetLevel r
 unfolding role roleOf
-role-plain o r h l q u = rw (q, u)
+role-at-set-level o r h l q u = rw (q, u)
 
 top-keep : (o : Role) (st : State) (k m l : ℕ) → elem l (st .top) ≡ true → elem l (next o st k m .top) ≡ true
 unfolding next elem
 top-keep unknown st k m l e = e
 top-keep strayed st k m l e = e
-top-keep (plain r) st k m l e = or-right (eqb l (r .label)) e
+top-keep (atSetLevel r) st k m l e = or-right (eqb l (r .label)) e
 top-keep (member r) st k m l e = e
 
-not-again : (r : Row) (p : Profile) (st : State) (k l : ℕ) (f : Field) → r .label ≡ l → r .many ≡ false → elem l (st .top) ≡ true → lineRules (plain r) p st k f ≡ [] → ⊥
-unfolding lineRules placeFaults
-not-again r p st k l f n o e h = cons≢nil (rw (n, o, e) at (append-none (placeFaults (plain r) st k (f .label)) _ h .0))
+not-again : (r : Row) (p : Profile) (st : State) (k l : ℕ) (f : Field) → r .label ≡ l → r .many ≡ false → elem l (st .top) ≡ true → lineRules (atSetLevel r) p st k f ≡ [] → ⊥
+unfolding lineRules labelFaults
+not-again r p st k l f n o e h = cons≢nil (rw (n, o, e) at (append-none (labelFaults (atSetLevel r) st k (f .label)) _ h .0))
 
 once : (p : Profile) (st : State) (k l : ℕ) (fs : List Field) → Single l (find (rowsOf p) l) → elem l (st .top) ≡ true → rulesFrom p st k fs ≡ []
     → Every (λ f. f .label ≡ l → ⊥) fs
@@ -130,11 +130,11 @@ once p st k l [] s e h = tt
 once p st k l (f ∷ fs) s e h =
     let a = append-none (lineRules (roleIn p st f) p st k f) _ h in (
       λ q. not-again (s .known) p st k l f (s .named-so) (s .one) e
-          (subst (λ (o : Role). lineRules o p st k f ≡ []) (role-plain (find (rowsOf p) (f .label)) (s .known) (st .header) (f .label) (ap (find (rowsOf p)) q ∙ s .is) (s .top-level)) (a .0)),
+          (subst (λ (o : Role). lineRules o p st k f ≡ []) (role-at-set-level (find (rowsOf p) (f .label)) (s .known) (st .header) (f .label) (ap (find (rowsOf p)) q ∙ s .is) (s .top-level)) (a .0)),
       once p (next (roleIn p st f) st k (f .label)) (k + 1) l fs s (top-keep (roleIn p st f) st k (f .label) l e) (a .1),
     )
 
-top-has : (o : Role) (r : Row) (st : State) (k l m : ℕ) → o ≡ plain r → r .label ≡ l → elem l (next o st k m .top) ≡ true
+top-has : (o : Role) (r : Row) (st : State) (k l m : ℕ) → o ≡ atSetLevel r → r .label ≡ l → elem l (next o st k m .top) ≡ true
 unfolding next elem
 top-has o r st k l m q e = rw (q, eq-eqb l (r .label) (sym e))
 
@@ -143,10 +143,10 @@ unfolding rulesFrom
 no-later f fs r =
     let p : Profile = profile (f ∷ fs) in
     let b = begins-of (f ∷ fs) (r .begins) in
-    let s : Single 8000 (find (rowsOf p) 8000) = single-known (p .kind) (b .type-known) in
+    let s : Single 8000 (find (rowsOf p) 8000) = single-known (p .setType) (b .type-known) in
     let a = append-none (lineRules (roleIn p first f) p first 0 f) _ (r .each-line) in
-    let o : roleIn p first f ≡ plain (s .known) =
-    role-plain (find (rowsOf p) (f .label)) (s .known) (first .header) (f .label) (ap (find (rowsOf p)) (b .first-label) ∙ s .is) (s .top-level) in
+    let o : roleIn p first f ≡ atSetLevel (s .known) =
+    role-at-set-level (find (rowsOf p) (f .label)) (s .known) (first .header) (f .label) (ap (find (rowsOf p)) (b .first-label) ∙ s .is) (s .top-level) in
     once p (next (roleIn p first f) first 0 (f .label)) (0 + 1) 8000 fs s (top-has (roleIn p first f) (s .known) first 0 8000 (f .label) o (s .named-so)) (a .1)
 
 -- ---- list to set: any list

@@ -1,5 +1,5 @@
--- What the answers of the public functions say, in the paper's numbers, and what every lent buffer holds afterwards.
--- Assumes nothing: these are definitions.
+-- The six calls as a caller meets them: what each answers, and what the lent buffer holds afterwards. `judge` (Reading), `viewed` and `view` (Views) lend nothing to write.
+-- Assumes nothing: these are definitions. They determine the answer and every lent byte or entry, refusals too.
 use mathlib.Core.List.{List, [], _∷_, _++_}
 use Prim.Native.Nat.{ℕ, _-_}
 use lib.ListN.{length, drop, replicate}
@@ -14,15 +14,19 @@ use Rattle.meaning.specs.declared.Made.the-variants.{Done, Refused}
 use Rattle.meaning.specs.declared.Viewed.{Viewed}
 use Rattle.meaning.specs.declared.Viewed.the-variants.{Sheet, Set, Refused as RefusedView}
 use Rattle.meaning.specs.Refusals.{Reply, refused, done, refusal}
+use Rattle.meaning.specs.Index.{index}
+use Rattle.meaning.specs.Lists.{list, write}
+use Rattle.meaning.specs.Corrections.{correct}
 
--- ---- the answer of index, list, writer and correction, and the lent buffer
+-- ---- the answer, and the lent buffer
 
 -- "Index, list, writer and correction answer the count or length of what they made."
 abbrev pub made : {A : Type 0} → Reply (List A) → Made
 made (refused r) = Refused r
 made (done xs) = Done (length xs)
 
--- "All lent buffers then keep every byte and entry"; else "bytes of the output buffer beyond the written length are zero"
+-- "All lent buffers then keep every byte and entry"; else "bytes of the output buffer beyond the written length are zero", and of a corrected buffer "every byte past the
+-- new used length becomes zero"
 abbrev pub bytesLeft : Reply (List ℕ) → List ℕ → List ℕ
 bytesLeft (refused r) b = b
 bytesLeft (done bs) b = bs ++ replicate (length b - length bs) 0
@@ -32,8 +36,28 @@ abbrev pub entriesLeft : Reply (List Entry) → List Entry → List Entry
 entriesLeft (refused r) b = b
 entriesLeft (done es) b = es ++ drop (length es) b
 
--- ---- number, place and label of each answer; 0, 0, 0 where nothing is refused
+-- What a call answers, and what the buffer that was lent to it then holds.
+pub record Call (A : Type 0) : Type 0 where
+  pub answer : Made
+  pub buffer : List A
 
+-- the room of index, list and writer is the buffer that is lent
+abbrev pub indexCall : List ℕ → List Entry → Call Entry
+indexCall s out = record { answer = made (index s (length out)); buffer = entriesLeft (index s (length out)) out }
+
+abbrev pub listCall : List ℕ → List ℕ → Call ℕ
+listCall s out = record { answer = made (list s (length out)); buffer = bytesLeft (list s (length out)) out }
+
+abbrev pub writeCall : List ℕ → List ℕ → Call ℕ
+writeCall l out = record { answer = made (write l (length out)); buffer = bytesLeft (write l (length out)) out }
+
+-- a correction changes the buffer that holds the set
+abbrev pub correctCall : List ℕ → ℕ → ℕ → List ℕ → Call ℕ
+correctCall b used n c = record { answer = made (correct b used n c); buffer = bytesLeft (correct b used n c) b }
+
+-- ---- "Where an answer is an enum, a definition gives this paper's number and values for each of its cases."
+
+-- number, place and label; 0, 0, 0 where nothing is refused
 abbrev pub noRefusal : Refusal
 noRefusal = refusal 0 0 0
 
@@ -49,8 +73,6 @@ abbrev pub viewedRefusal : Viewed → Refusal
 viewedRefusal (Sheet q) = noRefusal
 viewedRefusal (Set q) = noRefusal
 viewedRefusal (RefusedView r) = r
-
--- ---- the values of each answer
 
 -- the set's length, its lines, its type; 0, 0, 0 for a refusal
 abbrev pub judgedShape : Judged → Shape
@@ -68,7 +90,7 @@ viewedFlag (Sheet q) = 1
 viewedFlag (Set q) = 0
 viewedFlag (RefusedView r) = 0
 
--- place and length of the part; 0 and 0 for a refusal
+-- place and length of the part; 0 and 0, "an empty part of the set", for a refusal
 abbrev pub viewedPart : Viewed → Part
 viewedPart (Sheet q) = q
 viewedPart (Set q) = q

@@ -6,11 +6,11 @@ use Rattle.meaning.specs.Pieces.{pieces}
 use Rattle.meaning.specs.Lines.{lineFaults}
 use Rattle.meaning.specs.Entries.{entryFaults}
 use Rattle.meaning.specs.Tables.{rows6300, rows6301, rows6302, rows6310, rows6311, table, rowLabel, findIn, find}
-use Rattle.meaning.specs.Kinds.{isAlnum, isNum, decimals, whole, unsigned, isFloat, twoAt, isRule020, isRule008, isRule090, firstIsIn, isRule112, isRule116, isCharset, isVersion, is0210, ofKind}
+use Rattle.meaning.specs.Kinds.{isAlnum, isNum, decimals, whole, unsigned, isFloat, twoAt, isRule020, isRule008, isRule090, firstIsIn, isRule112, isRule116, isCharset, isVersion, sameBytes, is0210, ofKind}
 use Rattle.meaning.specs.FieldTable.{fieldTable, fieldRowIn, fieldRow, hasLength, fitsRow, fitsLabel}
-use Rattle.meaning.specs.Groups.{belongs, roleOf, role, next, after, placeFaults}
-use Rattle.meaning.specs.Missing.{onCondition, needed, lacks, missingLabel, lacking, insert, ascending, groupLacks, stays, groupsLack, missingFaults}
-use Rattle.meaning.specs.Rules.{typeNamed, profile, startFaults, fits, current, contentFaults, judgedContent, lineRules, rulesFrom, sumFaults, ruleFaults, setFaults}
+use Rattle.meaning.specs.Groups.{belongs, roleOf, role, next, after, labelFaults}
+use Rattle.meaning.specs.Missing.{onCondition, needed, rowsUnder, insert, ascending, missingLabel, lackingOf, lacking, openLacking, stays, groupsLacking, missingFaults}
+use Rattle.meaning.specs.Rules.{typeNamed, profile, startFaults, fits, current, contentFaults, contentRules, lineRules, rulesFrom, sumFaults, ruleFaults, setFaults}
 use Rattle.meaning.specs.Reading.{scan, read, judge}
 use Rattle.meaning.specs.Index.{headerLine, entriesFrom, indexOf, index}
 use Rattle.meaning.specs.Lists.{list, write}
@@ -18,5 +18,5 @@ use Rattle.meaning.specs.Corrections.{changeFaults, correct}
 use Rattle.meaning.specs.Views.{sheetEntryFaults, latest, viewing, viewed, view}
 
 unfoldable pub computes : Unit {0}
-unfolding typeOf elem pieces lineFaults entryFaults rows6300 rows6301 rows6302 rows6310 rows6311 table rowLabel findIn find isAlnum isNum decimals whole unsigned isFloat twoAt isRule020 isRule008 isRule090 firstIsIn isRule112 isRule116 isCharset isVersion is0210 ofKind fieldTable fieldRowIn fieldRow hasLength fitsRow fitsLabel belongs roleOf role next after placeFaults onCondition needed lacks missingLabel lacking insert ascending groupLacks stays groupsLack missingFaults typeNamed profile startFaults fits current contentFaults judgedContent lineRules rulesFrom sumFaults ruleFaults setFaults scan read judge headerLine entriesFrom indexOf index list write changeFaults correct sheetEntryFaults latest viewing viewed view
+unfolding typeOf elem pieces lineFaults entryFaults rows6300 rows6301 rows6302 rows6310 rows6311 table rowLabel findIn find isAlnum isNum decimals whole unsigned isFloat twoAt isRule020 isRule008 isRule090 firstIsIn isRule112 isRule116 isCharset isVersion sameBytes is0210 ofKind fieldTable fieldRowIn fieldRow hasLength fitsRow fitsLabel belongs roleOf role next after labelFaults onCondition needed rowsUnder insert ascending missingLabel lackingOf lacking openLacking stays groupsLacking missingFaults typeNamed profile startFaults fits current contentFaults contentRules lineRules rulesFrom sumFaults ruleFaults setFaults scan read judge headerLine entriesFrom indexOf index list write changeFaults correct sheetEntryFaults latest viewing viewed view
 computes = tt

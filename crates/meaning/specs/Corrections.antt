@@ -17,15 +17,15 @@ use Rattle.meaning.specs.Lists.{withoutSum, withSum, setWithRoom}
 abbrev pub fixed : ℕ → Bool
 fixed l = eqb l 8000 || (eqb l 8100 || eqb l 9218)
 
--- 18, BadUse: "another set follows (place: first set's length)"
+-- 18, BadUse: "another set follows (place: first set's length)", where all lines of this one stand before it
 abbrev pub aloneFaults : Parsed → List Fault
 aloneFaults d = ask (isNil (d .rest)) (atLine badUse (length (d .fields)) 0)
 
--- 19, NoSuchLine: "line number 0 or beyond the set; place: set length"
+-- 19, NoSuchLine: "line number 0 or beyond the set; place: set length", where all lines stand before it. In a sheet the entry's first byte is told (B39).
 abbrev pub lineNumberFaults : List Field → ℕ → List Fault
 lineNumberFaults fs n = ask (leb 1 n && leb n (length fs)) (atLine noSuchLine (length fs) 0)
 
--- "19, 20, 6 (place in the new content), 14 (empty included)": what is wrong with content c for line number n
+-- "19, 20, 6 (place in the new content), 14 (empty included)": what is wrong with content c for line number n. Only the first fault is told.
 unfoldable pub changeFaults : List Field → ℕ → List ℕ → List Fault
 changeFaults fs n c =
     lineNumberFaults fs n
@@ -33,16 +33,17 @@ changeFaults fs n c =
     ++ (lowBytes (pred n) 0 c
     ++ ask (fits (profile fs) (field (labelAtLine fs (pred n)) c)) (atLine badContent (pred n) (labelAtLine fs (pred n)))))
 
--- the correction's places: offsets in the set, and in the new content
+-- the correction's places: offsets in the buffer, and for 6 in the new content
 abbrev pub inChange : List Field → ℕ → Spot → ℕ
 inChange fs k start = offset fs k
 inChange fs k (byte i) = i
 
--- "The new content is written into the middle of the buffer": the lines with content c in the one that has k lines before it
+-- "The new content is written into the middle of the buffer, the lines after it move, its length and 8100 are brought up to date": the lines with content c in the one
+-- that has k lines before it
 abbrev pub recontent : List Field → ℕ → List ℕ → List Field
 recontent fs k c = set fs k (field (labelAtLine fs k) c)
 
--- "8100 [is] brought up to date": line 2 is computed from the other lines
+-- line 2 computed from the other lines
 abbrev pub resum : List Field → List Field
 resum fs = withSum (withoutSum fs)
 
@@ -54,8 +55,8 @@ abbrev pub correctLines : ℕ → ℕ → List ℕ → Parsed → Reply (List �
 correctLines room n c d =
     thenTo (verdict (inChange (d .fields)) (aloneFaults d ++ changeFaults (d .fields) n c) (changed (d .fields) n c)) (λ fs. setWithRoom fs room)
 
--- "Order: 18 (used length), the set's own refusals, 18 (second set), 19, 20, 6, 14, 22." The set that stands in buffer b, of which `used` bytes are used, after the
--- correction of line n to content c; "used length over the buffer (place: buffer length)"
+-- "A set stands at the front of a longer buffer with its used length. A correction names a line and gives a new content." The set after the correction of line n to
+-- content c, by this order: 18 (used length), the set's own refusals, 18 (second set), 19, 20, 6, 14, 22; "used length over the buffer (place: buffer length)"
 unfoldable pub correct : List ℕ → ℕ → ℕ → List ℕ → Reply (List ℕ)
 correct b used n c =
     cond (leb used (length b)) (thenTo (read (take used b)) (λ d. correctLines (length b) n c d)) (refused (refusal badUse (length b) 0))

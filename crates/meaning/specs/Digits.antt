@@ -5,20 +5,20 @@ use mathlib.Core.List.{List, [], _∷_, _++_}
 use Prim.Native.Nat.{ℕ, zero, suc, _+_, _-_, _*_, _/_, _%_}
 use lib.Dec.{leb}
 
-abbrev pub zeroByte : ℕ
-zeroByte = 48
+abbrev pub digitZero : ℕ
+digitZero = 48
 
-abbrev pub nineByte : ℕ
-nineByte = 57
+abbrev pub digitNine : ℕ
+digitNine = 57
 
 -- the last k digits of n
 abbrev pub digits : ℕ → ℕ → List ℕ
 digits zero n = []
-digits (suc k) n = digits k (n / 10) ++ ((zeroByte + n % 10) ∷ [])
+digits (suc k) n = digits k (n / 10) ++ ((digitZero + n % 10) ∷ [])
 
 -- "digits" are 30h to 39h
 abbrev pub digit : ℕ → Bool
-digit b = leb zeroByte b && leb b nineByte
+digit b = leb digitZero b && leb b digitNine
 
 abbrev pub allDigits : List ℕ → Bool
 allDigits [] = true
@@ -27,7 +27,7 @@ allDigits (b ∷ bs) = digit b && allDigits bs
 -- the number that digits write, behind those that wrote a
 abbrev pub numberFrom : ℕ → List ℕ → ℕ
 numberFrom a [] = a
-numberFrom a (b ∷ bs) = numberFrom (a * 10 + (b - zeroByte)) bs
+numberFrom a (b ∷ bs) = numberFrom (a * 10 + (b - digitZero)) bs
 
 -- the number that digits write
 abbrev pub number : List ℕ → ℕ

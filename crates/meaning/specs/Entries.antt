@@ -12,9 +12,13 @@ use Rattle.meaning.specs.Pieces.{Form}
 
 -- ---- writing
 
+-- a byte has so many values
+abbrev pub byteValues : ℕ
+byteValues = 256
+
 -- two bytes, little-endian, and then `t`
 abbrev pub twoBytes : ℕ → List ℕ → List ℕ
-twoBytes n t = n % 256 ∷ n / 256 ∷ t
+twoBytes n t = n % byteValues ∷ n / byteValues ∷ t
 
 -- the bytes before the content
 abbrev pub entryLead : ℕ
@@ -32,7 +36,7 @@ listSize (f ∷ fs) = (length (f .content) + entryLead) + listSize fs
 -- ---- reading: the entry at the front of s
 
 abbrev pub twoBytesAt : List ℕ → ℕ → ℕ
-twoBytesAt s i = getD s i 0 + getD s (suc i) 0 * 256
+twoBytesAt s i = getD s i 0 + getD s (suc i) 0 * byteValues
 
 abbrev pub entryLabel : List ℕ → ℕ
 entryLabel s = twoBytesAt s 2
@@ -50,14 +54,15 @@ entryField s = field (entryLabel s) (entryContent s)
 abbrev pub entryWhole : List ℕ → Bool
 entryWhole s = leb entryLead (length s) && leb (entryWidth s) (length s)
 
+-- the largest number that four digits write
 abbrev pub maxLabel : ℕ
 maxLabel = 9999
 
--- 21, BadList: "list entry cut, or label over 9999"
+-- not 21, BadList: "list entry cut, or label over 9999"
 abbrev pub entryOk : List ℕ → Bool
 entryOk s = entryWhole s && leb (entryLabel s) maxLabel
 
--- "It checks entries in order: .. 21, 6"
+-- "It checks entries in order: .. 21, 6". Only the first fault is told.
 unfoldable pub entryFaults : List ℕ → List Fault
 entryFaults s = ask (entryOk s) (atLine badList 0 0) ++ lowBytes 0 0 (entryContent s)
 

@@ -20,7 +20,7 @@ labels fs = map (λ (f : Field). f .label) fs
 abbrev pub noField : Field
 noField = field 0 []
 
--- label and content of the line that has k lines before it
+-- "Line numbers count from 1." Here a line is named by how many stand before it: line number n has `pred n`. Label and content of the line that has k before it:
 abbrev pub labelAtLine : List Field → ℕ → ℕ
 labelAtLine fs k = getD fs k noField .label
 

@@ -108,7 +108,7 @@ fieldRow l = fieldRowIn fieldTable (rowLabel l)
 unfoldable pub hasLength : Lengths → List ℕ → Bool
 hasLength n c = leb (n .least) (length c) && leb (length c) (n .most)
 
--- the negation of 14, BadContent: "content breaks length, kind or rule"
+-- not 14, BadContent: "content breaks length, kind or rule"
 unfoldable pub fitsRow : FieldRow → List ℕ → Bool
 fitsRow x c = hasLength (x .lengths) c && ofKind (x .kind) c
 

@@ -8,13 +8,15 @@ use lib.Dec.{eqb}
 use Rattle.meaning.specs.declared.Row.{Row}
 use Rattle.meaning.specs.Field.{elem}
 use Rattle.meaning.specs.Refusals.{Fault, atLine, ask, notInSet, stray, repeated}
-use Rattle.meaning.specs.Tables.{setLevel, isPair, find}
+use Rattle.meaning.specs.Tables.{setLevel, isPairLabel, find}
 
--- What the lines so far leave behind: the last line at set level, if the line before belongs to it (its label, 0 for none, and how many
--- lines stand before it); which members it has so far; and which labels stand at set level so far. Labels are those of the rows.
+-- What the lines so far leave behind:
 pub record State : Type 0 where
+  -- the label of the last line at set level, as long as a member may follow it; else 0. Any line at set level counts, also one that has no members
   pub header : ℕ
+  -- how many lines stand before that line
   pub line : ℕ
+  -- its members so far, and what stands at set level so far, by the labels of their rows
   pub members : List ℕ
   pub top : List ℕ
 
@@ -29,25 +31,25 @@ first = record { header = noHeader; line = 0; members = []; top = [] }
 -- ---- the role of a line
 
 pub data Role : Type 0 where
-  -- "label not in the set's table"
+  -- 11: "label not in the set's table"
   unknown : Role
-  -- "member outside its group, or odd label not after its name"
+  -- 12: "member outside its group, or odd label not after its name"
   strayed : Role
-  -- a line at set level, a header or a name among them
-  plain : Row → Role
+  -- headers and names among them
+  atSetLevel : Row → Role
   -- a member of the open group, or the odd label behind its name
   member : Row → Role
 
--- the row that the table puts the names' contents under
-abbrev pub names : ℕ
-names = 6330
+-- the row under which the table puts the odd labels
+abbrev pub namesRow : ℕ
+namesRow = 6330
 
 -- "Even labels 6330 to 6398 are names; the next line must be the label one higher." Any other member stands under the header that its row names.
 unfoldable pub belongs : Row → ℕ → ℕ → Bool
-belongs r header l = cond (eqb (r .under) names) (eqb (header + 1) l) (eqb (r .under) header)
+belongs r header l = cond (eqb (r .under) namesRow) (eqb (header + 1) l) (eqb (r .under) header)
 
 unfoldable pub roleOf : Row → ℕ → ℕ → Role
-roleOf r header l = cond (eqb (r .under) setLevel) (plain r) (cond (belongs r header l) (member r) strayed)
+roleOf r header l = cond (eqb (r .under) setLevel) (atSetLevel r) (cond (belongs r header l) (member r) strayed)
 
 -- "The role of a label depends on the set type", by its row, and on the open header.
 unfoldable pub role : Option Row → ℕ → ℕ → Role
@@ -56,13 +58,13 @@ role (some r) header l = roleOf r header l
 
 -- ---- from line to line: the state behind the line with label l and k lines before it
 
--- "every 8410 opens a group", "every 6302 opens a group", a name its pair; any other line at set level opens a group that has no members
+-- "every 8410 opens a group", "every 6302 opens a group", a name its pair
 abbrev pub opened : State → Row → ℕ → ℕ → State
 opened st r k l = record { header = l; line = k; members = []; top = r .label ∷ st .top }
 
--- "An odd label 6331 to 6399 stands nowhere else": a name's pair ends with it
+-- "An odd label 6331 to 6399 stands nowhere else": nothing follows it in its pair
 abbrev pub joined : State → Row → ℕ → State
-joined st r l = record { header = cond (isPair l) noHeader (st .header); line = st .line; members = r .label ∷ st .members; top = st .top }
+joined st r l = record { header = cond (isPairLabel l) noHeader (st .header); line = st .line; members = r .label ∷ st .members; top = st .top }
 
 -- "A group ends at the first line that is not a member of its header."
 abbrev pub closed : State → State
@@ -71,7 +73,7 @@ closed st = record { header = noHeader; line = 0; members = []; top = st .top }
 unfoldable pub next : Role → State → ℕ → ℕ → State
 next unknown st k l = closed st
 next strayed st k l = closed st
-next (plain r) st k l = opened st r k l
+next (atSetLevel r) st k l = opened st r k l
 next (member r) st k l = joined st r l
 
 -- the state behind all lines with these labels, the first of which has k lines before it
@@ -82,12 +84,12 @@ after rs st k (l ∷ ls) = after rs (next (role (find rs l) (st .header) l) st k
 -- ---- 11, 12, 13
 
 -- 13, Repeated: "single label again in the set or its group"; "A member repeats inside a group where the table's occurrence is n"
-abbrev pub again : Row → List ℕ → ℕ → ℕ → List Fault
-again r seen k l = ask (r .many || not (elem (r .label) seen)) (atLine repeated k l)
+abbrev pub repeatedFaults : Row → List ℕ → ℕ → ℕ → List Fault
+repeatedFaults r seen k l = ask (r .many || not (elem (r .label) seen)) (atLine repeated k l)
 
 -- 11, NotInSet; 12, Stray; 13
-unfoldable pub placeFaults : Role → State → ℕ → ℕ → List Fault
-placeFaults unknown st k l = atLine notInSet k l ∷ []
-placeFaults strayed st k l = atLine stray k l ∷ []
-placeFaults (plain r) st k l = again r (st .top) k l
-placeFaults (member r) st k l = again r (st .members) k l
+unfoldable pub labelFaults : Role → State → ℕ → ℕ → List Fault
+labelFaults unknown st k l = atLine notInSet k l ∷ []
+labelFaults strayed st k l = atLine stray k l ∷ []
+labelFaults (atSetLevel r) st k l = repeatedFaults r (st .top) k l
+labelFaults (member r) st k l = repeatedFaults r (st .members) k l

@@ -29,6 +29,6 @@ entriesFrom p st k at (f ∷ fs) =
 unfoldable pub indexOf : List Field → List Entry
 indexOf fs = entriesFrom (profile fs) first 0 0 fs
 
--- "Index and list refuse as the set does, then by 22": the index of the set at the front of s, for `room` entries
+-- "Index and list refuse as the set does, then by 22": the index of the set at the front of s, for `room` entries; other sets may follow (B35)
 unfoldable pub index : List ℕ → ℕ → Reply (List Entry)
 index s room = thenTo (read s) (λ d. withRoom (leb (length (d .fields)) room) (length (d .fields)) (indexOf (d .fields)))

@@ -1,11 +1,11 @@
--- "Content kinds": each kind with a test of its own. The length of a content is asked beside it (FieldTable).
+-- "Content kinds": each kind with a test of its own. A test says what the bytes must be; how many there are the field table asks beside it (FieldTable).
 -- Assumes nothing: these are definitions.
 use mathlib.Core.Bool.{Bool, true, false, cond, _&&_}
-use mathlib.Core.List.{List, [], _∷_, map}
+use mathlib.Core.List.{List, [], _∷_, _++_, map}
 use Prim.Native.Nat.{ℕ, _+_, _-_, _*_}
 use lib.ListN.{drop, getD}
 use lib.Dec.{leb, eqb}
-use Rattle.meaning.specs.Digits.{digit, zeroByte, allDigits}
+use Rattle.meaning.specs.Digits.{digits, digit, digitZero, allDigits}
 use Rattle.meaning.specs.Field.{elem}
 
 pub data Kind : Type 0 where
@@ -48,12 +48,13 @@ isFloat (b ∷ bs) = cond (eqb b minus) (unsigned bs) (unsigned (b ∷ bs))
 
 -- ---- dates and times
 
--- the number that bytes i and i + 1 write; where they are not two digits it is over every bound below
+-- over every bound below
 abbrev pub noNumber : ℕ
 noNumber = 100
 
+-- the number that bytes i and i + 1 write, where they are two digits
 unfoldable pub twoAt : List ℕ → ℕ → ℕ
-twoAt c i = cond (digit (getD c i 0) && digit (getD c (i + 1) 0)) ((getD c i 0 - zeroByte) * 10 + (getD c (i + 1) 0 - zeroByte)) noNumber
+twoAt c i = cond (digit (getD c i 0) && digit (getD c (i + 1) 0)) ((getD c i 0 - digitZero) * 10 + (getD c (i + 1) 0 - digitZero)) noNumber
 
 -- "Rule 020 (3103): DDMMYYYY, DD 00 to 31, MM 00 to 12."
 unfoldable pub isRule020 : List ℕ → Bool
@@ -70,7 +71,7 @@ isRule090 c = leb (twoAt c 0) 24 && (leb (twoAt c 2) 59 && leb (twoAt c 4) 59)
 -- ---- choices: one digit of a few
 
 unfoldable pub firstIsIn : List ℕ → List ℕ → Bool
-firstIsIn ds c = elem (getD c 0 0) (map (λ (d : ℕ). zeroByte + d) ds)
+firstIsIn ds c = elem (getD c 0 0) (map (λ (d : ℕ). digitZero + d) ds)
 
 -- "Rule 112 (3110): 1 or 2."
 unfoldable pub isRule112 : List ℕ → Bool
@@ -90,9 +91,16 @@ isCharset c = firstIsIn (1 ∷ 2 ∷ 3 ∷ []) c
 unfoldable pub isVersion : List ℕ → Bool
 isVersion c = leb (twoAt c 0) 99 && (eqb (getD c 2 0) point && leb (twoAt c 3) 99)
 
+-- the same bytes
+unfoldable pub sameBytes : List ℕ → List ℕ → Bool
+sameBytes [] [] = true
+sameBytes [] (d ∷ ds) = false
+sameBytes (c ∷ cs) [] = false
+sameBytes (c ∷ cs) (d ∷ ds) = eqb c d && sameBytes cs ds
+
 -- "only `02.10` is read"
 unfoldable pub is0210 : List ℕ → Bool
-is0210 c = eqb (twoAt c 0) 2 && eqb (twoAt c 3) 10
+is0210 c = sameBytes c (digits 2 2 ++ (point ∷ digits 2 10))
 
 -- ---- each kind with its test
 

@@ -9,11 +9,11 @@ use Rattle.meaning.specs.declared.Known.the-variants.{Of, Nothing}
 use Rattle.meaning.specs.declared.SetType.{SetType}
 use Rattle.meaning.specs.declared.SetType.the-variants.{T6300, T6301, T6302, T6310, T6311}
 
--- "512 lines"
+-- "512 lines"; "A set has at most 512 lines."
 abbrev pub maxLines : ℕ
 maxLines = 512
 
--- "999 bytes a line"
+-- "999 bytes a line": the largest number that three digits write, so that no rule has to ask it (`size-most` in proofs/LineLaws)
 abbrev pub maxLineBytes : ℕ
 maxLineBytes = 999
 
@@ -24,7 +24,7 @@ maxSetBytes = 99999
 abbrev pub limits : Limits
 limits = record { lines = maxLines; line = maxLineBytes; set = maxSetBytes }
 
--- "8100 has no entry": a list has one entry fewer than its set has lines
+-- "more than 511 (7)": "8100 has no entry", so a list has one entry fewer than its set has lines
 abbrev pub maxEntries : ℕ
 maxEntries = maxLines - 1
 

@@ -25,13 +25,16 @@ cr = 13
 abbrev pub lf : ℕ
 lf = 10
 
--- the bytes before the content
+-- the bytes before the content, and those behind it
 abbrev pub lineLead : ℕ
-lineLead = 7
+lineLead = lengthDigits + labelDigits
+
+abbrev pub lineEnd : ℕ
+lineEnd = 2
 
 -- "Length = content + 9."
 abbrev pub lineSize : Field → ℕ
-lineSize f = length (f .content) + 9
+lineSize f = length (f .content) + (lineLead + lineEnd)
 
 -- the line of a field, and then `t`
 abbrev pub lineThen : Field → List ℕ → List ℕ
@@ -42,7 +45,7 @@ abbrev pub size : List Field → ℕ
 size [] = 0
 size (f ∷ fs) = lineSize f + size fs
 
--- the offset of the line that has k lines before it
+-- the offset of the line that has k lines before it; with all lines before it, the set's length
 abbrev pub offset : List Field → ℕ → ℕ
 offset fs k = size (take k fs)
 
@@ -55,41 +58,42 @@ abbrev pub labelAt : List ℕ → ℕ
 labelAt s = number (take labelDigits (drop lengthDigits s))
 
 abbrev pub contentAt : List ℕ → List ℕ
-contentAt s = take (sizeAt s - 9) (drop lineLead s)
+contentAt s = take (sizeAt s - (lineLead + lineEnd)) (drop lineLead s)
 
 abbrev pub fieldAt : List ℕ → Field
 fieldAt s = field (labelAt s) (contentAt s)
 
--- "lengths run 010 to 999"
+-- "Content has 1 byte or more, so lengths run 010 to 999."
 abbrev pub minLineBytes : ℕ
 minLineBytes = 10
 
--- 2, BadLength: "under three bytes remain, not digits, or below 010"
+-- not 2, BadLength: "under three bytes remain, not digits, or below 010"
 abbrev pub lengthOk : List ℕ → Bool
 lengthOk s = leb lengthDigits (length s) && (allDigits (take lengthDigits s) && leb minLineBytes (sizeAt s))
 
--- 3, CutLine: "the line runs past the input"
+-- not 3, CutLine: "the line runs past the input"
 abbrev pub wholeOk : List ℕ → Bool
 wholeOk s = leb (sizeAt s) (length s)
 
--- 4, BadEnd: "last two bytes are not 0Dh 0Ah"
+-- not 4, BadEnd: "last two bytes are not 0Dh 0Ah"
 abbrev pub endOk : List ℕ → Bool
 endOk s = eqb (getD s (sizeAt s - 2) 0) cr && eqb (getD s (sizeAt s - 1) 0) lf
 
--- 5, BadLabel: "label not four digits"
+-- not 5, BadLabel: "label not four digits"
 abbrev pub labelOk : List ℕ → Bool
 labelOk s = allDigits (take labelDigits (drop lengthDigits s))
 
--- "Content bytes are 20h to FFh."
+-- "Content bytes are 20h to FFh." No byte is over FFh.
 abbrev pub leastByte : ℕ
 leastByte = 32
 
--- 6, BadByte: "content byte under 20h; place is that byte": the faults of the content that the line with k lines before it has from byte i on
+-- 6, BadByte: "content byte under 20h; place is that byte": one fault for each such byte of a part of a content that i bytes of it stand before, in a line that k
+-- lines stand before
 abbrev pub lowBytes : ℕ → ℕ → List ℕ → List Fault
 lowBytes k i [] = []
 lowBytes k i (b ∷ bs) = ask (leb leastByte b) (atByte badByte k i) ++ lowBytes k (suc i) bs
 
--- what is wrong with the line at the front: "each by .. 2, 3, 4, 5, 6"
+-- what is wrong with the line at the front: "each by .. 2, 3, 4, 5, 6". A test may rely on those before it; only the first fault is told.
 unfoldable pub lineFaults : List ℕ → List Fault
 lineFaults s =
     ask (lengthOk s) (atLine badLength 0 0)
@@ -100,7 +104,7 @@ lineFaults s =
 
 -- ---- where a set ends
 
--- "seven or more bytes remain and bytes four to seven read `8000`"
+-- "seven or more bytes remain and bytes four to seven read `8000`", whatever the three bytes before them are (B1)
 abbrev pub startsSet : List ℕ → Bool
 startsSet s = leb lineLead (length s) && (labelOk s && eqb (labelAt s) 8000)
 
@@ -108,7 +112,7 @@ startsSet s = leb lineLead (length s) && (labelOk s && eqb (labelAt s) 8000)
 abbrev pub setOver : List ℕ → Bool
 setOver s = isNil s || startsSet s
 
--- the lines of a set, behind its first
+-- the form of a set's lines; whether the set is over is asked before each line but the first
 abbrev pub lineForm : Form
 lineForm = record { faults = lineFaults; piece = fieldAt; width = sizeAt; over = setOver; lead = lineLead; put = lineThen }
 

@@ -10,7 +10,7 @@ use Rattle.meaning.specs.Digits.{digits}
 use Rattle.meaning.specs.Field.{Field, field, isNil}
 use Rattle.meaning.specs.Refusals.{Spot, behind, Reply, refused, done, thenTo, refusal, verdict, withRoom, empty}
 use Rattle.meaning.specs.Pieces.{Parsed, pieces, putAll}
-use Rattle.meaning.specs.Lines.{lineSize, size, render}
+use Rattle.meaning.specs.Lines.{lineLead, lineEnd, lineSize, size, render}
 use Rattle.meaning.specs.Entries.{entryForm, entryLead, listSize}
 use Rattle.meaning.specs.Rules.{ruleFaults}
 use Rattle.meaning.specs.Reading.{read}
@@ -23,7 +23,7 @@ withoutSum [] = []
 withoutSum (f ∷ []) = f ∷ []
 withoutSum (f ∷ g ∷ fs) = f ∷ fs
 
--- "Index and list refuse as the set does, then by 22": the list of the set at the front of s, for `room` bytes
+-- "Index and list refuse as the set does, then by 22": the list of the set at the front of s, for `room` bytes; other sets may follow (B35)
 unfoldable pub list : List ℕ → ℕ → Reply (List ℕ)
 list s room =
     thenTo (read s) (λ d. withRoom (leb (listSize (withoutSum (d .fields))) room) (listSize (withoutSum (d .fields))) (putAll entryForm (withoutSum (d .fields)) []))
@@ -37,16 +37,17 @@ sumDigits = 5
 abbrev pub sumField : ℕ → Field
 sumField n = field 8100 (digits sumDigits n)
 
--- how many bytes its line has
+-- how many bytes the line of 8100 has
 abbrev pub sumLine : ℕ
-sumLine = 14
+sumLine = sumDigits + (lineLead + lineEnd)
 
 -- "The writer adds it as line 2", with "the sum of all line lengths of the set, its own included"
 abbrev pub withSum : List Field → List Field
 withSum [] = []
 withSum (f ∷ fs) = f ∷ sumField (lineSize f + (sumLine + size fs)) ∷ fs
 
--- "Places are offsets in the list": line k + 1 of the set is entry k of the list, for line 1 entry 1
+-- "Places are offsets in the list, of the entry's first byte, for 6 of the byte; the place for a missing set field is 0": the line that has k lines before it is the entry
+-- that has one fewer before it, since line 2 has none; line 1 is the first entry
 abbrev pub inList : List Field → ℕ → Spot → ℕ
 inList es k spot = listSize (take (pred k) es) + behind entryLead spot
 

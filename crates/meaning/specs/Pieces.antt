@@ -9,7 +9,7 @@ use Rattle.meaning.specs.Refusals.{Fault, behind, Reply, refused, done, 
 
 -- How one kind of piece is read off the front of some bytes, and written.
 pub record Form : Type 0 where
-  -- what is wrong with the piece at the front, in the paper's order
+  -- what is wrong with the piece at the front, in the paper's order; only the first is told
   pub faults : List ℕ → List Fault
   -- its field, and how many bytes it has
   pub piece : List ℕ → Field
@@ -29,6 +29,7 @@ pub record Parsed : Type 0 where
 abbrev pub parsed : List Field → List ℕ → Parsed
 parsed fs t = record { fields = fs; rest = t }
 
+-- the field of a piece before those that were read behind it
 abbrev pub andBefore : Field → Reply Parsed → Reply Parsed
 andBefore f (refused r) = refused r
 andBefore f (done d) = done (parsed (f ∷ d .fields) (d .rest))
@@ -38,7 +39,7 @@ abbrev pub pieceThen : Form → List Fault → ℕ → List ℕ → (ℕ → Lis
 pieceThen F [] at s k = andBefore (F .piece s) (k (at + F .width s) (drop (F .width s) s))
 pieceThen F (x ∷ xs) at s k = refused (refusal (x .no) (at + behind (F .lead) (x .spot)) (x .label))
 
--- the pieces from offset `at` on, in order; 7 where one more than n starts
+-- the pieces from offset `at` on, in order; 7, TooManyLines, where one more than n starts, also where that one is faulty (B2, B28)
 unfoldable pub pieces : Form → ℕ → ℕ → List ℕ → Reply Parsed
 pieces F zero at s = cond (F .over s) (done (parsed [] s)) (refused (refusal tooManyLines at 0))
 pieces F (suc n) at s = cond (F .over s) (done (parsed [] s)) (pieceThen F (F .faults s) at s (λ p t. pieces F n p t))

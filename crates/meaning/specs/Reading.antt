@@ -17,7 +17,7 @@ use Rattle.meaning.specs.Pieces.{Parsed, parsed, pieceThen, pieces}
 use Rattle.meaning.specs.Lines.{lineForm, lineFaults, lineLead, size, offset}
 use Rattle.meaning.specs.Rules.{profile, setFaults}
 
--- "A set starts at the first byte given", whatever its first line's label is; "a 513th line starts": 7
+-- "A set starts at the first byte given", whatever its first line's label is; 1, Empty: "a set or list of no bytes"; 7: "a 513th line starts"
 unfoldable pub scan : List ℕ → Reply Parsed
 scan s = cond (isNil s) (refused (refusal empty 0 0)) (pieceThen lineForm (lineFaults s) 0 s (λ p t. pieces lineForm (maxLines - 1) p t))
 
@@ -36,12 +36,14 @@ read s = byRules (scan s)
 
 -- ---- what judging answers
 
+-- the number of a set type, 0 for none
 abbrev pub kindNumber : Known → ℕ
 kindNumber (Of t) = typeNumber t
 kindNumber Nothing = 0
 
+-- "a read answers the set's length", and its lines and type
 abbrev pub shape : List Field → Shape
-shape fs = record { length = size fs; lines = length fs; kind = kindNumber (profile fs .kind) }
+shape fs = record { length = size fs; lines = length fs; kind = kindNumber (profile fs .setType) }
 
 abbrev pub judged : Reply Parsed → Judged
 judged (refused r) = Refused r

@@ -86,8 +86,9 @@ pub data Spot : Type 0 where
   start : Spot
   byte : ℕ → Spot
 
--- A fault: its number, how many lines stand before the line concerned, where in that line, and the label concerned or 0.
--- It has no offset yet: reader, writer, correction and view each turn it into a place of their own.
+-- A fault: its number, how many lines stand before the line concerned, where in that line, and the label concerned ("11 to 16 and 20 carry the label
+-- concerned, and so does 14 from a correction"; else 0). It has no offset yet: reader, writer, correction and view each turn it into a place of their own.
+-- A fault that a form finds in one line or entry by itself (Pieces) names no lines before it: the scanner knows where that piece stands.
 pub record Fault : Type 0 where
   pub no : ℕ
   pub line : ℕ
@@ -124,12 +125,13 @@ abbrev pub thenTo : {A B : Type 0} → Reply A → (A → Reply B) → Reply B
 thenTo (refused r) k = refused r
 thenTo (done a) k = k a
 
--- "So the first fault in this order is the answer, and a refusal is given only for it": `place` turns lines before and spot into the place
+-- "So the first fault in this order is the answer, and a refusal is given only for it": `place` turns lines before and spot into the place. A test that comes
+-- later in a list may rely on those before it; only the first fault of a list is told.
 abbrev pub verdict : {A : Type 0} → (ℕ → Spot → ℕ) → List Fault → A → Reply A
 verdict place [] a = done a
 verdict place (x ∷ xs) a = refused (refusal (x .no) (place (x .line) (x .spot)) (x .label))
 
--- 22: done where the need is at most what is lent; "place: the need"
+-- 22, NoRoom: "output needs more than is lent; place: the need": done where the test says that there is room
 abbrev pub withRoom : {A : Type 0} → Bool → ℕ → A → Reply A
 withRoom true need a = done a
 withRoom false need a = refused (refusal noRoom need 0)

@@ -1,5 +1,5 @@
 -- "Numbered replies", 8 to 17, over the lines of a set, in the paper's order.
--- Assumes nothing: these are definitions. They see three things only: the profile, the labels, and each content by itself.
+-- Assumes nothing: these are definitions. 8 to 16 see three things only: the profile, the labels, and each content by itself. 17 sees line 2 and all lengths.
 use mathlib.Core.Bool.{Bool, true, false, cond, not, _&&_, _||_}
 use mathlib.Core.List.{List, [], _∷_, _++_}
 use Prim.Native.Nat.{ℕ, _+_}
@@ -16,27 +16,32 @@ use Rattle.meaning.specs.Refusals.{Fault, atLine, ask, noStart, unknownS
 use Rattle.meaning.specs.Kinds.{is0210}
 use Rattle.meaning.specs.FieldTable.{fitsLabel}
 use Rattle.meaning.specs.Tables.{table, find}
-use Rattle.meaning.specs.Groups.{State, first, Role, unknown, strayed, plain, member, role, next, placeFaults}
-use Rattle.meaning.specs.Missing.{ascending, missingFaults}
+use Rattle.meaning.specs.Groups.{State, first, Role, unknown, strayed, atSetLevel, member, role, next, labelFaults}
+use Rattle.meaning.specs.Missing.{missingFaults}
 
 -- ---- the profile: what the contents of the fixed lines choose
 
--- the set type that a content of 8000 names: four digits, the number of one of the five
-unfoldable pub typeNamed : List ℕ → Known
-typeNamed c = cond (eqb (length c) 4 && allDigits c) (typeOf (number c)) Nothing
+-- the set type that a content of 8000 names: four digits that are the number of one of the five
+abbrev pub typeDigits : ℕ
+typeDigits = 4
 
+unfoldable pub typeNamed : List ℕ → Known
+typeNamed c = cond (eqb (length c) typeDigits && allDigits c) (typeOf (number c)) Nothing
+
+-- now the set type alone
 pub record Profile : Type 0 where
-  pub kind : Known
+  pub setType : Known
 
 unfoldable pub profile : List Field → Profile
-profile fs = record { kind = typeNamed (contentAtLine fs 0) }
+profile fs = record { setType = typeNamed (contentAtLine fs 0) }
 
+-- the rows that a set of this profile is judged by; none where 9 is given
 abbrev pub tableOf : Known → List Row
 tableOf (Of t) = table t
 tableOf Nothing = []
 
 abbrev pub rowsOf : Profile → List Row
-rowsOf p = tableOf (p .kind)
+rowsOf p = tableOf (p .setType)
 
 -- ---- 8, 9, 10
 
@@ -49,8 +54,9 @@ isKnown (Of t) = true
 isKnown Nothing = false
 
 abbrev pub typeKnown : List Field → Bool
-typeKnown fs = isKnown (profile fs .kind)
+typeKnown fs = isKnown (profile fs .setType)
 
+-- "Line 1 is 8000, line 2 is 8100; the other set-level lines stand in any order."
 -- 8, NoStart: "line 1 is not 8000"; 9, UnknownSet: "8000 names none of the five"; 10, NoSum: "line 2 is absent (place: set length) or not 8100"
 unfoldable pub startFaults : List Field → List Fault
 startFaults fs =
@@ -60,11 +66,11 @@ startFaults fs =
 
 -- ---- 11 to 15: "then all lines, in order, each by 11, 12, 13, 14, 15"
 
--- a field whose content fits its label
+-- a field whose content fits its label, by the rules of this profile
 unfoldable pub fits : Profile → Field → Bool
 fits p f = fitsLabel (f .label) (f .content)
 
--- a field that is not 9218, or is the version that is read
+-- a field that is not 9218, or is the version that is read, by the rules of this profile
 unfoldable pub current : Profile → Field → Bool
 current p f = not (eqb (f .label) 9218) || is0210 (f .content)
 
@@ -72,15 +78,15 @@ current p f = not (eqb (f .label) 9218) || is0210 (f .content)
 unfoldable pub contentFaults : Profile → ℕ → Field → List Fault
 contentFaults p k f = cond (fits p f) (ask (current p f) (atLine otherVersion k (f .label))) (atLine badContent k (f .label) ∷ [])
 
--- a label that is not in the table has no content to judge
-unfoldable pub judgedContent : Role → Profile → ℕ → Field → List Fault
-judgedContent unknown p k f = []
-judgedContent strayed p k f = contentFaults p k f
-judgedContent (plain r) p k f = contentFaults p k f
-judgedContent (member r) p k f = contentFaults p k f
+-- the content of a label that is not in the table is not judged
+unfoldable pub contentRules : Role → Profile → ℕ → Field → List Fault
+contentRules unknown p k f = []
+contentRules strayed p k f = contentFaults p k f
+contentRules (atSetLevel r) p k f = contentFaults p k f
+contentRules (member r) p k f = contentFaults p k f
 
 unfoldable pub lineRules : Role → Profile → State → ℕ → Field → List Fault
-lineRules o p st k f = placeFaults o st k (f .label) ++ judgedContent o p k f
+lineRules o p st k f = labelFaults o st k (f .label) ++ contentRules o p k f
 
 -- the role of a field's line behind a state
 abbrev pub roleIn : Profile → State → Field → Role
@@ -92,7 +98,7 @@ rulesFrom p st k (f ∷ fs) = lineRules (roleIn p st f) p st k f ++ rulesFrom p 
 
 -- ---- 17
 
--- BadSum: "8100 is not the set's length", "place of line 2"; "the sum of all line lengths of the set, its own included"
+-- BadSum: "8100 is not the set's length", "place of line 2". "8100 has five digits, the sum of all line lengths of the set, its own included."
 unfoldable pub sumFaults : List Field → List Fault
 sumFaults fs = ask (eqb (number (contentAtLine fs 1)) (size fs)) (atLine badSum 1 0)
 
@@ -103,7 +109,7 @@ unfoldable pub ruleFaults : List Field → List Fault
 ruleFaults fs =
     startFaults fs
     ++ (rulesFrom (profile fs) first 0 fs
-    ++ missingFaults (ascending (rowsOf (profile fs))) (labels fs))
+    ++ missingFaults (rowsOf (profile fs)) (labels fs))
 
 -- "then 17": the reader's alone, since the writer computes the sum
 unfoldable pub setFaults : List Field → List Fault

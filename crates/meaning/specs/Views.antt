@@ -2,6 +2,7 @@
 -- Assumes nothing: these are definitions. "entries as above, kind is the line number, the last for a line counts".
 use mathlib.Core.Bool.{Bool, cond}
 use mathlib.Core.List.{List, [], _∷_, _++_}
+use mathlib.Core.Option.{Option, none, some}
 use Prim.Native.Nat.{ℕ, pred, _+_}
 use lib.ListN.{length, take, drop}
 use lib.Dec.{eqb}
@@ -27,51 +28,57 @@ sheetEntryFaults fs s = ask (entryWhole s) (atLine badList 0 0) ++ changeFaults 
 abbrev pub sheetForm : List Field → Form
 sheetForm fs = record { faults = sheetEntryFaults fs; piece = entryField; width = entryWidth; over = isNil; lead = entryLead; put = entryThen }
 
--- a sheet has no limit of its own, and never more entries than bytes
+-- a sheet has no limit of its own, and never more entries than bytes; "a sheet may be empty"; every entry is judged, also one that a later one overrides (B40)
 abbrev pub sheet : List Field → List ℕ → Reply Parsed
 sheet fs h = pieces (sheetForm fs) (length h) 0 h
 
 -- ---- what is shown
 
+-- a pending content, and its place in the sheet
+pub record Pending : Type 0 where
+  pub place : ℕ
+  pub content : List ℕ
+
+-- "the last for a line counts": of the entries from offset `at` of the sheet on the last for line n, else `found`
+unfoldable pub latest : ℕ → ℕ → List Field → Option Pending → Option Pending
+latest n at [] found = found
+latest n at (e ∷ es) found =
+    latest n (at + (entryLead + length (e .content))) es (cond (eqb (e .label) n) (some (record { place = at + entryLead; content = e .content })) found)
+
 abbrev pub part : ℕ → ℕ → Part
 part p n = record { place = p; length = n }
 
--- "the last for a line counts": what line n shows under the entries from offset `at` of the sheet on, where `v` is shown without them
-unfoldable pub latest : ℕ → ℕ → List Field → Viewed → Viewed
-latest n at [] v = v
-latest n at (e ∷ es) v =
-    latest n (at + (entryLead + length (e .content))) es (cond (eqb (e .label) n) (Sheet (part (at + entryLead) (length (e .content)))) v)
-
--- the content of line n in the set
-abbrev pub standing : List Field → ℕ → Viewed
-standing fs n = Set (part (offset fs (pred n) + lineLead) (length (contentAtLine fs (pred n))))
+-- "the answer is the part of the sheet if the line has an entry there, else the part of the set, with a flag for which. Line 2 is shown as the set has it"
+abbrev pub shownPart : List Field → ℕ → Option Pending → Viewed
+shownPart fs n (some q) = Sheet (part (q .place) (length (q .content)))
+shownPart fs n none = Set (part (offset fs (pred n) + lineLead) (length (contentAtLine fs (pred n))))
 
 -- "The set alone must fill its slice (18). Order: set, 18, the asked line (19), then each sheet entry"
 unfoldable pub viewing : List ℕ → List ℕ → ℕ → Reply Viewed
 viewing s h n =
     thenTo (read s) (λ d.
     thenTo (verdict (inSet (d .fields)) (aloneFaults d ++ lineNumberFaults (d .fields) n) (d .fields)) (λ fs.
-    thenTo (sheet fs h) (λ e. done (latest n 0 (e .fields) (standing fs n)))))
+    thenTo (sheet fs h) (λ e. done (shownPart fs n (latest n 0 (e .fields) none)))))
 
-abbrev pub shown : Reply Viewed → Viewed
-shown (refused r) = Refused r
-shown (done v) = v
+abbrev pub viewAnswer : Reply Viewed → Viewed
+viewAnswer (refused r) = Refused r
+viewAnswer (done v) = v
 
--- "the answer is the part of the sheet if the line has an entry there, else the part of the set, with a flag for which"
 unfoldable pub viewed : List ℕ → List ℕ → ℕ → Viewed
-viewed s h n = shown (viewing s h n)
+viewed s h n = viewAnswer (viewing s h n)
 
 -- ---- the part itself
 
+-- the bytes of a part
 abbrev pub partOf : Part → List ℕ → List ℕ
 partOf q s = take (q .length) (drop (q .place) s)
 
 -- "A refusal comes with an empty part of the set, flagged as the set's."
-abbrev pub seen : List ℕ → List ℕ → Viewed → List ℕ
-seen s h (Sheet q) = partOf q h
-seen s h (Set q) = partOf q s
-seen s h (Refused r) = []
+abbrev pub shownBytes : List ℕ → List ℕ → Viewed → List ℕ
+shownBytes s h (Sheet q) = partOf q h
+shownBytes s h (Set q) = partOf q s
+shownBytes s h (Refused r) = []
 
 -- "Reply and part may be answered by two calls on the same input."
 unfoldable pub view : List ℕ → List ℕ → ℕ → List ℕ
-view s h n = seen s h (viewed s h n)
+view s h n = shownBytes s h (viewed s h n)
