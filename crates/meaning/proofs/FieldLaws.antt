@@ -36,7 +36,7 @@ allWithin (x ∷ xs) = within x && allWithin xs
 row-within : (xs : List FieldRow) (l : ℕ) → allWithin xs ≡ true → within (fieldRowIn xs l) ≡ true
 unfolding fieldRowIn
 row-within [] l e = refl
-row-within (x ∷ xs) l e = pick (eqb (x .label) l) (and-left (within x) _ e) (row-within xs l (and-right (within x) _ e))
+row-within (x ∷ xs) l e = pick (eqb l (x .label)) (and-left (within x) _ e) (row-within xs l (and-right (within x) _ e))
   where
     pick : (b : Bool) → within x ≡ true → within (fieldRowIn xs l) ≡ true → within (cond b x (fieldRowIn xs l)) ≡ true
     pick true p q = p

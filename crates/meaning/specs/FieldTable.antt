@@ -99,7 +99,7 @@ noRow = record { label = 0; lengths = record { least = 1; most = 0 }; kind = aln
 
 unfoldable pub fieldRowIn : List FieldRow → ℕ → FieldRow
 fieldRowIn [] l = noRow
-fieldRowIn (x ∷ xs) l = let rest = fieldRowIn xs l in cond (eqb (x .label) l) x rest
+fieldRowIn (x ∷ xs) l = let rest = fieldRowIn xs l in cond (eqb l (x .label)) x rest
 
 unfoldable pub fieldRow : ℕ → FieldRow
 fieldRow l = fieldRowIn fieldTable (rowLabel l)

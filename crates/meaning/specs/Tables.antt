@@ -202,7 +202,7 @@ rowLabel l = cond (isPairLabel l) (6330 + l % 2) l
 
 unfoldable pub findIn : List Row → ℕ → Option Row
 findIn [] l = none
-findIn (r ∷ rs) l = let rest = findIn rs l in cond (eqb (r .label) l) (some r) rest
+findIn (r ∷ rs) l = let rest = findIn rs l in cond (eqb l (r .label)) (some r) rest
 
 -- the row of a label in a set's table; none: the label is "not in the set's table"
 unfoldable pub find : List Row → ℕ → Option Row
