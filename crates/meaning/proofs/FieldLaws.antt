@@ -10,9 +10,10 @@ use lib.ListN.{length}
 use borrow.Author.Tests.{leb-true}
 use Rattle.meaning.specs.Digits.{digits, allDigits}
 use Rattle.meaning.specs.Field.{Field, field}
+use Rattle.meaning.specs.declared.FieldRow.{FieldRow}
 use Rattle.meaning.specs.Tables.{rowLabel}
 use Rattle.meaning.specs.Kinds.{isNum, ofKind}
-use Rattle.meaning.specs.FieldTable.{FieldRow, Lengths, fieldTable, fieldRowIn, fieldRow, hasLength, fitsRow, fitsLabel}
+use Rattle.meaning.specs.FieldTable.{fieldTable, fieldRowIn, fieldRow, hasLength, fitsRow, fitsLabel}
 use Rattle.meaning.specs.Rules.{Profile, fits}
 use Rattle.meaning.proofs.Bools.{and-left, and-right}
 use Rattle.meaning.proofs.DigitLaws.{digits-all}
@@ -27,7 +28,7 @@ pub record Short (c : List ℕ) : Type 0 where
   pub few-bytes : length c ≤ longest
 
 abbrev within : FieldRow → Bool
-within x = leb 1 (x .lengths .least) && leb (x .lengths .most) longest
+within x = leb 1 (x .least) && leb (x .most) longest
 
 abbrev allWithin : List FieldRow → Bool
 allWithin [] = true
@@ -45,11 +46,11 @@ row-within (x ∷ xs) l e = pick (eqb l (x .label)) (and-left (within x) _ e) (r
 fits-row-short : (x : FieldRow) (c : List ℕ) → within x ≡ true → fitsRow x c ≡ true → Short c
 unfolding fitsRow hasLength
 fits-row-short x c w m =
-    let a : 1 ≤ x .lengths .least = leb-true 1 _ (and-left (leb 1 (x .lengths .least)) _ w) in
-    let b : x .lengths .most ≤ longest = leb-true _ longest (and-right (leb 1 (x .lengths .least)) _ w) in
-    let s = and-left (leb (x .lengths .least) (length c) && leb (length c) (x .lengths .most)) _ m in
-    let p : x .lengths .least ≤ length c = leb-true _ (length c) (and-left (leb (x .lengths .least) (length c)) _ s) in
-    let q : length c ≤ x .lengths .most = leb-true (length c) _ (and-right (leb (x .lengths .least) (length c)) _ s) in
+    let a : 1 ≤ x .least = leb-true 1 _ (and-left (leb 1 (x .least)) _ w) in
+    let b : x .most ≤ longest = leb-true _ longest (and-right (leb 1 (x .least)) _ w) in
+    let s = and-left (leb (x .least) (length c) && leb (length c) (x .most)) _ m in
+    let p : x .least ≤ length c = leb-true _ (length c) (and-left (leb (x .least) (length c)) _ s) in
+    let q : length c ≤ x .most = leb-true (length c) _ (and-right (leb (x .least) (length c)) _ s) in
     record { some-byte = omega arith; few-bytes = omega arith }
 
 pub fits-short : (p : Profile) (f : Field) → fits p f ≡ true → Short (f .content)

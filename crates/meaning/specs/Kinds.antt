@@ -5,11 +5,10 @@ use mathlib.Core.List.{List, [], _∷_, _++_, map}
 use Prim.Native.Nat.{ℕ, _+_, _-_, _*_}
 use lib.ListN.{drop, getD}
 use lib.Dec.{leb, eqb}
+use Rattle.meaning.specs.declared.Kind.{Kind}
+use Rattle.meaning.specs.declared.Kind.the-variants.{Alnum, Num, Float, Rule020, Rule008, Rule090, Rule112, Rule116, Charset, Version}
 use Rattle.meaning.specs.Digits.{digits, digit, digitZero, allDigits}
 use Rattle.meaning.specs.Field.{elem}
-
-pub data Kind : Type 0 where
-  alnum num float rule020 rule008 rule090 rule112 rule116 charset version : Kind
 
 -- "alnum: any content bytes."
 unfoldable pub isAlnum : List ℕ → Bool
@@ -105,13 +104,13 @@ is0210 c = sameBytes c (digits 2 2 ++ (point ∷ digits 2 10))
 -- ---- each kind with its test
 
 unfoldable pub ofKind : Kind → List ℕ → Bool
-ofKind alnum c = isAlnum c
-ofKind num c = isNum c
-ofKind float c = isFloat c
-ofKind rule020 c = isRule020 c
-ofKind rule008 c = isRule008 c
-ofKind rule090 c = isRule090 c
-ofKind rule112 c = isRule112 c
-ofKind rule116 c = isRule116 c
-ofKind charset c = isCharset c
-ofKind version c = isVersion c
+ofKind Alnum c = isAlnum c
+ofKind Num c = isNum c
+ofKind Float c = isFloat c
+ofKind Rule020 c = isRule020 c
+ofKind Rule008 c = isRule008 c
+ofKind Rule090 c = isRule090 c
+ofKind Rule112 c = isRule112 c
+ofKind Rule116 c = isRule116 c
+ofKind Charset c = isCharset c
+ofKind Version c = isVersion c

@@ -166,6 +166,38 @@ pub struct Row {
     pub required: bool,
 }
 
+// A content kind: which test a content must pass, beside its length.
+pub enum Kind {
+    // Any content bytes.
+    Alnum,
+    // Digits only.
+    Num,
+    // A decimal number, with or without sign and point.
+    Float,
+    // 3103: a date whose day and month may be 00.
+    Rule020,
+    // A date.
+    Rule008,
+    // A time.
+    Rule090,
+    // 3110: 1 or 2.
+    Rule112,
+    // 3108: 1, 3 or 5.
+    Rule116,
+    // 9206: 1, 2 or 3.
+    Charset,
+    // 9218: two digits, point, two digits.
+    Version,
+}
+
+// A row of the field table: a label, the least and the most bytes of its content, and the content's kind.
+pub struct FieldRow {
+    pub label: usize,
+    pub least: usize,
+    pub most: usize,
+    pub kind: Kind,
+}
+
 // What an accepted set is: its length in bytes, its lines, the number of its type.
 pub struct Shape {
     pub length: usize,
