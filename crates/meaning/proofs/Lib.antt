@@ -18,3 +18,5 @@ pub mod Demands
 pub mod NumberLaws
 pub mod Decided
 pub mod TableLaws
+pub mod FieldExamples
+pub mod RowExamples
