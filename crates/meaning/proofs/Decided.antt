@@ -139,7 +139,9 @@ lists =
     -- a set's list, and the set of that list, with zeros behind
     example (listing p 26) (holds 22 (entriesOf pLines ++ replicate 4 0))
     ∷ example (writing (entriesOf pLines) 53) (holds 51 (p ++ replicate 2 0))
-    -- B33: the needs
+    -- B33: the needs, and room for just so much
+    ∷ example (listing p 22) (holds 22 (entriesOf pLines))
+    ∷ example (writing (entriesOf pLines) 51) (holds 51 p)
     ∷ example (listing p 21) (refusedBy 22 22 0)
     ∷ example (writing (entriesOf pLines) 50) (refusedBy 22 51 0)
     -- 1 before all; B28: entry by entry
