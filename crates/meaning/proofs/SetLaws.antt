@@ -88,7 +88,7 @@ later : (fs : List Field) → Every Sound fs → Every NoStart fs → Every Late
 later [] h k = tt
 later (f ∷ fs) h k = ((h .0, k .0), later fs (h .1) (k .1))
 
-later-sound : (fs : List Field) → Every LaterLine fs → Every Sound fs
+pub later-sound : (fs : List Field) → Every LaterLine fs → Every Sound fs
 later-sound [] h = tt
 later-sound (f ∷ fs) h = (h .0 .0, later-sound fs (h .1))
 
@@ -132,7 +132,7 @@ accepted s d e = go (scan s) refl e
 
 -- ---- line 2 of an accepted set is the sum, and nothing else
 
-second-fits : (p : Profile) (f g : Field) (fs : List Field) → rulesFrom p first 0 (f ∷ g ∷ fs) ≡ [] → fits p g ≡ true
+pub second-fits : (p : Profile) (f g : Field) (fs : List Field) → rulesFrom p first 0 (f ∷ g ∷ fs) ≡ [] → fits p g ≡ true
 unfolding rulesFrom
 second-fits p f g fs e =
     let st : State = next (roleIn p first f) first 0 (f .label) in

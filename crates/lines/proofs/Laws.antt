@@ -1,0 +1,143 @@
+-- The walks of specs/ step by step: one law for each way that the code takes.
+-- Assumes nothing.
+use mathlib.Core.Path.{_≡_, refl, sym}
+use mathlib.Core.Bool.{Bool, true, false, cond, _&&_}
+use mathlib.Core.List.{List, _∷_}
+use Prim.Native.Nat.{ℕ, zero, suc, _+_, _-_, _*_, _^_, _≤_, _<_}
+use native.Mathlib.Omega.{arith}
+use native.Mathlib.Numerals.{add-one}
+use native.Mathlib.Nat.{pow-suc, pow-le-pow-right, lt-of-lt-of-le}
+use lib.Dec.{leb, lit<}
+use lib.ListN.{length, getD, drop}
+use lib.Seq.{drop-cons}
+use borrow.Author.Tests.{leb-true, le-leb, lt-leb, eq-eqb, ne-eqb}
+use Rattle.meaning.specs.declared.Refusal.{Refusal}
+use Rattle.meaning.specs.Limits.{maxLines}
+use Rattle.meaning.specs.Digits.{digitZero, digitNine}
+use Rattle.meaning.specs.Refusals.{refusal, badLength, tooManyLines}
+use Rattle.meaning.specs.Lines.{minLineBytes, leastByte}
+use Rattle.meaning.proofs.Bools.{and-right}
+use Rattle.lines.specs.declared.Number.the-variants.{Is, None}
+use Rattle.lines.specs.declared.Line.{Line}
+use Rattle.lines.specs.declared.Line.the-variants.{Read}
+use Rattle.lines.specs.declared.Scan.the-variants.{Done, Refused}
+use Rattle.lines.specs.Number.{numberFrom, numberAt, mostDigits}
+use Rattle.lines.specs.Line.{must, firstLow, sizedLine, lineAt}
+use Rattle.lines.specs.Scan.{endsAt, scanFrom}
+
+-- what a branch of the code knows, as the tests of the walks have it
+pub ruleset tests = (le-leb, lt-leb, eq-eqb, ne-eqb)
+
+-- ---- tests, numbers and lists, with no line in them
+
+-- two tests that hold at the same time are one
+pub test-same : (a b : Bool) → (a ≡ true → b ≡ true) → (b ≡ true → a ≡ true) → a ≡ b
+test-same true b f g = sym (f refl)
+test-same false true f g = g refl
+test-same false false f g = refl
+
+-- at an offset within the bytes stands a byte, and then the others
+pub byte-then : (s : List ℕ) (at : ℕ) → at < length s → drop at s ≡ getD s at 0 ∷ drop (at + 1) s
+byte-then s at h = rw add-one (drop-cons s at 0 h)
+
+-- what is left, e - i, is one more than what is left after one turn, or nothing
+one-more : {i e : ℕ} → i < e → e - i ≡ suc (e - (i + 1))
+one-more h = omega arith
+
+none-left : {i e : ℕ} → e ≤ i → e - i ≡ 0
+none-left h = omega arith
+
+-- a number of at most eight digits has room for one more digit
+pub digits-small : {n j : ℕ} → j ≤ 8 → n < 10 ^ j → n < 100000000
+digits-small h b = lt-of-lt-of-le b (pow-le-pow-right (lit< tt) h)
+
+-- a number of so many digits has one digit more behind the next one
+pub digits-grow : {n d at i : ℕ} → at ≤ i → n < 10 ^ (i - at) → d ≤ 9 → n * 10 + d < 10 ^ (i + 1 - at)
+digits-grow {n} {d} {at} {i} h b g =
+    let q : i + 1 - at ≡ suc (i - at) = omega arith in
+    rw (q, pow-suc) (omega arith)
+
+-- ---- a number: no number where the bytes are too many or not all there, else their digits
+
+module _ (s : List ℕ) (at k : ℕ) where
+  pub number-long : mostDigits < k → numberAt s at k ≡ None
+  unfolding numberAt
+  number-long h = search tests
+
+  pub number-cut : k ≤ mostDigits → length s < at + k → numberAt s at k ≡ None
+  unfolding numberAt
+  number-cut g h = search tests
+
+  pub number-there : k ≤ mostDigits → at + k ≤ length s → numberAt s at k ≡ numberFrom s 0 at k
+  unfolding numberAt
+  number-there g h = search tests
+
+  -- the bytes of a number that was read are there
+  pub number-within : {n : ℕ} → numberAt s at k ≡ Is n → at + k ≤ length s
+  unfolding numberAt
+  number-within {n} e = go (leb k mostDigits && leb (at + k) (length s)) refl e
+    where
+      go : (b : Bool) → leb k mostDigits && leb (at + k) (length s) ≡ b → cond b (numberFrom s 0 at k) None ≡ Is n → at + k ≤ length s
+      go true q h = leb-true (at + k) (length s) (and-right (leb k mostDigits) _ q)
+      go false q h = let z : _≡_ {A = ℕ} 0 1 = cc in absurd (omega arith)
+
+-- its digits, one byte more; where no byte is left
+module _ (s : List ℕ) (n i e : ℕ) (h : i < e) where
+  pub digit-below : getD s i 0 < digitZero → numberFrom s n i (e - i) ≡ None
+  unfolding numberFrom
+  digit-below b = rw (one-more h) (search tests)
+
+  pub digit-above : digitZero ≤ getD s i 0 → digitNine < getD s i 0 → numberFrom s n i (e - i) ≡ None
+  unfolding numberFrom
+  digit-above a b = rw (one-more h) (search tests)
+
+  pub digit-further : digitZero ≤ getD s i 0 → getD s i 0 ≤ digitNine
+      → numberFrom s n i (e - i) ≡ numberFrom s (n * 10 + (getD s i 0 - digitZero)) (i + 1) (e - (i + 1))
+  unfolding numberFrom
+  digit-further a b = rw (one-more h) (search tests)
+
+pub digits-end : (s : List ℕ) (n i e : ℕ) → e ≤ i → numberFrom s n i (e - i) ≡ Is n
+unfolding numberFrom
+digits-end s n i e h = rw (none-left h)
+
+-- ---- the first byte under 20h, one byte more; where no byte is left
+
+module _ (s : List ℕ) (i e : ℕ) (h : i < e) where
+  pub low-here : getD s i 0 < leastByte → firstLow s i (e - i) ≡ i
+  unfolding firstLow
+  low-here b = rw (one-more h) (search tests)
+
+  pub low-further : leastByte ≤ getD s i 0 → firstLow s i (e - i) ≡ firstLow s (i + 1) (e - (i + 1))
+  unfolding firstLow
+  low-further b = rw (one-more h) (search tests)
+
+pub low-end : (s : List ℕ) (i e : ℕ) → e ≤ i → firstLow s i (e - i) ≡ i
+unfolding firstLow
+low-end s i e h = rw (none-left h)
+
+-- ---- a line, by its length
+
+pub line-short : (s : List ℕ) (at n : ℕ) → n < minLineBytes → sizedLine s at n ≡ Line.Refused (refusal badLength at 0)
+unfolding must sizedLine
+line-short s at n h = search tests
+
+-- ---- the scan with n lines behind it: the set ends, a 513th line starts, the line is refused, the line is read
+
+module _ (s : List ℕ) (at n : ℕ) where
+  pub scan-done : (k : ℕ) → endsAt s at ≡ true → scanFrom s at n k ≡ Done at n
+  unfolding scanFrom
+  scan-done zero e = rw e
+  scan-done (suc k) e = rw e
+
+  pub scan-full : maxLines ≤ n → endsAt s at ≡ false → scanFrom s at n (maxLines - n) ≡ Refused (refusal tooManyLines at 0)
+  unfolding scanFrom
+  scan-full h e = rw (none-left h, e)
+
+  module _ (h : n < maxLines) (e : endsAt s at ≡ false) where
+    pub scan-bad : {r : Refusal} → lineAt s at ≡ Line.Refused r → scanFrom s at n (maxLines - n) ≡ Refused r
+    unfolding scanFrom
+    scan-bad l = rw (one-more h, e, l)
+
+    pub scan-further : {label size : ℕ} → lineAt s at ≡ Read label size → scanFrom s at n (maxLines - n) ≡ scanFrom s (at + size) (n + 1) (maxLines - (n + 1))
+    unfolding scanFrom
+    scan-further l = rw (one-more h, e, l)

@@ -1,0 +1,298 @@
+// One line of a set at an offset, where a set ends, and the scan of a set's lines: 1 to 7 of the paper's replies.
+// Assumes nothing of the bytes or the offset: each contract cites a walk of specs/, and proofs/Bridge says what the walks mean.
+ghost use mathlib.Core.Path.{_≡_};
+ghost use mathlib.Core.Bool.{true};
+ghost use Prim.Native.Nat.{_+_, _-_, _≤_};
+ghost use lib.ListN.{length};
+ghost use Rattle.meaning.specs.Limits.{maxLines};
+ghost use Rattle.meaning.specs.Refusals.{refusal};
+ghost use Rattle.meaning.specs.Lines.{minLineBytes};
+ghost use Rattle.lines.specs.Number.{numberAt};
+ghost use Rattle.lines.specs.Line.{firstLow, labelledLine, sizedLine, lineAt};
+ghost use Rattle.lines.specs.Scan.{endsAt, scanFrom, scanSet};
+use meaning::Refusal;
+use meaning::SetType;
+
+// "A line is three digits (its whole length), four digits (label), content, 0Dh 0Ah."
+const LENGTH_DIGITS: usize = 3;
+
+const LABEL_DIGITS: usize = 4;
+
+const CR: u8 = 13;
+
+const LF: u8 = 10;
+
+// The bytes before a content.
+pub const LINE_LEAD: usize = LENGTH_DIGITS + LABEL_DIGITS;
+
+// The bytes behind a content.
+const LINE_END: usize = 2;
+
+// "Length = content + 9."
+pub const LINE_FRAME: usize = LINE_LEAD + LINE_END;
+
+// "Content has 1 byte or more, so lengths run 010 to 999."
+const MIN_LINE_BYTES: usize = LINE_FRAME + 1;
+
+// "Content bytes are 20h to FFh."
+const LEAST_BYTE: u8 = 32;
+
+const MOST_BYTE: u8 = 255;
+
+// "Digits" are 30h to 39h.
+const DIGIT_ZERO: u8 = b'0';
+
+const DIGIT_NINE: u8 = b'9';
+
+// So many digits write no number that is too large for a usize.
+const MOST_DIGITS: usize = 9;
+
+// What the bytes of a number write.
+pub enum Number {
+    // They are digits, and this is their number.
+    Is(usize),
+    // One of them is no digit, they are not all there, or they are too many.
+    None,
+}
+
+// What reading one line finds.
+pub enum Line {
+    // The line keeps 2 to 6: its label and its whole length.
+    Read { label: usize, size: usize },
+    // The first of 2 to 6 that it breaks.
+    Refused(Refusal),
+}
+
+// What scanning the lines of a set finds.
+pub enum Scan {
+    // All lines keep 1 to 7: the set's length in bytes, and its lines.
+    Done { length: usize, lines: usize },
+    // The first of 1 to 7 that is broken.
+    Refused(Refusal),
+}
+
+// The number that the k bytes at an offset write, for k up to nine.
+pub fn number_at(s: &[u8], at: usize, k: usize) -> Number
+    ensures { λ r. ⌜ r ≡ numberAt (now (s .entry)) at k ⌝ }
+{
+    if MOST_DIGITS < k {
+        return Number::None;
+    }
+    if s.len() < at {
+        return Number::None;
+    }
+    if s.len() - at < k {
+        return Number::None;
+    }
+    let end = at + k;
+    let mut i = at;
+    let mut number: usize = 0;
+    while i < end {
+        let b = s[i];
+        if b < DIGIT_ZERO {
+            return Number::None;
+        }
+        if DIGIT_NINE < b {
+            return Number::None;
+        }
+        number = number * 10 + (b - DIGIT_ZERO) as usize;
+        i += 1;
+    }
+    Number::Is(number)
+}
+
+// A refusal of a line: "the label 0, unless said otherwise".
+fn refused(no: usize, place: usize) -> Line
+    ensures { λ r. ⌜ r ≡ Line.Refused (refusal no place 0) ⌝ }
+{
+    Line::Refused(Refusal {
+        no,
+        place,
+        label: 0,
+    })
+}
+
+// One of two bytes that is not over either.
+fn lesser(a: u8, b: u8) -> u8
+    ensures { λ r. ⌜ (r ≤ a) × (r ≤ b) ⌝ }
+{
+    if a < b {
+        return a;
+    }
+    b
+}
+
+// None of the k bytes at an offset is under 20h. A content without a fault is the rule, so the loop looks at every byte and has no way out: it is
+// then done many bytes at a time.
+fn clean(s: &[u8], at: usize, k: usize) -> bool
+    requires { ⌜ at + k ≤ length (now s) ⌝ }
+    ensures { λ r. ⌜ (r ≡ true → firstLow (now (s .entry)) at k ≡ at + k) ⌝ }
+{
+    let end = at + k;
+    let mut i = at;
+    let mut least = MOST_BYTE;
+    while i < end {
+        least = lesser(s[i], least);
+        i += 1;
+    }
+    if least < LEAST_BYTE {
+        return false;
+    }
+    true
+}
+
+// The offset of the first byte under 20h among the k bytes at an offset, or the offset behind them.
+fn seek_low(s: &[u8], at: usize, k: usize) -> usize
+    requires { ⌜ at + k ≤ length (now s) ⌝ }
+    ensures { λ r. ⌜ r ≡ firstLow (now (s .entry)) at k ⌝ }
+{
+    let end = at + k;
+    let mut i = at;
+    while i < end {
+        if s[i] < LEAST_BYTE {
+            return i;
+        }
+        i += 1;
+    }
+    i
+}
+
+// The same offset, and the bytes are searched one by one only where one of them is under 20h.
+fn first_low(s: &[u8], at: usize, k: usize) -> usize
+    requires { ⌜ at + k ≤ length (now s) ⌝ }
+    ensures { λ r. ⌜ r ≡ firstLow (now (s .entry)) at k ⌝ }
+{
+    if clean(s, at, k) {
+        return at + k;
+    }
+    seek_low(s, at, k)
+}
+
+// The line at an offset whose length and label are read.
+fn labelled_line(s: &[u8], at: usize, size: usize, label: usize) -> Line
+    requires { ⌜ (minLineBytes ≤ size) × (at + size ≤ length (now s)) ⌝ }
+    ensures { λ r. ⌜ r ≡ labelledLine (now (s .entry)) at size label ⌝ }
+{
+    // 6, BadByte: "content byte under 20h; place is that byte"
+    let content = at + LINE_LEAD;
+    let k = size - LINE_FRAME;
+    let low = first_low(s, content, k);
+    if low < content + k {
+        return refused(Refusal::BAD_BYTE, low);
+    }
+    Line::Read { label, size }
+}
+
+// The line at an offset whose length is read.
+fn sized_line(s: &[u8], at: usize, size: usize) -> Line
+    requires { ⌜ at ≤ length (now s) ⌝ }
+    ensures { λ r. ⌜ r ≡ sizedLine (now (s .entry)) at size ⌝ }
+{
+    // 2, BadLength: "or below 010"
+    if size < MIN_LINE_BYTES {
+        return refused(Refusal::BAD_LENGTH, at);
+    }
+    // 3, CutLine: "the line runs past the input"
+    if s.len() - at < size {
+        return refused(Refusal::CUT_LINE, at);
+    }
+    // 4, BadEnd: "last two bytes are not 0Dh 0Ah"
+    if s[at + (size - 2)] != CR {
+        return refused(Refusal::BAD_END, at);
+    }
+    if s[at + (size - 1)] != LF {
+        return refused(Refusal::BAD_END, at);
+    }
+    // 5, BadLabel: "label not four digits"
+    match number_at(s, at + LENGTH_DIGITS, LABEL_DIGITS) {
+        Number::Is(label) => labelled_line(s, at, size, label),
+        Number::None => refused(Refusal::BAD_LABEL, at),
+    }
+}
+
+// The line at an offset: "each by .. 2, 3, 4, 5, 6".
+pub fn line_at(s: &[u8], at: usize) -> Line
+    ensures { λ r. ⌜ r ≡ lineAt (now (s .entry)) at ⌝ }
+{
+    // 2, BadLength: "under three bytes remain, not digits"
+    match number_at(s, at, LENGTH_DIGITS) {
+        Number::Is(size) => sized_line(s, at, size),
+        Number::None => refused(Refusal::BAD_LENGTH, at),
+    }
+}
+
+// The set ends before an offset: at the end of the input, or where "seven or more bytes remain and bytes four to seven read `8000`", whatever the three
+// bytes before them are (B1).
+pub fn ends_at(s: &[u8], at: usize) -> bool
+    ensures { λ r. ⌜ r ≡ endsAt (now (s .entry)) at ⌝ }
+{
+    if s.len() <= at {
+        return true;
+    }
+    if s.len() - at < LINE_LEAD {
+        return false;
+    }
+    let label = at + LENGTH_DIGITS;
+    if s[label] != b'8' {
+        return false;
+    }
+    if s[label + 1] != b'0' {
+        return false;
+    }
+    if s[label + 2] != b'0' {
+        return false;
+    }
+    if s[label + 3] != b'0' {
+        return false;
+    }
+    true
+}
+
+// The lines of a set from the second on, which stands at this offset: at each the set's end is asked first, then 7, then 2 to 6 (B2).
+fn scan_from(s: &[u8], second: usize) -> Scan
+    requires { ⌜ second ≤ length (now s) ⌝ }
+    ensures { λ r. ⌜ r ≡ scanFrom (now (s .entry)) second 1 (maxLines - 1) ⌝ }
+{
+    let mut at = second;
+    let mut lines: usize = 1;
+    loop {
+        if ends_at(s, at) {
+            return Scan::Done { length: at, lines };
+        }
+        // 7, TooManyLines: "a 513th line starts"
+        if SetType::LINES <= lines {
+            return Scan::Refused(Refusal {
+                no: Refusal::TOO_MANY_LINES,
+                place: at,
+                label: 0,
+            });
+        }
+        match line_at(s, at) {
+            Line::Refused(r) => {
+                return Scan::Refused(r);
+            }
+            Line::Read { label: _, size } => {
+                at += size;
+                lines += 1;
+            }
+        }
+    }
+}
+
+// The lines of the set at the front: "first 1; then all lines, in order, each by 7, 2, 3, 4, 5, 6". Its first line is read whatever its label is.
+pub fn scan_set(s: &[u8]) -> Scan
+    ensures { λ r. ⌜ r ≡ scanSet (now (s .entry)) ⌝ }
+{
+    // 1, Empty: "a set or list of no bytes"
+    if s.len() == 0 {
+        return Scan::Refused(Refusal {
+            no: Refusal::EMPTY,
+            place: 0,
+            label: 0,
+        });
+    }
+    match line_at(s, 0) {
+        Line::Read { label: _, size } => scan_from(s, size),
+        Line::Refused(r) => Scan::Refused(r),
+    }
+}
