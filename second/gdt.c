@@ -1,0 +1,951 @@
+/* gdt.c: reading, writing and correcting GDT 2.1 sets, all functions of gdt.h.
+
+   Order of the file: limits and records; the rows; contents; the line syntax and the entries of a list; groups; the rules of a
+   line; a whole set and a whole list; the public functions. Words in quotes are the rules paper's, and a bare number such as 14 is
+   one of its numbered replies. "B12" and the like are its decided open points. */
+#include "gdt.h"
+
+#include <string.h>
+
+/* ---- Limits and records ---------------------------------------------------------------------------------------------------- */
+
+enum {
+    SET_LINES = 512,              /* "A set has at most 512 lines" */
+    LIST_ENTRIES = SET_LINES - 1, /* 8100 has no entry */
+    LINE_BYTES = 999,             /* three digits */
+    LINE_LEAST = 10,              /* "lengths run 010 to 999" */
+    LINE_HEAD = 7,                /* length and label stand before the content */
+    LINE_FRAME = 9,               /* "Length = content + 9" */
+    SET_BYTES = 99999,            /* 8100 has five digits */
+    SUM_LINE = 14,                /* the length of line 2 */
+    SUM_DIGITS = 20,              /* where the digits of 8100 stand: line 1 has 13 bytes (B49) */
+    SUM_WIDTH = 5,
+    ENTRY_HEAD = 4,               /* content length and kind of a list entry */
+    ENTRY_BYTES = ENTRY_HEAD + 65535
+};
+
+/* A line of a set or an entry of a list: the place of its first byte, its label, the length of its content, the number of its
+   header's line (0 outside groups and pairs), and its row. */
+struct line {
+    uint32_t at;
+    uint16_t label, length, header, row;
+};
+
+_Static_assert((uint64_t)SET_LINES * LINE_BYTES <= 0xFFFFFFFFu, "a place in a set fits");
+_Static_assert((uint64_t)SET_LINES * ENTRY_BYTES <= 0xFFFFFFFFu, "a place in a list fits");
+_Static_assert(SET_LINES * sizeof(struct line) <= 6144, "the stack stays within its 8 KiB");
+
+/* The lines of a set or the entries of a list, and the bytes they stand in. `head` bytes stand before each content. */
+struct lines {
+    struct line of[SET_LINES];
+    const uint8_t *bytes;
+    size_t head, count, length;
+    unsigned type;
+};
+
+/* A refusal; `no` is 0 for none. */
+struct refusal {
+    size_t no, place, label;
+};
+
+static const struct refusal none = {0, 0, 0};
+
+static struct refusal refuse(size_t no, size_t place, size_t label)
+{
+    struct refusal refusal = {no, place, label};
+    return refusal;
+}
+
+/* ---- The rows -------------------------------------------------------------------------------------------------------------- */
+
+/* The rows of the field table, lowest label first. R6330 stands for the even labels 6330 to 6398, R6331 for the odd labels 6331
+   to 6399 (B46). */
+enum {
+    NO_ROW,
+    R0102, R0103, R0132, R3000, R3100, R3101, R3102, R3103, R3104, R3105, R3106, R3107, R3108, R3110, R3622, R3623, R3628,
+    R6200, R6201, R6205, R6220, R6221, R6226, R6227, R6228, R6302, R6303, R6304, R6305, R6330, R6331,
+    R8000, R8100, R8315, R8316, R8402, R8410, R8411, R8418, R8420, R8421, R8428, R8429, R8430, R8431, R8432, R8437, R8438,
+    R8439, R8460, R8461, R8462, R8470, R8480, R8990, R9206, R9218,
+    ROWS
+};
+
+/* The row of a label, NO_ROW for none. */
+static unsigned row_of(unsigned label)
+{
+    switch (label) {
+    case 102: return R0102;
+    case 103: return R0103;
+    case 132: return R0132;
+    case 3000: return R3000;
+    case 3100: return R3100;
+    case 3101: return R3101;
+    case 3102: return R3102;
+    case 3103: return R3103;
+    case 3104: return R3104;
+    case 3105: return R3105;
+    case 3106: return R3106;
+    case 3107: return R3107;
+    case 3108: return R3108;
+    case 3110: return R3110;
+    case 3622: return R3622;
+    case 3623: return R3623;
+    case 3628: return R3628;
+    case 6200: return R6200;
+    case 6201: return R6201;
+    case 6205: return R6205;
+    case 6220: return R6220;
+    case 6221: return R6221;
+    case 6226: return R6226;
+    case 6227: return R6227;
+    case 6228: return R6228;
+    case 6302: return R6302;
+    case 6303: return R6303;
+    case 6304: return R6304;
+    case 6305: return R6305;
+    case 8000: return R8000;
+    case 8100: return R8100;
+    case 8315: return R8315;
+    case 8316: return R8316;
+    case 8402: return R8402;
+    case 8410: return R8410;
+    case 8411: return R8411;
+    case 8418: return R8418;
+    case 8420: return R8420;
+    case 8421: return R8421;
+    case 8428: return R8428;
+    case 8429: return R8429;
+    case 8430: return R8430;
+    case 8431: return R8431;
+    case 8432: return R8432;
+    case 8437: return R8437;
+    case 8438: return R8438;
+    case 8439: return R8439;
+    case 8460: return R8460;
+    case 8461: return R8461;
+    case 8462: return R8462;
+    case 8470: return R8470;
+    case 8480: return R8480;
+    case 8990: return R8990;
+    case 9206: return R9206;
+    case 9218: return R9218;
+    default:
+        if (label < 6330 || label > 6399) {
+            return NO_ROW;
+        }
+        return label % 2 == 0 ? R6330 : R6331;
+    }
+}
+
+/* The kinds of content ("Content kinds"). */
+enum { ALNUM, NUM, FLOAT, RULE_020, RULE_008, RULE_090, RULE_112, RULE_116, CHARSET, VERSION };
+
+/* The field table: the least and the greatest length of a content, and its kind. "var" is 1 to 60. */
+static const struct field {
+    uint16_t label;
+    uint8_t least, most, kind;
+} fields[ROWS] = {
+    [R0102] = {102, 1, 60, ALNUM},
+    [R0103] = {103, 1, 60, ALNUM},
+    [R0132] = {132, 1, 60, ALNUM},
+    [R3000] = {3000, 1, 10, ALNUM},
+    [R3100] = {3100, 1, 15, ALNUM},
+    [R3101] = {3101, 1, 28, ALNUM},
+    [R3102] = {3102, 1, 28, ALNUM},
+    [R3103] = {3103, 8, 8, RULE_020},
+    [R3104] = {3104, 1, 15, ALNUM},
+    [R3105] = {3105, 1, 12, ALNUM},
+    [R3106] = {3106, 1, 30, ALNUM},
+    [R3107] = {3107, 1, 28, ALNUM},
+    [R3108] = {3108, 1, 1, RULE_116},
+    [R3110] = {3110, 1, 1, RULE_112},
+    [R3622] = {3622, 1, 60, FLOAT},
+    [R3623] = {3623, 1, 60, FLOAT},
+    [R3628] = {3628, 1, 60, ALNUM},
+    [R6200] = {6200, 8, 8, RULE_008},
+    [R6201] = {6201, 6, 6, RULE_090},
+    [R6205] = {6205, 1, 60, ALNUM},
+    [R6220] = {6220, 1, 60, ALNUM},
+    [R6221] = {6221, 1, 60, ALNUM},
+    [R6226] = {6226, 1, 4, NUM},
+    [R6227] = {6227, 1, 60, ALNUM},
+    [R6228] = {6228, 1, 60, ALNUM},
+    [R6302] = {6302, 1, 60, ALNUM},
+    [R6303] = {6303, 1, 60, ALNUM},
+    [R6304] = {6304, 1, 60, ALNUM},
+    [R6305] = {6305, 1, 60, ALNUM},
+    [R6330] = {6330, 1, 60, ALNUM},
+    [R6331] = {6331, 1, 60, ALNUM},
+    [R8000] = {8000, 4, 4, ALNUM},
+    [R8100] = {8100, 5, 5, NUM},
+    [R8315] = {8315, 8, 8, ALNUM},
+    [R8316] = {8316, 8, 8, ALNUM},
+    [R8402] = {8402, 1, 6, ALNUM},
+    [R8410] = {8410, 1, 20, ALNUM},
+    [R8411] = {8411, 1, 60, ALNUM},
+    [R8418] = {8418, 1, 1, ALNUM},
+    [R8420] = {8420, 1, 60, FLOAT},
+    [R8421] = {8421, 1, 60, ALNUM},
+    [R8428] = {8428, 1, 8, ALNUM},
+    [R8429] = {8429, 2, 2, NUM},
+    [R8430] = {8430, 1, 60, ALNUM},
+    [R8431] = {8431, 1, 60, ALNUM},
+    [R8432] = {8432, 8, 8, RULE_008},
+    [R8437] = {8437, 1, 60, ALNUM},
+    [R8438] = {8438, 1, 60, ALNUM},
+    [R8439] = {8439, 6, 6, RULE_090},
+    [R8460] = {8460, 1, 60, ALNUM},
+    [R8461] = {8461, 1, 60, FLOAT},
+    [R8462] = {8462, 1, 60, FLOAT},
+    [R8470] = {8470, 1, 60, ALNUM},
+    [R8480] = {8480, 1, 60, ALNUM},
+    [R8990] = {8990, 1, 60, ALNUM},
+    [R9206] = {9206, 1, 1, CHARSET},
+    [R9218] = {9218, 5, 5, VERSION},
+};
+
+/* The five set types, and no type. */
+enum { T6300, T6301, T6302, T6310, T6311, TYPES };
+
+static const uint16_t type_numbers[TYPES] = {6300, 6301, 6302, 6310, 6311};
+
+/* The role of a label ("The role of a label depends on the set type"): OUT of the table; at set level single (S1) or repeated
+   (SN); the headers 8410 (TEST) and 6302 (ARCHIVE); a member of 8410, single (T1) or repeated (TN); a member of 6302 (A1); a NAME;
+   an ODD label. Headers and names repeat. */
+enum { OUT, S1, SN, TEST, ARCHIVE, T1, TN, A1, NAME, ODD };
+
+/* The five set tables. */
+static const uint8_t roles[TYPES][ROWS] = {
+    [T6300] = {
+        [R8000] = S1, [R8100] = S1, [R8315] = S1, [R8316] = S1, [R9206] = S1, [R9218] = S1, [R3000] = S1,
+    },
+    [T6301] = {
+        [R8000] = S1, [R8100] = S1, [R8315] = S1, [R8316] = S1, [R9206] = S1, [R9218] = S1, [R3000] = S1, [R3100] = S1,
+        [R3101] = S1, [R3102] = S1, [R3103] = S1, [R3104] = S1, [R3105] = S1, [R3106] = S1, [R3107] = S1, [R3108] = S1,
+        [R3110] = S1, [R3622] = S1, [R3623] = S1, [R3628] = S1,
+    },
+    [T6302] = {
+        [R8000] = S1, [R8100] = S1, [R8315] = S1, [R8316] = S1, [R9206] = S1, [R9218] = S1, [R0102] = S1, [R0103] = S1,
+        [R0132] = S1, [R3000] = S1, [R3100] = S1, [R3101] = S1, [R3102] = S1, [R3103] = S1, [R3104] = S1, [R3105] = S1,
+        [R3106] = S1, [R3107] = S1, [R3108] = S1, [R3110] = S1, [R3622] = S1, [R3623] = S1, [R3628] = S1, [R8402] = S1,
+        [R8410] = S1, /* "In 6302 sets 8410 is a plain single field" */
+    },
+    [T6310] = {
+        [R8000] = S1, [R8100] = S1, [R8315] = S1, [R8316] = S1, [R9206] = S1, [R9218] = S1, [R0102] = S1, [R0103] = S1,
+        [R0132] = S1, [R3000] = S1, [R3100] = S1, [R3101] = S1, [R3102] = S1, [R3103] = S1, [R3104] = S1, [R3105] = S1,
+        [R3106] = S1, [R3107] = S1, [R3108] = S1, [R3110] = S1, [R3622] = S1, [R3623] = S1, [R3628] = S1, [R8402] = S1,
+        [R6200] = S1, [R6201] = S1, [R6205] = SN, [R6220] = SN, [R6221] = SN, [R6227] = SN, [R6226] = SN, [R6228] = SN,
+        [R6302] = ARCHIVE, [R6303] = A1, [R6304] = A1, [R6305] = A1, [R6330] = NAME, [R6331] = ODD,
+        [R8410] = TEST, [R8411] = T1, [R8428] = T1, [R8429] = T1, [R8430] = T1, [R8431] = TN, [R8437] = T1, [R8438] = TN,
+        [R8418] = T1, [R8420] = T1, [R8421] = T1, [R8432] = T1, [R8439] = T1, [R8460] = T1, [R8461] = T1, [R8462] = T1,
+        [R8470] = TN, [R8480] = TN, [R8990] = S1, /* 8990 closes a group (B16) */
+    },
+    [T6311] = {
+        [R8000] = S1, [R8100] = S1, [R8315] = S1, [R8316] = S1, [R9206] = S1, [R9218] = S1, [R3000] = S1, [R3100] = S1,
+        [R3101] = S1, [R3102] = S1, [R3103] = S1, [R3104] = S1, [R6200] = S1, [R6201] = S1, [R8402] = S1,
+        [R8432] = S1, [R8439] = S1, /* "In 6311 sets 8432 and 8439 are plain single fields" */
+    },
+};
+
+/* "Required at set level", lowest label first, NO_ROW at the end. */
+static const uint8_t required[TYPES][8] = {
+    [T6300] = {R3000, R8000, R8100, R9218},
+    [T6301] = {R3000, R3101, R3102, R3103, R8000, R8100, R9218},
+    [T6302] = {R3000, R3101, R3102, R3103, R8000, R8100, R9218},
+    [T6310] = {R3000, R8000, R8100, R8402, R9218},
+    [T6311] = {R3000, R8000, R8100, R9218},
+};
+
+/* ---- Contents -------------------------------------------------------------------------------------------------------------- */
+
+/* The value of a digit, 30h to 39h; over 9 for another byte. */
+static unsigned digit(uint8_t byte)
+{
+    return (unsigned)byte - '0';
+}
+
+/* The value of two digits; over 99 for other bytes. */
+static unsigned two_digits(const uint8_t *p)
+{
+    unsigned tens = digit(p[0]), ones = digit(p[1]);
+    return tens > 9 || ones > 9 ? 100 : tens * 10 + ones;
+}
+
+/* How many digits stand at the front. */
+static size_t leading_digits(const uint8_t *p, size_t n)
+{
+    size_t i = 0;
+    while (i < n && digit(p[i]) <= 9) {
+        i++;
+    }
+    return i;
+}
+
+/* The place of the first byte under 20h, n for none. A content byte has one of its three upper bits set; eight bytes are looked
+   at in one go, and the shifts bring the three bits of each to its top bit. */
+static size_t first_low_byte(const uint8_t *p, size_t n)
+{
+    const uint64_t top = 0x8080808080808080u;
+    size_t i = 0;
+    while (n - i >= sizeof(uint64_t)) {
+        uint64_t word;
+        memcpy(&word, p + i, sizeof word);
+        if (((word | word << 1 | word << 2) & top) != top) {
+            break;
+        }
+        i += sizeof word;
+    }
+    while (i < n && p[i] >= 0x20) {
+        i++;
+    }
+    return i;
+}
+
+/* "float: optional -, one or more digits, optionally . and one or more digits." */
+static int is_float(const uint8_t *p, size_t n)
+{
+    size_t i = n > 0 && p[0] == '-' ? 1 : 0;
+    size_t whole = leading_digits(p + i, n - i);
+    i += whole;
+    if (whole == 0 || i == n) {
+        return whole > 0;
+    }
+    if (p[i] != '.') {
+        return 0;
+    }
+    i++;
+    return i < n && leading_digits(p + i, n - i) == n - i;
+}
+
+/* DDMMYYYY, eight bytes; days and months start at `least`, months are not counted out (rules 020 and 008). */
+static int is_date(const uint8_t *p, unsigned least)
+{
+    unsigned day = two_digits(p), month = two_digits(p + 2);
+    return day >= least && day <= 31 && month >= least && month <= 12 && two_digits(p + 4) <= 99 && two_digits(p + 6) <= 99;
+}
+
+/* HHMMSS, six bytes (rule 090). */
+static int is_time(const uint8_t *p)
+{
+    return two_digits(p) <= 24 && two_digits(p + 2) <= 59 && two_digits(p + 4) <= 59;
+}
+
+/* 14 rules it out: whether a content without low bytes keeps the length, kind and rule of its row. An empty one never does. */
+static int fits(unsigned row, const uint8_t *p, size_t n)
+{
+    if (n < fields[row].least || n > fields[row].most) {
+        return 0;
+    }
+    switch (fields[row].kind) {
+    case NUM: return leading_digits(p, n) == n;
+    case FLOAT: return is_float(p, n);
+    case RULE_020: return is_date(p, 0);
+    case RULE_008: return is_date(p, 1);
+    case RULE_090: return is_time(p);
+    case RULE_112: return p[0] == '1' || p[0] == '2';
+    case RULE_116: return p[0] == '1' || p[0] == '3' || p[0] == '5';
+    case CHARSET: return p[0] == '1' || p[0] == '2' || p[0] == '3';
+    case VERSION: return two_digits(p) <= 99 && p[2] == '.' && two_digits(p + 3) <= 99;
+    default: return 1; /* alnum: any content bytes */
+    }
+}
+
+/* The set type a content of 8000 names, TYPES for none of the five. */
+static unsigned type_of(const uint8_t *p, size_t n)
+{
+    if (n != 4 || two_digits(p) != 63) {
+        return TYPES;
+    }
+    switch (two_digits(p + 2)) {
+    case 0: return T6300;
+    case 1: return T6301;
+    case 2: return T6302;
+    case 10: return T6310;
+    case 11: return T6311;
+    default: return TYPES;
+    }
+}
+
+/* ---- The line syntax and the entries of a list ----------------------------------------------------------------------------- */
+
+static const uint8_t *content_of(const struct lines *lines, const struct line *line)
+{
+    return lines->bytes + line->at + lines->head;
+}
+
+/* One line by 2, 3, 4, 5, 6. At least one byte stands at `at`. */
+static struct refusal split_line(struct line *line, const uint8_t *bytes, size_t length, size_t at)
+{
+    const uint8_t *p = bytes + at;
+    size_t rest = length - at, size, low;
+    unsigned upper, lower;
+    if (rest < 3) {
+        return refuse(GDT_BAD_LENGTH, at, 0);
+    }
+    upper = digit(p[0]);
+    lower = two_digits(p + 1);
+    size = (size_t)upper * 100 + lower;
+    if (upper > 9 || lower > 99 || size < LINE_LEAST) {
+        return refuse(GDT_BAD_LENGTH, at, 0);
+    }
+    if (size > rest) {
+        return refuse(GDT_CUT_LINE, at, 0);
+    }
+    if (p[size - 2] != '\r' || p[size - 1] != '\n') {
+        return refuse(GDT_BAD_END, at, 0);
+    }
+    upper = two_digits(p + 3);
+    lower = two_digits(p + 5);
+    if (upper > 99 || lower > 99) {
+        return refuse(GDT_BAD_LABEL, at, 0);
+    }
+    low = first_low_byte(p + LINE_HEAD, size - LINE_FRAME);
+    if (low < size - LINE_FRAME) {
+        return refuse(GDT_BAD_BYTE, at + LINE_HEAD + low, 0);
+    }
+    line->at = (uint32_t)at;
+    line->label = (uint16_t)(upper * 100 + lower);
+    line->length = (uint16_t)(size - LINE_FRAME);
+    return none;
+}
+
+/* "It ends before the first later line start where seven or more bytes remain and bytes four to seven read 8000." Bytes one to
+   three are never looked at (B1). */
+static int starts_set(const uint8_t *p, size_t rest)
+{
+    return rest >= 7 && memcmp(p + 3, "8000", 4) == 0;
+}
+
+/* The lines of the set at the front of the bytes: 1, then each line by 7, 2, 3, 4, 5, 6. The end of the set comes before 7 (B2). */
+static struct refusal split_set(struct lines *set, const uint8_t *bytes, size_t length)
+{
+    size_t at = 0, count = 0;
+    if (length == 0) {
+        return refuse(GDT_EMPTY, 0, 0);
+    }
+    while (at < length && (at == 0 || !starts_set(bytes + at, length - at))) {
+        struct refusal refusal;
+        if (count == SET_LINES) {
+            return refuse(GDT_TOO_MANY_LINES, at, 0);
+        }
+        refusal = split_line(&set->of[count], bytes, length, at);
+        if (refusal.no != 0) {
+            return refusal;
+        }
+        at += (size_t)set->of[count].length + LINE_FRAME;
+        count++;
+    }
+    set->bytes = bytes;
+    set->head = LINE_HEAD;
+    set->count = count;
+    set->length = at;
+    return none;
+}
+
+static unsigned little_endian(const uint8_t *p)
+{
+    return p[0] | (unsigned)p[1] << 8;
+}
+
+/* Whether the entry at the front of `rest` bytes is cut: its head or its content runs past the end. */
+static int cut_entry(const uint8_t *p, size_t rest)
+{
+    return rest < ENTRY_HEAD || rest - ENTRY_HEAD < little_endian(p);
+}
+
+/* The entries of a list: 1, then each entry by 7, 21, 6 (B28). */
+static struct refusal split_list(struct lines *list, const uint8_t *bytes, size_t length)
+{
+    size_t at = 0, count = 0;
+    if (length == 0) {
+        return refuse(GDT_EMPTY, 0, 0);
+    }
+    while (at < length) {
+        const uint8_t *p = bytes + at;
+        size_t size, low;
+        if (count == LIST_ENTRIES) {
+            return refuse(GDT_TOO_MANY_LINES, at, 0);
+        }
+        if (cut_entry(p, length - at) || little_endian(p + 2) > 9999) {
+            return refuse(GDT_BAD_LIST, at, 0);
+        }
+        size = little_endian(p);
+        low = first_low_byte(p + ENTRY_HEAD, size);
+        if (low < size) {
+            return refuse(GDT_BAD_BYTE, at + ENTRY_HEAD + low, 0);
+        }
+        list->of[count].at = (uint32_t)at;
+        list->of[count].label = (uint16_t)little_endian(p + 2);
+        list->of[count].length = (uint16_t)size;
+        at += ENTRY_HEAD + size;
+        count++;
+    }
+    list->bytes = bytes;
+    list->head = ENTRY_HEAD;
+    list->count = count;
+    list->length = at;
+    return none;
+}
+
+/* ---- Groups ---------------------------------------------------------------------------------------------------------------- */
+
+/* Where the walk over the lines stands. `seen` holds for each row the number of the header under which its label stood last, plus
+   1; so 1 for a label at set level, and 0 for a label not seen. `open` is the role of the group's header, OUT outside groups;
+   `header` is the number of the header's line. `missing` is the first refusal by 16 among the groups and pairs closed. */
+struct walk {
+    uint16_t seen[ROWS];
+    unsigned open;
+    size_t header;
+    struct refusal missing;
+};
+
+/* Whether the open group has the label of the row. */
+static int has(const struct walk *walk, unsigned row)
+{
+    return walk->seen[row] == walk->header + 1;
+}
+
+/* The lowest label that the open group or pair lacks, 0 for none. 8421 is required where any of 8420, 8461, 8462 stands (B12),
+   8437 where 8438 stands. */
+static unsigned lacks(const struct walk *walk, const struct lines *lines)
+{
+    switch (walk->open) {
+    case TEST:
+        if ((has(walk, R8420) || has(walk, R8461) || has(walk, R8462)) && !has(walk, R8421)) {
+            return 8421;
+        }
+        return has(walk, R8438) && !has(walk, R8437) ? 8437 : 0;
+    case ARCHIVE:
+        if (!has(walk, R6303)) {
+            return 6303;
+        }
+        if (!has(walk, R6304)) {
+            return 6304;
+        }
+        return has(walk, R6305) ? 0 : 6305;
+    case NAME:
+        return lines->of[walk->header - 1].label + 1u;
+    default:
+        return 0;
+    }
+}
+
+/* Closes the open group or pair. Groups and pairs close in the order of their headers and names, so the first missing label found
+   is the one that 16 names (B20). */
+static void close_group(struct walk *walk, const struct lines *lines)
+{
+    unsigned label = walk->missing.no == 0 ? lacks(walk, lines) : 0;
+    if (label != 0) {
+        walk->missing = refuse(GDT_MISSING, lines->of[walk->header - 1].at, label);
+    }
+    walk->open = OUT;
+    walk->header = 0;
+}
+
+/* Finds the header of line `number` and opens and closes groups; 0 for a stray line (12). "A group ends at the first line that is
+   not a member of its header." */
+static int find_header(struct walk *walk, struct lines *lines, size_t number, unsigned role)
+{
+    struct line *line = &lines->of[number - 1];
+    line->header = (uint16_t)walk->header;
+    switch (role) {
+    case T1:
+    case TN:
+        return walk->open == TEST;
+    case A1:
+        return walk->open == ARCHIVE;
+    case ODD:
+        if (walk->open != NAME || lines->of[walk->header - 1].label + 1u != line->label) {
+            return 0;
+        }
+        walk->open = OUT; /* the pair is whole */
+        walk->header = 0;
+        return 1;
+    default:
+        close_group(walk, lines);
+        line->header = 0;
+        if (role == TEST || role == ARCHIVE || role == NAME) {
+            walk->open = role;
+            walk->header = number;
+        }
+        return 1;
+    }
+}
+
+/* ---- The rules of a line --------------------------------------------------------------------------------------------------- */
+
+/* Line or entry `number` by 11, 12, 13, 14, 15. */
+static struct refusal judge_line(struct walk *walk, struct lines *lines, size_t number)
+{
+    struct line *line = &lines->of[number - 1];
+    const uint8_t *content = content_of(lines, line);
+    unsigned row = row_of(line->label), role = roles[lines->type][row];
+    uint16_t mark;
+    line->row = (uint16_t)row;
+    if (role == OUT) {
+        return refuse(GDT_NOT_IN_SET, line->at, line->label);
+    }
+    if (!find_header(walk, lines, number, role)) {
+        return refuse(GDT_STRAY, line->at, line->label);
+    }
+    mark = (uint16_t)(line->header + 1);
+    if ((role == S1 || role == T1 || role == A1) && walk->seen[row] == mark) {
+        return refuse(GDT_REPEATED, line->at, line->label);
+    }
+    walk->seen[row] = mark;
+    if (!fits(row, content, line->length)) {
+        return refuse(GDT_BAD_CONTENT, line->at, line->label);
+    }
+    if (row == R9218 && memcmp(content, "02.10", 5) != 0) {
+        return refuse(GDT_OTHER_VERSION, line->at, line->label);
+    }
+    return none;
+}
+
+/* All lines or entries by 11 to 15, then 16, "set level before groups and pairs in order, lowest label first". An 8100 that stands
+   in no entry counts as seen: the writer adds it (B30). */
+static struct refusal judge_lines(struct lines *lines, int sum_added)
+{
+    struct walk walk = {{0}, OUT, 0, {0, 0, 0}};
+    const uint8_t *row;
+    walk.seen[R8100] = sum_added ? 1 : 0;
+    for (size_t number = 1; number <= lines->count; number++) {
+        struct refusal refusal = judge_line(&walk, lines, number);
+        if (refusal.no != 0) {
+            return refusal;
+        }
+    }
+    close_group(&walk, lines);
+    for (row = required[lines->type]; *row != NO_ROW; row++) {
+        if (walk.seen[*row] == 0) {
+            return refuse(GDT_MISSING, 0, fields[*row].label);
+        }
+    }
+    return walk.missing;
+}
+
+/* ---- A whole set and a whole list ------------------------------------------------------------------------------------------ */
+
+/* The first line by 8 and 9. Here and below there is a first line, since no bytes are refused by 1. */
+static struct refusal judge_start(struct lines *lines)
+{
+    const struct line *first = &lines->of[0];
+    if (first->label != 8000) {
+        return refuse(GDT_NO_START, 0, 0);
+    }
+    lines->type = type_of(content_of(lines, first), first->length);
+    if (lines->type == TYPES) {
+        return refuse(GDT_UNKNOWN_SET, 0, 0);
+    }
+    return none;
+}
+
+/* The value of an 8100 that is five digits. */
+static size_t sum_of(const uint8_t *p)
+{
+    return (size_t)digit(p[0]) * 10000 + (size_t)two_digits(p + 1) * 100 + two_digits(p + 3);
+}
+
+/* The set at the front of the bytes, by the "Order for a set". */
+static struct refusal read_set(struct lines *set, const uint8_t *bytes, size_t length)
+{
+    struct refusal refusal = split_set(set, bytes, length);
+    if (refusal.no == 0) {
+        refusal = judge_start(set);
+    }
+    if (refusal.no != 0) {
+        return refusal;
+    }
+    if (set->count < 2) {
+        return refuse(GDT_NO_SUM, set->length, 0);
+    }
+    if (set->of[1].label != 8100) {
+        return refuse(GDT_NO_SUM, set->of[1].at, 0);
+    }
+    refusal = judge_lines(set, 0);
+    if (refusal.no != 0) {
+        return refusal;
+    }
+    if (sum_of(content_of(set, &set->of[1])) != set->length) {
+        return refuse(GDT_BAD_SUM, set->of[1].at, 0);
+    }
+    return none;
+}
+
+/* A set that must fill its bytes: its own refusals, then 18, "another set follows". */
+static struct refusal read_lone_set(struct lines *set, const uint8_t *bytes, size_t length)
+{
+    struct refusal refusal = read_set(set, bytes, length);
+    if (refusal.no == 0 && set->length < length) {
+        return refuse(GDT_BAD_USE, set->length, 0);
+    }
+    return refusal;
+}
+
+/* A field list, as the writer checks it: 1, each entry by 7, 21, 6, then 8, 9, and 11 to 16. */
+static struct refusal read_list(struct lines *list, const uint8_t *bytes, size_t length)
+{
+    struct refusal refusal = split_list(list, bytes, length);
+    if (refusal.no == 0) {
+        refusal = judge_start(list);
+    }
+    return refusal.no == 0 ? judge_lines(list, 1) : refusal;
+}
+
+/* A new content for a line of an accepted set by 20, 6, 14. `place` is the place of 20 and 14, `start` that of the content. */
+static struct refusal judge_content(const struct line *line, const uint8_t *content, size_t n, size_t place, size_t start)
+{
+    size_t low;
+    if (line->row == R8000 || line->row == R8100 || line->row == R9218) {
+        return refuse(GDT_FIXED_LINE, place, line->label);
+    }
+    low = first_low_byte(content, n);
+    if (low < n) {
+        return refuse(GDT_BAD_BYTE, start + low, 0);
+    }
+    if (!fits(line->row, content, n)) {
+        return refuse(GDT_BAD_CONTENT, place, line->label);
+    }
+    return none;
+}
+
+/* Whether the set has the line number; 19 where not. */
+static int has_line(const struct lines *set, size_t number)
+{
+    return number >= 1 && number <= set->count;
+}
+
+/* Writes the value in `width` digits. */
+static void put_digits(uint8_t *p, size_t width, size_t value)
+{
+    while (width > 0) {
+        width--;
+        p[width] = (uint8_t)('0' + value % 10);
+        value /= 10;
+    }
+}
+
+/* Writes a line and answers its length. */
+static size_t put_line(uint8_t *p, size_t label, const uint8_t *content, size_t n)
+{
+    put_digits(p, 3, n + LINE_FRAME);
+    put_digits(p + 3, 4, label);
+    memcpy(p + LINE_HEAD, content, n);
+    p[LINE_HEAD + n] = '\r';
+    p[LINE_HEAD + n + 1] = '\n';
+    return n + LINE_FRAME;
+}
+
+/* Writes an entry of a list and answers its length. */
+static size_t put_entry(uint8_t *p, unsigned label, const uint8_t *content, size_t n)
+{
+    p[0] = (uint8_t)(n & 0xFF);
+    p[1] = (uint8_t)(n >> 8);
+    p[2] = (uint8_t)(label & 0xFF);
+    p[3] = (uint8_t)(label >> 8);
+    memcpy(p + ENTRY_HEAD, content, n);
+    return n + ENTRY_HEAD;
+}
+
+static struct gdt_made refused(struct refusal refusal)
+{
+    struct gdt_made made = {refusal.no, refusal.place, refusal.label, 0};
+    return made;
+}
+
+static struct gdt_made made_of(size_t count)
+{
+    struct gdt_made made = {0, 0, 0, count};
+    return made;
+}
+
+/* ---- The public functions -------------------------------------------------------------------------------------------------- */
+
+struct gdt_judged gdt_judge(const uint8_t *set, size_t set_length)
+{
+    struct gdt_judged judged = {0, 0, 0, 0, 0, 0};
+    struct lines lines;
+    struct refusal refusal = read_set(&lines, set, set_length);
+    if (refusal.no != 0) {
+        judged.no = refusal.no;
+        judged.place = refusal.place;
+        judged.label = refusal.label;
+        return judged;
+    }
+    judged.length = lines.length;
+    judged.lines = lines.count;
+    judged.kind = type_numbers[lines.type];
+    return judged;
+}
+
+/* "Index and list refuse as the set does, then by 22." The need of an index is its number of lines (B33). */
+struct gdt_made gdt_index(const uint8_t *set, size_t set_length, struct gdt_entry *out, size_t room)
+{
+    struct lines lines;
+    struct refusal refusal = read_set(&lines, set, set_length);
+    if (refusal.no != 0) {
+        return refused(refusal);
+    }
+    if (lines.count > room) {
+        return refused(refuse(GDT_NO_ROOM, lines.count, 0));
+    }
+    for (size_t i = 0; i < lines.count; i++) {
+        const struct line *line = &lines.of[i];
+        out[i].label = line->label;
+        out[i].place = (size_t)line->at + LINE_HEAD;
+        out[i].length = line->length;
+        out[i].header = line->header;
+    }
+    return made_of(lines.count);
+}
+
+/* An entry for each line but 8100, which is line 2. Each entry is five bytes shorter than its line. */
+struct gdt_made gdt_list(const uint8_t *set, size_t set_length, uint8_t *out, size_t room)
+{
+    struct lines lines;
+    struct refusal refusal = read_set(&lines, set, set_length);
+    size_t need, at = 0;
+    if (refusal.no != 0) {
+        return refused(refusal);
+    }
+    need = lines.length - SUM_LINE - (lines.count - 1) * (LINE_FRAME - ENTRY_HEAD);
+    if (need > room) {
+        return refused(refuse(GDT_NO_ROOM, need, 0));
+    }
+    for (size_t i = 0; i < lines.count; i++) {
+        const struct line *line = &lines.of[i];
+        if (i != 1) {
+            at += put_entry(out + at, line->label, content_of(&lines, line), line->length);
+        }
+    }
+    memset(out + need, 0, room - need);
+    return made_of(need);
+}
+
+/* "8100 has no entry. The writer adds it as line 2." Each line is five bytes longer than its entry. */
+struct gdt_made gdt_write(const uint8_t *list, size_t list_length, uint8_t *out, size_t room)
+{
+    struct lines lines;
+    struct refusal refusal = read_list(&lines, list, list_length);
+    uint8_t sum[SUM_WIDTH];
+    size_t need, at = 0;
+    if (refusal.no != 0) {
+        return refused(refusal);
+    }
+    need = lines.length + lines.count * (LINE_FRAME - ENTRY_HEAD) + SUM_LINE;
+    if (need > room || need > SET_BYTES) {
+        return refused(refuse(GDT_NO_ROOM, need, 0));
+    }
+    put_digits(sum, SUM_WIDTH, need);
+    for (size_t i = 0; i < lines.count; i++) {
+        const struct line *line = &lines.of[i];
+        at += put_line(out + at, line->label, content_of(&lines, line), line->length);
+        if (i == 0) {
+            at += put_line(out + at, 8100, sum, SUM_WIDTH);
+        }
+    }
+    memset(out + need, 0, room - need);
+    return made_of(need);
+}
+
+/* "Corrections": 18 (used length), the set's own refusals, 18 (second set), 19, 20, 6, 14, 22. Then the tail moves, 0Dh 0Ah of the
+   line included, and the content, the line's length and 8100 are written; the line stands behind 8100 (B49). */
+struct gdt_made gdt_correct(uint8_t *buffer, size_t room, size_t used, size_t line, const uint8_t *content, size_t content_length)
+{
+    struct lines lines;
+    struct refusal refusal;
+    const struct line *old;
+    size_t start, tail, need;
+    if (used > room) {
+        return refused(refuse(GDT_BAD_USE, room, 0));
+    }
+    refusal = read_lone_set(&lines, buffer, used);
+    if (refusal.no != 0) {
+        return refused(refusal);
+    }
+    if (!has_line(&lines, line)) {
+        return refused(refuse(GDT_NO_SUCH_LINE, lines.length, 0));
+    }
+    old = &lines.of[line - 1];
+    refusal = judge_content(old, content, content_length, old->at, 0);
+    if (refusal.no != 0) {
+        return refused(refusal);
+    }
+    need = used - old->length + content_length;
+    if (need > room || need > SET_BYTES) {
+        return refused(refuse(GDT_NO_ROOM, need, 0));
+    }
+    start = (size_t)old->at + LINE_HEAD;
+    tail = start + old->length;
+    memmove(buffer + start + content_length, buffer + tail, used - tail);
+    memcpy(buffer + start, content, content_length);
+    put_digits(buffer + old->at, 3, content_length + LINE_FRAME);
+    put_digits(buffer + SUM_DIGITS, SUM_WIDTH, need);
+    memset(buffer + need, 0, room - need);
+    return made_of(need);
+}
+
+/* Each entry of a sheet by 21 (cut only), 19, 20, 6, 14, the overridden ones too (B40). The last entry for the asked line is put
+   into `viewed`. */
+static struct refusal read_sheet(const struct lines *set, const uint8_t *sheet, size_t length, size_t line,
+                                 struct gdt_viewed *viewed)
+{
+    size_t at = 0;
+    while (at < length) {
+        const uint8_t *p = sheet + at;
+        struct refusal refusal;
+        size_t size, number;
+        if (cut_entry(p, length - at)) {
+            return refuse(GDT_BAD_LIST, at, 0);
+        }
+        size = little_endian(p);
+        number = little_endian(p + 2);
+        if (!has_line(set, number)) {
+            return refuse(GDT_NO_SUCH_LINE, at, 0);
+        }
+        refusal = judge_content(&set->of[number - 1], p + ENTRY_HEAD, size, at, at + ENTRY_HEAD);
+        if (refusal.no != 0) {
+            return refusal;
+        }
+        at += ENTRY_HEAD;
+        if (number == line) {
+            viewed->flag = 1;
+            viewed->at = at;
+            viewed->length = size;
+        }
+        at += size;
+    }
+    return none;
+}
+
+/* A view: the set, 18, the asked line (19), then the sheet. A refusal comes with an empty part of the set. */
+struct gdt_viewed gdt_view(const uint8_t *set, size_t set_length, const uint8_t *sheet, size_t sheet_length, size_t line)
+{
+    struct gdt_viewed viewed = {0, 0, 0, 0, 0, 0};
+    struct lines lines;
+    struct refusal refusal = read_lone_set(&lines, set, set_length);
+    if (refusal.no == 0 && !has_line(&lines, line)) {
+        refusal = refuse(GDT_NO_SUCH_LINE, lines.length, 0);
+    }
+    if (refusal.no == 0) {
+        viewed.at = (size_t)lines.of[line - 1].at + LINE_HEAD;
+        viewed.length = lines.of[line - 1].length;
+        refusal = read_sheet(&lines, sheet, sheet_length, line, &viewed);
+    }
+    if (refusal.no != 0) {
+        struct gdt_viewed empty = {refusal.no, refusal.place, refusal.label, 0, 0, 0};
+        return empty;
+    }
+    return viewed;
+}
+
+/* The second call of a view: the part itself. */
+size_t gdt_view_copy(const uint8_t *set, size_t set_length, const uint8_t *sheet, size_t sheet_length, size_t line, uint8_t *out,
+                     size_t room)
+{
+    struct gdt_viewed viewed = gdt_view(set, set_length, sheet, sheet_length, line);
+    if (viewed.no != 0) {
+        return 0;
+    }
+    memcpy(out, (viewed.flag == 1 ? sheet : set) + viewed.at, viewed.length < room ? viewed.length : room);
+    return viewed.length;
+}
