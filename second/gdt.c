@@ -329,7 +329,7 @@ static int is_time(const uint8_t *p)
     return two_digits(p) <= 24 && two_digits(p + 2) <= 59 && two_digits(p + 4) <= 59;
 }
 
-/* 14 rules it out: whether a content without low bytes keeps the length, kind and rule of its row. An empty one never does. */
+/* Whether a content without bytes under 20h keeps the length, kind and rule of its row; 14 where not. An empty one never does. */
 static int fits(unsigned row, const uint8_t *p, size_t n)
 {
     if (n < fields[row].least || n > fields[row].most) {
@@ -601,8 +601,8 @@ static struct refusal judge_line(struct walk *walk, struct lines *lines, size_t 
     return none;
 }
 
-/* All lines or entries by 11 to 15, then 16, "set level before groups and pairs in order, lowest label first". An 8100 that stands
-   in no entry counts as seen: the writer adds it (B30). */
+/* All lines or entries by 11 to 15, then 16, "set level before groups and pairs in order, lowest label first". With
+   `sum_added` 8100 counts as seen from the start: the writer adds it, so in a list it is Repeated and never Missing (B30). */
 static struct refusal judge_lines(struct lines *lines, int sum_added)
 {
     struct walk walk = {{0}, OUT, 0, {0, 0, 0}};
@@ -625,7 +625,7 @@ static struct refusal judge_lines(struct lines *lines, int sum_added)
 
 /* ---- A whole set and a whole list ------------------------------------------------------------------------------------------ */
 
-/* The first line by 8 and 9. Here and below there is a first line, since no bytes are refused by 1. */
+/* The first line or entry by 8 and 9, and the set type. There is one, since 1 has refused empty input. */
 static struct refusal judge_start(struct lines *lines)
 {
     const struct line *first = &lines->of[0];
@@ -671,7 +671,7 @@ static struct refusal read_set(struct lines *set, const uint8_t *bytes, size_t l
     return none;
 }
 
-/* A set that must fill its bytes: its own refusals, then 18, "another set follows". */
+/* A set that must fill its bytes: its own refusals, then 18 for "another set follows" (B38). */
 static struct refusal read_lone_set(struct lines *set, const uint8_t *bytes, size_t length)
 {
     struct refusal refusal = read_set(set, bytes, length);

@@ -3,7 +3,7 @@
    Prints `ok - NAME` or `FAILED - NAME` for each, and answers 1 if any failed.
 
    Sets, lists and sheets are given as text: lines or entries parted by `|`, each four digits (label, or line number in a sheet)
-   and a content. A content `?????` becomes the sum of the lines before and after it. */
+   and a content. A content `?????` becomes the length of the set. */
 #include "gdt.h"
 
 #include <stdio.h>
