@@ -108,7 +108,7 @@ fn again_no(many: bool, seen: bool) -> usize
 }
 
 // The row's label belongs to the open header: an odd label right behind its name, any other member under the header that its row names.
-fn belongs_to(row: Row, header: usize, label: usize) -> bool
+pub fn belongs_to(row: Row, header: usize, label: usize) -> bool
     ensures { λ r. ⌜ r ≡ belongs row header label ⌝ }
 {
     if row.under != 6330 {
@@ -390,7 +390,7 @@ fn refused_step(no: usize, group: Group) -> Step
 }
 
 // The open header behind a member: "an odd label 6331 to 6399 stands nowhere else", so nothing follows it in its pair.
-fn header_after(label: usize, header: usize) -> usize
+pub fn header_after(label: usize, header: usize) -> usize
     ensures { λ r. ⌜ r ≡ cond (isPairLabel label) 0 header ⌝ }
 {
     if label < 6330 {
