@@ -26,7 +26,7 @@ const LF: u8 = 10;
 pub const LINE_LEAD: usize = LENGTH_DIGITS + LABEL_DIGITS;
 
 // The bytes behind a content.
-const LINE_END: usize = 2;
+pub const LINE_END: usize = 2;
 
 // "Length = content + 9."
 pub const LINE_FRAME: usize = LINE_LEAD + LINE_END;
@@ -197,7 +197,7 @@ fn sized_line(s: &[u8], at: usize, size: usize) -> Line
         return refused(Refusal::CUT_LINE, at);
     }
     // 4, BadEnd: "last two bytes are not 0Dh 0Ah"
-    if s[at + (size - 2)] != CR {
+    if s[at + (size - LINE_END)] != CR {
         return refused(Refusal::BAD_END, at);
     }
     if s[at + (size - 1)] != LF {

@@ -473,7 +473,7 @@ fn pass(s: &[u8], kind: SetType, n: usize) -> Refusal
             }
             Line::Read { label, size } => {
                 let from = at + lines::LINE_LEAD;
-                let end = at + size - 2;
+                let end = at + size - lines::LINE_END;
                 let step = step_at(
                     kind,
                     at,
@@ -615,7 +615,7 @@ fn first_by(s: &[u8], label: usize, size: usize, total: usize, n: usize) -> Judg
     if label != 8000 {
         return Judged::Refused(refused_at(Refusal::NO_START, 0));
     }
-    let end = size - 2;
+    let end = size - lines::LINE_END;
     let known = type_of(&s[lines::LINE_LEAD..end]);
     typed_by(s, known, size, total, n)
 }
