@@ -145,7 +145,8 @@ module _ (s : List ℕ) (at : ℕ) where
 
 -- ---- where a set ends
 
-nil-is : (s : List ℕ) (at : ℕ) → leb (length s) at ≡ isNil (drop at s)
+-- the bytes end before an offset where none stand from there on
+pub nil-is : (s : List ℕ) (at : ℕ) → leb (length s) at ≡ isNil (drop at s)
 nil-is s at = go (leb (length s) at) refl
   where
     go : (b : Bool) → leb (length s) at ≡ b → b ≡ isNil (drop at s)

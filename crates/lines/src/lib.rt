@@ -1,4 +1,4 @@
-// One line of a set at an offset, where a set ends, and the scan of a set's lines: 1 to 7 of the paper's replies.
+// One line of a set at an offset, where a set ends, and the scan of the lines from an offset on: 2 to 7 of the paper's replies.
 // Assumes nothing of the bytes or the offset: each contract cites a walk of specs/, and proofs/Bridge says what the walks mean.
 ghost use mathlib.Core.Path.{_≡_};
 ghost use mathlib.Core.Bool.{true};
@@ -9,18 +9,18 @@ ghost use Rattle.meaning.specs.Refusals.{refusal};
 ghost use Rattle.meaning.specs.Lines.{minLineBytes};
 ghost use Rattle.lines.specs.Number.{numberAt};
 ghost use Rattle.lines.specs.Line.{firstLow, labelledLine, sizedLine, lineAt};
-ghost use Rattle.lines.specs.Scan.{endsAt, scanFrom, scanSet};
+ghost use Rattle.lines.specs.Scan.{endsAt, scanFrom};
 use meaning::Refusal;
 use meaning::SetType;
 
 // "A line is three digits (its whole length), four digits (label), content, 0Dh 0Ah."
-const LENGTH_DIGITS: usize = 3;
+pub const LENGTH_DIGITS: usize = 3;
 
-const LABEL_DIGITS: usize = 4;
+pub const LABEL_DIGITS: usize = 4;
 
-const CR: u8 = 13;
+pub const CR: u8 = 13;
 
-const LF: u8 = 10;
+pub const LF: u8 = 10;
 
 // The bytes before a content.
 pub const LINE_LEAD: usize = LENGTH_DIGITS + LABEL_DIGITS;
@@ -36,8 +36,6 @@ const MIN_LINE_BYTES: usize = LINE_FRAME + 1;
 
 // "Content bytes are 20h to FFh."
 const LEAST_BYTE: u8 = 32;
-
-const MOST_BYTE: u8 = 255;
 
 // "Digits" are 30h to 39h.
 const DIGIT_ZERO: u8 = b'0';
@@ -65,9 +63,9 @@ pub enum Line {
 
 // What scanning the lines of a set finds.
 pub enum Scan {
-    // All lines keep 1 to 7: the set's length in bytes, and its lines.
+    // All lines keep their rules: the set's length in bytes, and its lines.
     Done { length: usize, lines: usize },
-    // The first of 1 to 7 that is broken.
+    // The first rule that is broken.
     Refused(Refusal),
 }
 
@@ -95,7 +93,7 @@ pub fn number_at(s: &[u8], at: usize, k: usize) -> Number
         if DIGIT_NINE < b {
             return Number::None;
         }
-        number = number * 10 + (b - DIGIT_ZERO) as usize;
+        number = number * 10 + (b as usize - DIGIT_ZERO as usize);
         i += 1;
     }
     Number::Is(number)
@@ -112,16 +110,6 @@ fn refused(no: usize, place: usize) -> Line
     })
 }
 
-// One of two bytes that is not over either.
-fn lesser(a: u8, b: u8) -> u8
-    ensures { λ r. ⌜ (r ≤ a) × (r ≤ b) ⌝ }
-{
-    if a < b {
-        return a;
-    }
-    b
-}
-
 // None of the k bytes at an offset is under 20h. A content without a fault is the rule, so the loop looks at every byte and has no way out: it is
 // then done many bytes at a time.
 fn clean(s: &[u8], at: usize, k: usize) -> bool
@@ -130,15 +118,12 @@ fn clean(s: &[u8], at: usize, k: usize) -> bool
 {
     let end = at + k;
     let mut i = at;
-    let mut least = MOST_BYTE;
+    let mut fit = true;
     while i < end {
-        least = lesser(s[i], least);
+        fit &= LEAST_BYTE <= s[i];
         i += 1;
     }
-    if least < LEAST_BYTE {
-        return false;
-    }
-    true
+    fit
 }
 
 // The offset of the first byte under 20h among the k bytes at an offset, or the offset behind them.
@@ -158,7 +143,7 @@ fn seek_low(s: &[u8], at: usize, k: usize) -> usize
 }
 
 // The same offset, and the bytes are searched one by one only where one of them is under 20h.
-fn first_low(s: &[u8], at: usize, k: usize) -> usize
+pub fn first_low(s: &[u8], at: usize, k: usize) -> usize
     requires { ⌜ at + k ≤ length (now s) ⌝ }
     ensures { λ r. ⌜ r ≡ firstLow (now (s .entry)) at k ⌝ }
 {
@@ -248,13 +233,13 @@ pub fn ends_at(s: &[u8], at: usize) -> bool
     true
 }
 
-// The lines of a set from the second on, which stands at this offset: at each the set's end is asked first, then 7, then 2 to 6 (B2).
-fn scan_from(s: &[u8], second: usize) -> Scan
-    requires { ⌜ second ≤ length (now s) ⌝ }
-    ensures { λ r. ⌜ r ≡ scanFrom (now (s .entry)) second 1 (maxLines - 1) ⌝ }
+// The lines of a set from a line start on that has so many lines before it: at each the set's end is asked first, then 7, then 2 to 6 (B2).
+pub fn scan_from(s: &[u8], start: usize, before: usize) -> Scan
+    requires { ⌜ (start ≤ length (now s)) × (before ≤ maxLines) ⌝ }
+    ensures { λ r. ⌜ r ≡ scanFrom (now (s .entry)) start before (maxLines - before) ⌝ }
 {
-    let mut at = second;
-    let mut lines: usize = 1;
+    let mut at = start;
+    let mut lines = before;
     loop {
         if ends_at(s, at) {
             return Scan::Done { length: at, lines };
@@ -276,23 +261,5 @@ fn scan_from(s: &[u8], second: usize) -> Scan
                 lines += 1;
             }
         }
-    }
-}
-
-// The lines of the set at the front: "first 1; then all lines, in order, each by 7, 2, 3, 4, 5, 6". Its first line is read whatever its label is.
-pub fn scan_set(s: &[u8]) -> Scan
-    ensures { λ r. ⌜ r ≡ scanSet (now (s .entry)) ⌝ }
-{
-    // 1, Empty: "a set or list of no bytes"
-    if s.len() == 0 {
-        return Scan::Refused(Refusal {
-            no: Refusal::EMPTY,
-            place: 0,
-            label: 0,
-        });
-    }
-    match line_at(s, 0) {
-        Line::Read { label: _, size } => scan_from(s, size),
-        Line::Refused(r) => Scan::Refused(r),
     }
 }

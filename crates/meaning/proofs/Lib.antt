@@ -15,8 +15,8 @@ pub mod ViewLaws
 pub mod Asking
 pub mod Examples
 pub mod Demands
+pub mod CallLaws
 pub mod NumberLaws
 pub mod Decided
 pub mod TableLaws
 pub mod FieldExamples
-pub mod RowExamples

@@ -41,11 +41,11 @@ use Rattle.rules.specs.Walks.{orElse, begin, contentOf, passFrom, sumIs,
 use Rattle.rules.proofs.FirstLaws.{firstOf, Real, first-append, real-append, real-ask, real-rule, first-none, or-assoc, or-none, or-bad, or-then}
 use Rattle.rules.proofs.FlagLaws.{flags-none}
 use Rattle.rules.proofs.LackLaws.{real-lacking}
-use Rattle.rules.proofs.PassLaws.{real-rules, real-groups, reads-content, reads-on, pass-is}
+use Rattle.rules.proofs.PassLaws.{Same, real-rules, real-groups, reads-content, reads-on, whole, pass-is}
 
 -- ---- 11 to 16, as found
 
-abbrev middle : Profile → List Field → List Fault
+abbrev pub middle : Profile → List Field → List Fault
 middle p fs = rulesFrom p first 0 fs ++ missingFaults (rowsOf p) (labels fs)
 
 real-missing : (rs : List Row) (ls : List ℕ) → Real (missingFaults rs ls)
@@ -53,30 +53,36 @@ unfolding missingFaults
 real-missing rs ls =
     real-append (lacking rs setLevel 0 (among (after rs first 0 ls .top))) (groupsLacking rs first 0 ls) (real-lacking rs setLevel 0 (among (after rs first 0 ls .top))) (real-groups rs first 0 ls)
 
-real-middle : (p : Profile) (fs : List Field) → Real (middle p fs)
+pub real-middle : (p : Profile) (fs : List Field) → Real (middle p fs)
 real-middle p fs = real-append (rulesFrom p first 0 fs) _ (real-rules p first 0 fs) (real-missing (rowsOf p) (labels fs))
 
-abbrev ofType : SetType → Profile
+abbrev pub ofType : SetType → Profile
 ofType kind = record { setType = Of kind }
 
-pass-found : (s : List ℕ) (kind : SetType) (fs : List Field) (t : List ℕ) → Every Sound fs → s ≡ render fs t
-    → passFrom s kind 0 begin noRefusal (length fs) ≡ firstOf (inSet fs) (middle (ofType kind) fs)
+-- what the pass finds over all lines of a set
+pub whole-found : (kind : SetType) (pl : ℕ → Spot → ℕ) (fs : List Field) → whole kind pl first 0 fs noRefusal ≡ firstOf pl (middle (ofType kind) fs)
 unfolding missingFaults
-pass-found s kind fs t h w =
+whole-found kind pl fs =
     let p : Profile = ofType kind in
     let tops : List Fault = lacking (table kind) setLevel 0 (among (after (table kind) first 0 (labels fs) .top)) in
     let groups : List Fault = groupsLacking (table kind) first 0 (labels fs) in
-    pass-is s kind fs fs t 0 0 begin first noRefusal h w (omega arith) refl refl (record { header = refl; place = refl; members = flags-none (table kind); top = flags-none (table kind) })
-    ∙ (ap (λ (x : Refusal). orElse (firstOf (inSet fs) (rulesFrom p first 0 fs)) (orElse (firstOf (inSet fs) tops) x)) (or-none (firstOf (inSet fs) groups))
-    ∙ (ap (orElse (firstOf (inSet fs) (rulesFrom p first 0 fs))) (sym (first-append (inSet fs) tops groups (real-lacking (table kind) setLevel 0 (among (after (table kind) first 0 (labels fs) .top)))))
-    ∙ sym (first-append (inSet fs) (rulesFrom p first 0 fs) (tops ++ groups) (real-rules p first 0 fs))))
+    ap (λ (x : Refusal). orElse (firstOf pl (rulesFrom p first 0 fs)) (orElse (firstOf pl tops) x)) (or-none (firstOf pl groups))
+    ∙ (ap (orElse (firstOf pl (rulesFrom p first 0 fs))) (sym (first-append pl tops groups (real-lacking (table kind) setLevel 0 (among (after (table kind) first 0 (labels fs) .top)))))
+    ∙ sym (first-append pl (rulesFrom p first 0 fs) (tops ++ groups) (real-rules p first 0 fs)))
+
+pub begin-same : (kind : SetType) (pl : ℕ → Spot → ℕ) → 0 ≡ pl 0 start → Same (table kind) pl begin first
+begin-same kind pl e = record { header = refl; place = e; members = flags-none (table kind); top = flags-none (table kind) }
+
+pass-found : (s : List ℕ) (kind : SetType) (fs : List Field) (t : List ℕ) → Every Sound fs → s ≡ render fs t
+    → passFrom s kind 0 begin noRefusal (length fs) ≡ firstOf (inSet fs) (middle (ofType kind) fs)
+pass-found s kind fs t h w = pass-is s kind fs fs t 0 0 begin first noRefusal h w (omega arith) refl refl (begin-same kind (inSet fs) refl) ∙ whole-found kind (inSet fs) fs
 
 -- ---- all rules, as found
 
-abbrev starts : Bool → Bool → Bool → List Fault
+abbrev pub starts : Bool → Bool → Bool → List Fault
 starts a b c = ask a (atLine noStart 0 0) ++ (ask b (atLine unknownSet 0 0) ++ ask c (atLine noSum 1 0))
 
-real-starts : (a b c : Bool) → Real (starts a b c)
+pub real-starts : (a b c : Bool) → Real (starts a b c)
 real-starts a b c =
     real-rule a (atLine noStart 0 0) _ (λ z. omega arith) (real-rule b (atLine unknownSet 0 0) (ask c (atLine noSum 1 0)) (λ z. omega arith) (real-ask c (atLine noSum 1 0) (λ z. omega arith)))
 

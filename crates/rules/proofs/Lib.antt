@@ -5,4 +5,5 @@ pub mod LackLaws
 pub mod PassLaws
 pub mod JudgeLaws
 pub mod StepLaws
+pub mod OnceLaws
 pub mod StartLaws

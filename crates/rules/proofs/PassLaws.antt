@@ -288,31 +288,32 @@ module _ (s : List ℕ) (at : ℕ) (f : Field) (u : List ℕ) (h : Sound f) (w :
   pub reads-on : drop (at + lineSize f) s ≡ u
   reads-on = sym (drop-drop (lineSize f) at s) ∙ (ap (drop (lineSize f)) w ∙ (ap (λ (m : ℕ). drop m (lineThen f u)) (sym (size-line f u h)) ∙ drop-line f u h))
 
-module _ (s : List ℕ) (kind : SetType) (all : List Field) where
-  abbrev profileOf : Profile
+-- the rules over some lines, with places found by `pl`
+module _ (kind : SetType) (pl : ℕ → Spot → ℕ) where
+  abbrev pub profileOf : Profile
   profileOf = record { setType = Of kind }
 
   -- 11 to 15 of the lines fs, then 16: set level, then groups and pairs
-  abbrev whole : G.State → ℕ → List Field → Refusal → Refusal
+  abbrev pub whole : G.State → ℕ → List Field → Refusal → Refusal
   whole ms k fs lack =
-      orElse (firstOf (inSet all) (rulesFrom profileOf ms k fs))
-      (orElse (firstOf (inSet all) (lacking (table kind) setLevel 0 (among (after (table kind) ms k (labels fs) .top))))
-      (orElse lack (firstOf (inSet all) (groupsLacking (table kind) ms k (labels fs)))))
+      orElse (firstOf pl (rulesFrom profileOf ms k fs))
+      (orElse (firstOf pl (lacking (table kind) setLevel 0 (among (after (table kind) ms k (labels fs) .top))))
+      (orElse lack (firstOf pl (groupsLacking (table kind) ms k (labels fs)))))
 
-  lack-joins : (st : State) (ms : G.State) → Same (table kind) (inSet all) st ms → (lack : Refusal) (b : Bool) (m : List Fault)
-      → orElse (lackThen b kind st lack) (firstOf (inSet all) m) ≡ orElse lack (firstOf (inSet all) (cond b [] (openLacking (table kind) ms) ++ m))
+  lack-joins : (st : State) (ms : G.State) → Same (table kind) pl st ms → (lack : Refusal) (b : Bool) (m : List Fault)
+      → orElse (lackThen b kind st lack) (firstOf pl m) ≡ orElse lack (firstOf pl (cond b [] (openLacking (table kind) ms) ++ m))
   unfolding firstLack
   lack-joins st ms sm lack true m = refl
   lack-joins st ms sm lack false m =
-      sym (or-assoc lack (openLack kind (st .header) (st .place) (st .members)) (firstOf (inSet all) m))
-      ∙ ap (orElse lack) (ap (λ (x : Refusal). orElse x (firstOf (inSet all) m)) (open-is kind (inSet all) st ms sm)
-      ∙ sym (first-append (inSet all) (openLacking (table kind) ms) m (real-open (table kind) ms)))
+      sym (or-assoc lack (openLack kind (st .header) (st .place) (st .members)) (firstOf pl m))
+      ∙ ap (orElse lack) (ap (λ (x : Refusal). orElse x (firstOf pl m)) (open-is kind pl st ms sm)
+      ∙ sym (first-append pl (openLacking (table kind) ms) m (real-open (table kind) ms)))
 
   -- one line more, where the rest is known
-  pass-step : (f : Field) (fs : List Field) (at k : ℕ) (st : State) (ms : G.State) (lack : Refusal) → Same (table kind) (inSet all) st ms
-      → (found : Found) → LineSame (table kind) (inSet all) (roleIn profileOf ms f) profileOf st ms k at f found
+  pass-step : (f : Field) (fs : List Field) (at k : ℕ) (st : State) (ms : G.State) (lack : Refusal) → Same (table kind) pl st ms
+      → (found : Found) → LineSame (table kind) pl (roleIn profileOf ms f) profileOf st ms k at f found
       → (F : State → Refusal → Refusal)
-      → ((st′ : State) (ms′ : G.State) (lack′ : Refusal) → Same (table kind) (inSet all) st′ ms′ → F st′ lack′ ≡ whole ms′ (k + 1) fs lack′)
+      → ((st′ : State) (ms′ : G.State) (lack′ : Refusal) → Same (table kind) pl st′ ms′ → F st′ lack′ ≡ whole ms′ (k + 1) fs lack′)
       → cond (eqb (lineNo found st (f .label) (f .content)) 0) (F (nextState found st at (f .label)) (lackThen (staysIn found) kind st lack)) (refusal (lineNo found st (f .label) (f .content)) at (f .label))
       ≡ whole ms k (f ∷ fs) lack
   unfolding rulesFrom after groupsLacking
@@ -334,7 +335,7 @@ module _ (s : List ℕ) (kind : SetType) (all : List Field) where
       rest = rulesFrom profileOf then (k + 1) fs
 
       tops : Refusal
-      tops = firstOf (inSet all) (lacking (table kind) setLevel 0 (among (after (table kind) then (k + 1) (labels fs) .top)))
+      tops = firstOf pl (lacking (table kind) setLevel 0 (among (after (table kind) then (k + 1) (labels fs) .top)))
 
       groups : List Fault
       groups = cond (stays (roleIn profileOf ms f)) [] (openLacking (table kind) ms)
@@ -342,39 +343,55 @@ module _ (s : List ℕ) (kind : SetType) (all : List Field) where
       more : List Fault
       more = groupsLacking (table kind) then (k + 1) (labels fs)
 
-      rules : firstOf (inSet all) (lr ++ rest) ≡ orElse (numbered no at (f .label)) (firstOf (inSet all) rest)
-      rules = first-append (inSet all) lr rest (real-line (roleIn profileOf ms f) profileOf ms k f) ∙ ap (λ (x : Refusal). orElse x (firstOf (inSet all) rest)) (sym (ls .number-so))
+      rules : firstOf pl (lr ++ rest) ≡ orElse (numbered no at (f .label)) (firstOf pl rest)
+      rules = first-append pl lr rest (real-line (roleIn profileOf ms f) profileOf ms k f) ∙ ap (λ (x : Refusal). orElse x (firstOf pl rest)) (sym (ls .number-so))
 
       go : (b : Bool) → eqb no 0 ≡ b → cond b (F (nextState found st at (f .label)) (lackThen (staysIn found) kind st lack)) (refusal no at (f .label))
-          ≡ orElse (firstOf (inSet all) (lr ++ rest)) (orElse tops (orElse lack (firstOf (inSet all) (groups ++ more))))
+          ≡ orElse (firstOf pl (lr ++ rest)) (orElse tops (orElse lack (firstOf pl (groups ++ more))))
       go true q =
           let z : no ≡ 0 = eqb-true no 0 q in
-          let r : firstOf (inSet all) (lr ++ rest) ≡ firstOf (inSet all) rest =
-          rules ∙ (ap (λ (x : Refusal). orElse x (firstOf (inSet all) rest)) (numbered-none no at (f .label) z) ∙ or-none (firstOf (inSet all) rest)) in
+          let r : firstOf pl (lr ++ rest) ≡ firstOf pl rest =
+          rules ∙ (ap (λ (x : Refusal). orElse x (firstOf pl rest)) (numbered-none no at (f .label) z) ∙ or-none (firstOf pl rest)) in
           ih (nextState found st at (f .label)) then (lackThen (staysIn found) kind st lack) (ls .state-so z)
           ∙ ap₂ (λ (x y : Refusal). orElse x (orElse tops y)) (sym r)
-          (ap (λ (b : Bool). orElse (lackThen b kind st lack) (firstOf (inSet all) more)) (ls .stays-so z) ∙ lack-joins st ms sm lack (stays o) more)
+          (ap (λ (b : Bool). orElse (lackThen b kind st lack) (firstOf pl more)) (ls .stays-so z) ∙ lack-joins st ms sm lack (stays o) more)
       go false q =
           let z : no ≡ 0 → ⊥ = eqb-false no 0 q in
-          let r : firstOf (inSet all) (lr ++ rest) ≡ refusal no at (f .label) =
-          rules ∙ (ap (λ (x : Refusal). orElse x (firstOf (inSet all) rest)) (numbered-bad no at (f .label) z) ∙ or-bad (refusal no at (f .label)) (firstOf (inSet all) rest) z) in
-          sym (ap (λ (x : Refusal). orElse x (orElse tops (orElse lack (firstOf (inSet all) (groups ++ more))))) r ∙ or-bad (refusal no at (f .label)) _ z)
+          let r : firstOf pl (lr ++ rest) ≡ refusal no at (f .label) =
+          rules ∙ (ap (λ (x : Refusal). orElse x (firstOf pl rest)) (numbered-bad no at (f .label) z) ∙ or-bad (refusal no at (f .label)) (firstOf pl rest) z) in
+          sym (ap (λ (x : Refusal). orElse x (orElse tops (orElse lack (firstOf pl (groups ++ more))))) r ∙ or-bad (refusal no at (f .label)) _ z)
 
+  -- the same, with the line's row looked up
+  pub pass-line : (f : Field) (fs : List Field) (at k : ℕ) (st : State) (ms : G.State) (lack : Refusal) → Same (table kind) pl st ms → at ≡ pl k start
+      → (F : State → Refusal → Refusal)
+      → ((st′ : State) (ms′ : G.State) (lack′ : Refusal) → Same (table kind) pl st′ ms′ → F st′ lack′ ≡ whole ms′ (k + 1) fs lack′)
+      → cond (eqb (lineNo (rowOf kind (f .label)) st (f .label) (f .content)) 0) (F (nextState (rowOf kind (f .label)) st at (f .label)) (lackThen (staysIn (rowOf kind (f .label))) kind st lack))
+      (refusal (lineNo (rowOf kind (f .label)) st (f .label) (f .content)) at (f .label))
+      ≡ whole ms k (f ∷ fs) lack
+  pass-line f fs at k st ms lack sm e F ih =
+      pass-step f fs at k st ms lack sm (rowOf kind (f .label)) (line-same (table kind) (few-rows kind) pl st ms sm k at e profileOf f (rowOf kind (f .label)) refl) F ih
+
+  -- behind the last line
+  pub pass-finish : (k : ℕ) (st : State) (ms : G.State) (lack : Refusal) → 0 ≡ pl 0 start → Same (table kind) pl st ms → finish kind st lack ≡ whole ms k [] lack
+  unfolding finish setLack firstLack rulesFrom after groupsLacking
+  pass-finish k st ms lack z sm =
+      ap₂ orElse
+      (ap (λ (has : ℕ → Bool). lackAll has (requiredLabels kind)) (λ i l. sm .top .same l i) ∙ set-lack (among (ms .top)) pl z kind)
+      (ap (orElse lack) (open-is kind pl st ms sm))
+      ∙ sym (or-none _)
+
+module _ (s : List ℕ) (kind : SetType) (all : List Field) where
   next-place : (at k : ℕ) (f : Field) (fs : List Field) → at ≡ inSet all k start → drop k all ≡ f ∷ fs → at + lineSize f ≡ inSet all (k + 1) start
   next-place at k f fs e d = rw add-one (omega (arith, e, offset-next all k f fs d .0))
 
   pub pass-is : (fs : List Field) (t : List ℕ) (at k : ℕ) (st : State) (ms : G.State) (lack : Refusal) → Every Sound fs → drop at s ≡ render fs t → at ≤ length s
-      → at ≡ inSet all k start → drop k all ≡ fs → Same (table kind) (inSet all) st ms → passFrom s kind at st lack (length fs) ≡ whole ms k fs lack
-  unfolding passFrom finish setLack firstLack rulesFrom after groupsLacking
-  pass-is [] t at k st ms lack h w b e d sm =
-      ap₂ orElse
-      (ap (λ (has : ℕ → Bool). lackAll has (requiredLabels kind)) (λ i l. sm .top .same l i) ∙ set-lack (among (ms .top)) (inSet all) refl kind)
-      (ap (orElse lack) (open-is kind (inSet all) st ms sm))
-      ∙ sym (or-none _)
+      → at ≡ inSet all k start → drop k all ≡ fs → Same (table kind) (inSet all) st ms → passFrom s kind at st lack (length fs) ≡ whole kind (inSet all) ms k fs lack
+  unfolding passFrom
+  pass-is [] t at k st ms lack h w b e d sm = pass-finish kind (inSet all) k st ms lack refl sm
   pass-is (f ∷ fs) t at k st ms lack h w b e d sm =
       let rd : lineAt s at ≡ Read (f .label) (lineSize f) = read-line s at f (render fs t) w (h .0) in
       let fit : at + lineSize f ≤ length s = read-back s at rd .within in
-      let go = pass-step f fs at k st ms lack sm (rowOf kind (f .label)) (line-same (table kind) (few-rows kind) (inSet all) st ms sm k at e profileOf f (rowOf kind (f .label)) refl)
+      let go = pass-line kind (inSet all) f fs at k st ms lack sm e
       (λ st′ lack′. passFrom s kind (at + lineSize f) st′ lack′ (length fs))
       (λ st′ ms′ lack′ sm′. pass-is fs t (at + lineSize f) (k + 1) st′ ms′ lack′ (h .1) (reads-on s at f (render fs t) (h .0) w) fit
       (next-place at k f fs e d) (rw add-one (offset-next all k f fs d .1)) sm′) in

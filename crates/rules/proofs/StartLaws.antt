@@ -1,6 +1,6 @@
 -- Laws of the walk's ends, 8 to 10 and 17, for the proofs of the functions around the pass: what each `return` has to show.
 -- Assumes nothing.
-use mathlib.Core.Path.{_≡_, refl, sym, ap, _∙_}
+use mathlib.Core.Path.{_≡_, refl, sym, ap, _∙_, subst}
 use mathlib.Core.Bool.{Bool, true, false, cond, _&&_}
 use mathlib.Core.List.{List}
 use Prim.Native.Nat.{ℕ, _+_, _-_, _≤_, _<_}
@@ -15,9 +15,9 @@ use Rattle.meaning.specs.declared.Judged.the-variants.{Accepted}
 use Rattle.meaning.specs.declared.Known.{Known}
 use Rattle.meaning.specs.declared.Known.the-variants.{Of, Nothing}
 use Rattle.meaning.specs.declared.SetType.{SetType}
-use Rattle.meaning.specs.Limits.{typeOf, typeNumber}
+use Rattle.meaning.specs.Limits.{maxLines, typeOf, typeNumber}
 use Rattle.meaning.specs.Digits.{number, allDigits}
-use Rattle.meaning.specs.Refusals.{refusal, noStart, unknownSet, noSum, badSum}
+use Rattle.meaning.specs.Refusals.{refusal, empty, noStart, unknownSet, noSum, badSum}
 use Rattle.meaning.specs.Lines.{lineLead, lineEnd}
 use Rattle.meaning.specs.Rules.{typeNamed, typeDigits}
 use Rattle.meaning.specs.Lists.{sumDigits, sumLine}
@@ -30,9 +30,11 @@ use Rattle.lines.specs.declared.Scan.{Scan}
 use Rattle.lines.specs.declared.Scan.the-variants.{Done}
 use Rattle.lines.specs.Number.{numberAt}
 use Rattle.lines.specs.Line.{lineAt}
-use Rattle.lines.specs.Scan.{scanSet}
+use Rattle.lines.specs.Scan.{endsAt, scanFrom, scanSet}
+use Rattle.lines.proofs.Laws.{scan-done, scan-bad, scan-further}
 use Rattle.lines.proofs.Bridge.{asNumber, number-is}
-use Rattle.rules.specs.Walks.{orElse, begin, contentOf, passFrom, sumIs, sumWalk, secondBy, secondWalk, asJudged, typedBy, firstBy, linesWalk, judgedScan, judgeWalk}
+use Rattle.rules.specs.Walks.{orElse, begin, contentOf, passFrom, firstUnread, doneUnless, passed, sumIs, sumWalk, ruledWalk, secondBy, secondWalk, asJudged, typedBy, firstBy, linesWalk, judgedScan, judgeWalk}
+use Rattle.rules.proofs.OnceLaws.{Counts, scan-counts}
 
 -- ---- 9: the type that a content names
 
@@ -85,69 +87,135 @@ module _ (s : List ℕ) (at n total : ℕ) where
     unfolding sumWalk
     sum-wrong k q e = rw (eq-eqb n sumLine h, q, ne-eqb k total e)
 
--- ---- 10 to 17
+-- ---- what the scan leaves to be judged
 
-module _ (s : List ℕ) (kind : SetType) (at total lines l n : ℕ) where
-  pub second-other : (l ≡ 8100 → ⊥) → refusal noSum at 0 ≡ secondBy s kind at total lines l n
-  unfolding secondBy
-  second-other h = rw (ne-eqb l 8100 h)
+-- a refusal stands where all lines are read
+pub stands : (x : Scan) (r : Refusal) (f : ℕ → ℕ → Judged) → ((total lines : ℕ) → f total lines ≡ Judged.Refused r) → Judged.Refused (firstUnread x r) ≡ judgedScan x f
+stands (Done total lines) r f h = sym (h total lines)
+stands (Scan.Refused q) r f h = refl
 
-  module _ (h : l ≡ 8100) (r : Refusal) (e : r ≡ passFrom s kind 0 begin noRefusal lines) where
-    pub second-bad : (r .no ≡ 0 → ⊥) → r ≡ secondBy s kind at total lines l n
-    unfolding secondBy orElse
-    second-bad g = rw (eq-eqb l 8100 h, ← e, ne-eqb (r .no) 0 g)
+scan-same : (x : Scan) (f g : ℕ → ℕ → Judged) → ((total lines : ℕ) → f total lines ≡ g total lines) → judgedScan x f ≡ judgedScan x g
+scan-same (Done total lines) f g h = h total lines
+scan-same (Scan.Refused q) f g h = refl
 
-    pub second-good : r .no ≡ 0 → sumWalk s at n total ≡ secondBy s kind at total lines l n
-    unfolding secondBy orElse
-    second-good g = rw (eq-eqb l 8100 h, ← e, g)
+-- ---- 11 to 17
 
-module _ (s : List ℕ) (kind : SetType) (at total lines : ℕ) where
-  pub second-none : lines < 2 → refusal noSum at 0 ≡ secondWalk s kind at total lines
-  unfolding secondWalk
-  second-none h = rw (lt-leb 2 lines h)
+module _ (s : List ℕ) (kind : SetType) (at n : ℕ) where
+  -- 17 behind the pass
+  pub summed-is : (x : Scan) → judgedScan (passed s kind x) (λ total lines. asJudged (sumWalk s at n total) kind total lines)
+      ≡ judgedScan x (λ total lines. asJudged (ruledWalk s kind at total lines n) kind total lines)
+  unfolding doneUnless orElse asJudged
+  summed-is (Scan.Refused q) = refl
+  summed-is (Done total lines) = go (eqb (P .no) 0) refl
+    where
+      P : Refusal
+      P = passFrom s kind 0 begin noRefusal lines
 
-  pub second-unread : 2 ≤ lines → (r : Refusal) → lineAt s at ≡ Refused r → r ≡ secondWalk s kind at total lines
-  unfolding secondWalk
-  second-unread h r q = rw (le-leb 2 lines h, q)
+      go : (b : Bool) → eqb (P .no) 0 ≡ b
+          → judgedScan (cond b (Done total lines) (Scan.Refused P)) (λ total lines. asJudged (sumWalk s at n total) kind total lines)
+          ≡ asJudged (cond b (sumWalk s at n total) P) kind total lines
+      go true e = refl
+      go false e = sym (rw e)
 
-  pub second-read : 2 ≤ lines → (l n : ℕ) → lineAt s at ≡ Read l n → secondBy s kind at total lines l n ≡ secondWalk s kind at total lines
-  unfolding secondWalk
-  second-read h l n q = rw (le-leb 2 lines h, q)
+-- the answer by a refusal that is one, and by none
+pub judged-bad : (r q : Refusal) (kind : SetType) (total lines : ℕ) → r ≡ q → (r .no ≡ 0 → ⊥) → Judged.Refused r ≡ asJudged q kind total lines
+unfolding asJudged
+judged-bad r q kind total lines e g = rw (← e, ne-eqb (r .no) 0 g)
 
-  module _ (r : Refusal) (e : r ≡ secondWalk s kind at total lines) where
-    pub typed-bad : (r .no ≡ 0 → ⊥) → Judged.Refused r ≡ typedBy s (Of kind) at total lines
-    unfolding asJudged
-    typed-bad g = rw (← e, ne-eqb (r .no) 0 g)
+pub judged-good : (r q : Refusal) (kind : SetType) (total lines k : ℕ) → r ≡ q → r .no ≡ 0 → k ≡ typeNumber kind
+    → Accepted (record { length = total; lines = lines; kind = k }) ≡ asJudged q kind total lines
+unfolding asJudged
+judged-good r q kind total lines k e g h = rw (← e, g, h)
 
-    pub typed-good : r .no ≡ 0 → Accepted (record { length = total; lines = lines; kind = typeNumber kind }) ≡ typedBy s (Of kind) at total lines
-    unfolding asJudged
-    typed-good g = rw (← e, g)
+-- ---- 10 to 17, where line 1 ends at `at`
+
+module _ (s : List ℕ) (kind : SetType) (at : ℕ) (w : scanSet s ≡ scanFrom s at 1 (maxLines - 1)) where
+  pub second-none : endsAt s at ≡ true → Judged.Refused (refusal noSum at 0) ≡ judgedScan (scanSet s) (λ total lines. typedBy s (Of kind) at total lines)
+  unfolding secondWalk asJudged
+  second-none e = sym (ap (λ (x : Scan). judgedScan x (λ total lines. typedBy s (Of kind) at total lines)) (w ∙ scan-done s at 1 (maxLines - 1) e))
+
+  module _ (e : endsAt s at ≡ false) where
+    pub second-unread : (r : Refusal) → lineAt s at ≡ Refused r → Judged.Refused r ≡ judgedScan (scanSet s) (λ total lines. typedBy s (Of kind) at total lines)
+    second-unread r q = sym (ap (λ (x : Scan). judgedScan x (λ total lines. typedBy s (Of kind) at total lines)) (w ∙ scan-bad s at 1 (omega arith) e q))
+
+    module _ (l n : ℕ) (q : lineAt s at ≡ Read l n) where
+      second-read : judgedScan (scanSet s) (λ total lines. asJudged (secondBy s kind at total lines l n) kind total lines)
+          ≡ judgedScan (scanSet s) (λ total lines. typedBy s (Of kind) at total lines)
+      unfolding secondWalk
+      second-read = subst (λ (x : Scan). judgedScan x f ≡ judgedScan x g) (sym (w ∙ scan-further s at 1 (omega arith) e q))
+          (go (scanFrom s (at + n) 2 (maxLines - 2)) (scan-counts s (maxLines - 2) (at + n) 2))
+        where
+          f : ℕ → ℕ → Judged
+          f total lines = asJudged (secondBy s kind at total lines l n) kind total lines
+
+          g : ℕ → ℕ → Judged
+          g total lines = typedBy s (Of kind) at total lines
+
+          go : (x : Scan) → Counts 2 x → judgedScan x f ≡ judgedScan x g
+          go (Scan.Refused r) h = refl
+          go (Done total lines) h = sym (rw (le-leb 2 lines h, q))
+
+      pub second-other : (l ≡ 8100 → ⊥) → Judged.Refused (firstUnread (scanFrom s at 1 (maxLines - 1)) (refusal noSum at 0))
+          ≡ judgedScan (scanSet s) (λ total lines. typedBy s (Of kind) at total lines)
+      unfolding secondBy asJudged
+      second-other h =
+          ap (λ (x : Scan). Judged.Refused (firstUnread x (refusal noSum at 0))) (sym w)
+          ∙ (stands (scanSet s) (refusal noSum at 0) (λ total lines. asJudged (secondBy s kind at total lines l n) kind total lines) (λ total lines. rw (ne-eqb l 8100 h))
+          ∙ second-read)
+
+      pub second-summed : l ≡ 8100 → judgedScan (scanSet s) (λ total lines. asJudged (ruledWalk s kind at total lines n) kind total lines)
+          ≡ judgedScan (scanSet s) (λ total lines. typedBy s (Of kind) at total lines)
+      unfolding secondBy
+      second-summed h =
+          scan-same (scanSet s) (λ total lines. asJudged (ruledWalk s kind at total lines n) kind total lines)
+          (λ total lines. asJudged (secondBy s kind at total lines l n) kind total lines) (λ total lines. sym (rw (eq-eqb l 8100 h)))
+          ∙ second-read
 
 -- ---- 8 to 17
 
-module _ (s : List ℕ) (l n total lines : ℕ) where
-  pub first-other : (l ≡ 8000 → ⊥) → Judged.Refused (refusal noStart 0 0) ≡ firstBy s l n total lines
+module _ (s : List ℕ) (l n : ℕ) (w : scanSet s ≡ scanFrom s n 1 (maxLines - 1)) where
+  unread-as : (r : Refusal) → ((total lines : ℕ) → firstBy s l n total lines ≡ Judged.Refused r)
+      → Judged.Refused (firstUnread (scanFrom s n 1 (maxLines - 1)) r) ≡ judgedScan (scanSet s) (λ total lines. firstBy s l n total lines)
+  unread-as r h = ap (λ (x : Scan). Judged.Refused (firstUnread x r)) (sym w) ∙ stands (scanSet s) r (λ total lines. firstBy s l n total lines) h
+
+  pub first-other : (l ≡ 8000 → ⊥) → Judged.Refused (firstUnread (scanFrom s n 1 (maxLines - 1)) (refusal noStart 0 0))
+      ≡ judgedScan (scanSet s) (λ total lines. firstBy s l n total lines)
   unfolding firstBy
-  first-other h = rw (ne-eqb l 8000 h)
+  first-other h = unread-as (refusal noStart 0 0) (λ total lines. rw (ne-eqb l 8000 h))
 
-  pub first-typed : l ≡ 8000 → 10 ≤ n → (k : Known) → k ≡ typeNamed (take (n - 2 - 7) (drop 7 s)) → typedBy s k n total lines ≡ firstBy s l n total lines
-  unfolding firstBy
-  first-typed h g k e =
-      let w : n - 2 - 7 ≡ n - 9 = omega arith in
-      rw (eq-eqb l 8000 h) (ap (λ (x : Known). typedBy s x n total lines) (e ∙ ap (λ (m : ℕ). typeNamed (take m (drop 7 s))) w))
+  module _ (h : l ≡ 8000) (g : 10 ≤ n) (k : Known) (e : k ≡ typeNamed (take (n - 2 - 7) (drop 7 s))) where
+    type-so : (total lines : ℕ) → firstBy s l n total lines ≡ typedBy s k n total lines
+    unfolding firstBy
+    type-so total lines =
+        let m : n - 2 - 7 ≡ n - 9 = omega arith in
+        rw (eq-eqb l 8000 h) (ap (λ (x : Known). typedBy s x n total lines) (sym (e ∙ ap (λ (m : ℕ). typeNamed (take m (drop 7 s))) m)))
 
-pub lines-unread : (s : List ℕ) (total lines : ℕ) (r : Refusal) → lineAt s 0 ≡ Refused r → Judged.Refused r ≡ linesWalk s total lines
-unfolding linesWalk
-lines-unread s total lines r q = rw q
+    pub first-untyped : k ≡ Nothing → Judged.Refused (firstUnread (scanFrom s n 1 (maxLines - 1)) (refusal unknownSet 0 0))
+        ≡ judgedScan (scanSet s) (λ total lines. firstBy s l n total lines)
+    first-untyped q = unread-as (refusal unknownSet 0 0) (λ total lines. type-so total lines ∙ ap (λ (x : Known). typedBy s x n total lines) q)
 
-pub lines-read : (s : List ℕ) (total lines l n : ℕ) → lineAt s 0 ≡ Read l n → firstBy s l n total lines ≡ linesWalk s total lines
-unfolding linesWalk
-lines-read s total lines l n q = rw q
+    pub first-typed : (kind : SetType) → k ≡ Of kind → judgedScan (scanSet s) (λ total lines. typedBy s (Of kind) n total lines)
+        ≡ judgedScan (scanSet s) (λ total lines. firstBy s l n total lines)
+    first-typed kind q =
+        scan-same (scanSet s) (λ total lines. typedBy s (Of kind) n total lines) (λ total lines. firstBy s l n total lines)
+        (λ total lines. sym (type-so total lines ∙ ap (λ (x : Known). typedBy s x n total lines) q))
 
-pub judge-unread : (s : List ℕ) (r : Refusal) → scanSet s ≡ Scan.Refused r → Judged.Refused r ≡ judgeWalk s
-unfolding judgeWalk
-judge-unread s r q = rw q
+-- ---- 1 to 17
 
-pub judge-read : (s : List ℕ) (total lines : ℕ) → scanSet s ≡ Done total lines → linesWalk s total lines ≡ judgeWalk s
-unfolding judgeWalk
-judge-read s total lines q = rw q
+pub judge-empty : (s : List ℕ) → length s ≡ 0 → Judged.Refused (refusal empty 0 0) ≡ judgeWalk s
+unfolding judgeWalk scanSet
+judge-empty s h = rw h
+
+module _ (s : List ℕ) (h : length s ≡ 0 → ⊥) where
+  pub judge-unread : (r : Refusal) → lineAt s 0 ≡ Refused r → Judged.Refused r ≡ judgeWalk s
+  unfolding judgeWalk scanSet
+  judge-unread r q = rw (ne-eqb (length s) 0 h, q)
+
+  module _ (l n : ℕ) (q : lineAt s 0 ≡ Read l n) where
+    pub scan-first : scanSet s ≡ scanFrom s n 1 (maxLines - 1)
+    unfolding scanSet
+    scan-first = rw (ne-eqb (length s) 0 h, q)
+
+    pub judge-read : judgedScan (scanSet s) (λ total lines. firstBy s l n total lines) ≡ judgeWalk s
+    unfolding judgeWalk linesWalk
+    judge-read = scan-same (scanSet s) (λ total lines. firstBy s l n total lines) (λ total lines. linesWalk s total lines) (λ total lines. sym (rw q))

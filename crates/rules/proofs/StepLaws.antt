@@ -22,7 +22,7 @@ use Rattle.lines.specs.declared.Line.the-variants.{Read, Refused}
 use Rattle.lines.specs.Line.{lineAt}
 use Rattle.rules.specs.declared.Group.{Group}
 use Rattle.rules.specs.declared.Step.{Step}
-use Rattle.rules.specs.Walks.{State, noFlags, begin, rowOf, placeNo, labelNo, contentNo, lineNo, nextState, staysIn, firstLack, finish, contentOf, lackThen, stateOf, Stepped, passFrom}
+use Rattle.rules.specs.Walks.{State, noFlags, begin, rowOf, placeNo, labelNo, contentNo, lineNo, nextState, staysIn, firstLack, finish, contentOf, lackThen, openedGroup, joinedGroup, stateOf, Stepped, passFrom}
 
 -- ---- one line
 
@@ -57,68 +57,61 @@ module _ {o : Found} {kind : SetType} {st : State} {lack : Refusal} {at l : ℕ}
 
   pub step-opened : (i : ℕ) (row : Row) → o ≡ At i row → (p : ℕ) → p ≡ placeNo i row (st .header) (st .members) (st .top) l → p ≡ 0
       → (u : ℕ) → u ≡ contentNo l c → u ≡ 0 → row .under ≡ 0 → r .no ≡ 0
-      → r .group .header ≡ l → r .group .place ≡ at → r .group .lack ≡ firstLack kind (st .header) (st .place) (st .members) lack → members ≡ noFlags
+      → r .group ≡ record { header = l; place = at; lack = firstLack kind (st .header) (st .place) (st .members) lack } → members ≡ noFlags
       → top ≡ set (st .top) i true → Stepped o kind st lack at l c r members top
   unfolding nextState staysIn
-  step-opened i row q p e z u d y v g h₁ h₂ h₃ a b = record {
+  step-opened i row q p e z u d y v g h a b = record {
     number = g ∙ (sym y ∙ (d ∙ sym (placed-number o st l c i row q (sym e ∙ z))));
     state = λ x.
-        (λ j. record { header = h₁ j; place = h₂ j; members = a j; top = b j })
+        (λ j. record { header = h j .header; place = h j .place; members = a j; top = b j })
         ∙ (sym (ap (λ (w : ℕ). cond {A = State} (eqb w 0) (record { header = l; place = at; members = noFlags; top = set (st .top) i true })
         (record { header = cond (isPairLabel l) 0 (st .header); place = st .place; members = set (st .members) i true; top = st .top })) v)
         ∙ ap (λ (x : Found). nextState x st at l) (sym q));
     lack-so = λ x.
-        h₃ ∙ (sym (ap (λ (w : ℕ). lackThen (not (eqb w 0)) kind st lack) v) ∙ ap (λ (x : Found). lackThen (staysIn x) kind st lack) (sym q));
+        ap (λ (w : Group). w .lack) h ∙ (sym (ap (λ (w : ℕ). lackThen (not (eqb w 0)) kind st lack) v) ∙ ap (λ (x : Found). lackThen (staysIn x) kind st lack) (sym q));
   }
 
   pub step-joined : (i : ℕ) (row : Row) → o ≡ At i row → (p : ℕ) → p ≡ placeNo i row (st .header) (st .members) (st .top) l → p ≡ 0
       → (u : ℕ) → u ≡ contentNo l c → u ≡ 0 → (row .under ≡ 0 → ⊥) → r .no ≡ 0
-      → r .group .header ≡ cond (isPairLabel l) 0 (st .header) → r .group .place ≡ st .place → r .group .lack ≡ lack
+      → r .group ≡ record { header = cond (isPairLabel l) 0 (st .header); place = st .place; lack = lack }
       → members ≡ set (st .members) i true → top ≡ st .top → Stepped o kind st lack at l c r members top
   unfolding nextState staysIn
-  step-joined i row q p e z u d y v g h₁ h₂ h₃ a b = record {
+  step-joined i row q p e z u d y v g h a b = record {
     number = g ∙ (sym y ∙ (d ∙ sym (placed-number o st l c i row q (sym e ∙ z))));
     state = λ x.
-        (λ j. record { header = h₁ j; place = h₂ j; members = a j; top = b j })
+        (λ j. record { header = h j .header; place = h j .place; members = a j; top = b j })
         ∙ (sym (ap (λ (w : Bool). cond {A = State} w (record { header = l; place = at; members = noFlags; top = set (st .top) i true })
         (record { header = cond (isPairLabel l) 0 (st .header); place = st .place; members = set (st .members) i true; top = st .top })) (ne-eqb (row .under) 0 v))
         ∙ ap (λ (x : Found). nextState x st at l) (sym q));
     lack-so = λ x.
-        h₃ ∙ (sym (ap (λ (w : Bool). lackThen (not w) kind st lack) (ne-eqb (row .under) 0 v)) ∙ ap (λ (x : Found). lackThen (staysIn x) kind st lack) (sym q));
+        ap (λ (w : Group). w .lack) h ∙ (sym (ap (λ (w : Bool). lackThen (not w) kind st lack) (ne-eqb (row .under) 0 v)) ∙ ap (λ (x : Found). lackThen (staysIn x) kind st lack) (sym q));
   }
 
--- ---- the pass: one line more, or no more
+-- what is open behind a set-level line, and behind a member
+pub opened-is : (kind : SetType) (at l : ℕ) (g : Group) (members : List Bool) (lack : Refusal) → lack ≡ firstLack kind (g .header) (g .place) members (g .lack)
+    → record { header = l; place = at; lack = lack } ≡ openedGroup kind at l g members
+opened-is kind at l g members lack e = λ j. record { header = l; place = at; lack = e j }
 
-one-more : {k n : ℕ} → k < n → n - k ≡ suc (n - (k + 1))
-one-more h = omega arith
+pub joined-is : (l header : ℕ) (g : Group) → header ≡ cond (isPairLabel l) 0 (g .header) → record { header = header; place = g .place; lack = g .lack } ≡ joinedGroup l g
+joined-is l header g e = λ j. record { header = e j; place = g .place; lack = g .lack }
 
-none-left : {k n : ℕ} → n ≤ k → n - k ≡ 0
-none-left h = omega arith
+-- ---- the pass: one line more
 
--- where the content of a line stands
-pub slice-length : (at size : ℕ) → 10 ≤ size → at + size - 2 - (at + 7) ≡ size - 9
-slice-length at size h = omega arith
+-- the content of a line is the part of the set that stands there
+pub step-line : {o : Found} {kind : SetType} {st : State} {lack : Refusal} {l : ℕ} {r : Step} {members top : List Bool} (s : List ℕ) (at size : ℕ) → 10 ≤ size
+    → Stepped o kind st lack at l (take (at + size - 2 - (at + 7)) (drop (at + lineLead) s)) r members top → Stepped o kind st lack at l (contentOf s at size) r members top
+step-line {o} {kind} {st} {lack} {l} {r} {members} {top} s at size h e =
+    let m : at + size - 2 - (at + 7) ≡ size - 9 = omega arith in
+    subst (λ (x : ℕ). Stepped o kind st lack at l (take x (drop (at + lineLead) s)) r members top) m e
 
-module _ (s : List ℕ) (kind : SetType) (at : ℕ) (st : State) (lack : Refusal) (k n : ℕ) where
-  pub pass-end : n ≤ k → passFrom s kind at st lack (n - k) ≡ finish kind st lack
+module _ (s : List ℕ) (kind : SetType) (at : ℕ) (st : State) (lack : Refusal) (l size : ℕ) (q : lineAt s at ≡ Read l size) (r : Step) (members top : List Bool)
+    (e : Stepped (rowOf kind l) kind st lack at l (contentOf s at size) r members top) where
+  pub pass-bad : (r .no ≡ 0 → ⊥) → (m : ℕ) → passFrom s kind at st lack (suc m) ≡ refusal (r .no) at l
   unfolding passFrom
-  pass-end h = rw (none-left h)
+  pass-bad g m = rw (q, ← (e .number), ne-eqb (r .no) 0 g)
 
-  pub pass-unread : k < n → (r : Refusal) → lineAt s at ≡ Refused r → passFrom s kind at st lack (n - k) ≡ r
+  pub pass-on : r .no ≡ 0 → (m : ℕ) → passFrom s kind at st lack (suc m) ≡ passFrom s kind (at + size) (stateOf (r .group) members top) (r .group .lack) m
   unfolding passFrom
-  pass-unread h r q = rw (one-more h, q)
-
-  module _ (h : k < n) (l size : ℕ) (q : lineAt s at ≡ Read l size) (m : ℕ) (w : m ≡ size - (lineLead + lineEnd)) (r : Step) (members top : List Bool)
-      (e : Stepped (rowOf kind l) kind st lack at l (take m (drop (at + lineLead) s)) r members top) where
-    number-here : r .no ≡ lineNo (rowOf kind l) st l (contentOf s at size)
-    number-here = e .number ∙ ap (λ (x : ℕ). lineNo (rowOf kind l) st l (take x (drop (at + lineLead) s))) w
-
-    pub pass-bad : (r .no ≡ 0 → ⊥) → passFrom s kind at st lack (n - k) ≡ refusal (r .no) at l
-    unfolding passFrom
-    pass-bad g = rw (one-more h, q, ← number-here, ne-eqb (r .no) 0 g)
-
-    pub pass-on : r .no ≡ 0 → passFrom s kind at st lack (n - k) ≡ passFrom s kind (at + size) (stateOf (r .group) members top) (r .group .lack) (n - (k + 1))
-    unfolding passFrom
-    pass-on g =
-        let z : lineNo (rowOf kind l) st l (contentOf s at size) ≡ 0 = sym number-here ∙ g in
-        rw (one-more h, q, z) (ap₂ (λ (x : State) (y : Refusal). passFrom s kind (at + size) x y (n - (k + 1))) (sym (e .state g)) (sym (e .lack-so g)))
+  pass-on g m =
+      let z : lineNo (rowOf kind l) st l (contentOf s at size) ≡ 0 = sym (e .number) ∙ g in
+      rw (q, z) (ap₂ (λ (x : State) (y : Refusal). passFrom s kind (at + size) x y m) (sym (e .state g)) (sym (e .lack-so g)))

@@ -14,8 +14,8 @@ use Rattle.meaning.specs.declared.Known.{Known}
 use Rattle.meaning.specs.declared.Known.the-variants.{Of, Nothing}
 use Rattle.meaning.specs.declared.SetType.{SetType}
 use Rattle.meaning.specs.declared.SetType.the-variants.{T6300, T6301, T6302, T6310, T6311}
-use Rattle.meaning.specs.Limits.{typeNumber}
-use Rattle.meaning.specs.Refusals.{refusal, noStart, unknownSet, noSum, notInSet, stray, repeated, badContent, otherVersion, missing, badSum}
+use Rattle.meaning.specs.Limits.{maxLines, typeNumber}
+use Rattle.meaning.specs.Refusals.{refusal, tooManyLines, noStart, unknownSet, noSum, notInSet, stray, repeated, badContent, otherVersion, missing, badSum}
 use Rattle.meaning.specs.Lines.{lineLead, lineEnd}
 use Rattle.meaning.specs.Kinds.{is0210}
 use Rattle.meaning.specs.FieldTable.{fitsLabel}
@@ -37,7 +37,7 @@ use Rattle.lines.specs.declared.Scan.{Scan}
 use Rattle.lines.specs.declared.Scan.the-variants.{Done}
 use Rattle.lines.specs.Number.{numberAt}
 use Rattle.lines.specs.Line.{lineAt}
-use Rattle.lines.specs.Scan.{scanSet}
+use Rattle.lines.specs.Scan.{after, scanFrom, scanSet}
 
 -- the first of two refusals; number 0 is none
 unfoldable pub orElse : Refusal → Refusal → Refusal
@@ -196,6 +196,13 @@ contentOf s at n = take (n - (lineLead + lineEnd)) (drop (at + lineLead) s)
 abbrev pub lackThen : Bool → SetType → State → Refusal → Refusal
 lackThen stays kind st lack = cond stays lack (firstLack kind (st .header) (st .place) (st .members) lack)
 
+-- what is open behind a set-level line, and behind a member, as the code holds it
+abbrev pub openedGroup : SetType → ℕ → ℕ → Group → List Bool → Group
+openedGroup kind at l g members = record { header = l; place = at; lack = firstLack kind (g .header) (g .place) members (g .lack) }
+
+abbrev pub joinedGroup : ℕ → Group → Group
+joinedGroup l g = record { header = cond (isPairLabel l) noHeader (g .header); place = g .place; lack = g .lack }
+
 -- the state that the code holds in parts
 abbrev pub stateOf : Group → List Bool → List Bool → State
 stateOf g members top = record { header = g .header; place = g .place; members = members; top = top }
@@ -214,6 +221,26 @@ passFrom s kind at st lack (suc n) =
     let rest = passFrom s kind (at + m) (nextState (rowOf kind l) st at l) (lackThen (staysIn (rowOf kind l)) kind st lack) n in
     cond (eqb (lineNo (rowOf kind l) st l (contentOf s at m)) 0) rest (refusal (lineNo (rowOf kind l) st l (contentOf s at m)) at l))
 
+-- ---- the scan and the pass at once
+
+-- the scan from a line start on that has k lines before it, where the set does not end there
+unfoldable pub scanOn : List ℕ → ℕ → ℕ → Scan
+scanOn s at k = cond (leb maxLines k) (Scan.Refused (refusal tooManyLines at 0)) (after (lineAt s at) (λ n. scanFrom s (at + n) (k + 1) (maxLines - (k + 1))))
+
+-- the refusal of a scan, else r
+abbrev pub firstUnread : Scan → Refusal → Refusal
+firstUnread (Done total lines) r = r
+firstUnread (Scan.Refused q) r = q
+
+-- a set that is read, where nothing is refused
+unfoldable pub doneUnless : Refusal → ℕ → ℕ → Scan
+doneUnless r total lines = cond (eqb (r .no) 0) (Done total lines) (Scan.Refused r)
+
+-- 1 to 7 as the scan found them, then the pass over the lines
+abbrev pub passed : List ℕ → SetType → Scan → Scan
+passed s kind (Done total lines) = doneUnless (passFrom s kind 0 begin noRefusal lines) total lines
+passed s kind (Scan.Refused r) = Scan.Refused r
+
 -- ---- 8, 9, 10, the pass, 17
 
 -- five digits that write the set's length
@@ -225,9 +252,13 @@ sumIs None total = false
 unfoldable pub sumWalk : List ℕ → ℕ → ℕ → ℕ → Refusal
 sumWalk s at n total = cond (eqb n sumLine && sumIs (numberAt s (at + lineLead) sumDigits) total) noRefusal (refusal badSum at 0)
 
+-- 11 to 17, where line 2 is the line of n bytes at `at`
+abbrev pub ruledWalk : List ℕ → SetType → ℕ → ℕ → ℕ → ℕ → Refusal
+ruledWalk s kind at total lines n = orElse (passFrom s kind 0 begin noRefusal lines) (sumWalk s at n total)
+
 -- 10 to 17, where line 2 is read
 unfoldable pub secondBy : List ℕ → SetType → ℕ → ℕ → ℕ → ℕ → ℕ → Refusal
-secondBy s kind at total lines l n = cond (eqb l 8100) (orElse (passFrom s kind 0 begin noRefusal lines) (sumWalk s at n total)) (refusal noSum at 0)
+secondBy s kind at total lines l n = cond (eqb l 8100) (ruledWalk s kind at total lines n) (refusal noSum at 0)
 
 -- 10 to 17, where line 1 ends at `at`
 unfoldable pub secondWalk : List ℕ → SetType → ℕ → ℕ → ℕ → Refusal

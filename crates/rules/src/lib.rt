@@ -2,15 +2,18 @@
 // Assumes nothing: `judge` has no `requires`. The other functions are its parts; each contract cites a walk of specs/, and proofs/JudgeLaws says what the walks mean.
 ghost use mathlib.Core.Path.{_≡_};
 ghost use mathlib.Core.Bool.{Bool, true, false, cond, not, _||_};
-ghost use Prim.Native.Nat.{ℕ, _+_, _≤_, _<_};
+ghost use Prim.Native.Nat.{ℕ, _+_, _-_, _≤_, _<_};
 ghost use lib.ListN.{length, getD, set};
+ghost use Rattle.meaning.specs.declared.Known.the-variants.{Of};
+ghost use Rattle.meaning.specs.Limits.{maxLines};
 ghost use Rattle.meaning.specs.Refusals.{refusal};
 ghost use Rattle.meaning.specs.Tables.{rows6310, table, rowLabel, isPairLabel};
 ghost use Rattle.meaning.specs.Groups.{belongs};
 ghost use Rattle.meaning.specs.Rules.{typeNamed};
 ghost use Rattle.meaning.specs.Reading as Reading;
 ghost use Rattle.meaning.specs.Answers.{noRefusal};
-ghost use Rattle.rules.specs.Walks.{rowCount, noFlags, begin, rowOf, flagged, againNo, placeNo, versionNo, contentNo, valued, lack8437, lack8410, lack6302, lackName, lackUnder, lackAll, basicLabels, patientLabels, testLabels, groupLack, openLack, firstLack, setLack, finish, stateOf, Stepped, passFrom, sumWalk, secondBy, secondWalk, asJudged, typedBy, firstBy, linesWalk, judgeWalk};
+ghost use Rattle.rules.specs.Walks.{rowCount, noFlags, rowOf, flagged, againNo, placeNo, versionNo, contentNo, valued, lack8437, lack8410, lack6302, lackName, lackUnder, lackAll, basicLabels, patientLabels, testLabels, groupLack, openLack, firstLack, setLack, finish, contentOf, openedGroup, joinedGroup, stateOf, Stepped, firstUnread, doneUnless, passed, sumWalk, ruledWalk, asJudged, typedBy, firstBy, judgedScan};
+ghost use Rattle.lines.specs.Scan.{scanFrom, scanSet};
 use lines::Line;
 use lines::Number;
 use lines::Scan;
@@ -23,7 +26,7 @@ use meaning::Shape;
 use tables::Found;
 
 // The rows of the longest table.
-const ROWS: usize = 57;
+pub const ROWS: usize = 57;
 
 // The numbers of some rows of the 6310 table.
 const ROW_6303: usize = 33;
@@ -60,12 +63,23 @@ pub struct Step {
 }
 
 // No refusal.
-fn nothing() -> Refusal
+pub fn nothing() -> Refusal
     ensures { λ r. ⌜ r ≡ noRefusal ⌝ }
 {
     Refusal {
         no: 0,
         place: 0,
+        label: 0,
+    }
+}
+
+// A refusal that carries no label.
+pub fn refused_at(no: usize, place: usize) -> Refusal
+    ensures { λ r. ⌜ r ≡ refusal no place 0 ⌝ }
+{
+    Refusal {
+        no,
+        place,
         label: 0,
     }
 }
@@ -370,7 +384,7 @@ fn set_lack(kind: SetType, top: &[bool; ROWS]) -> Refusal
 }
 
 // 16 behind the last line: "set level before groups and pairs in order".
-fn finish_at(kind: SetType, group: Group, members: &[bool; ROWS], top: &[bool; ROWS]) -> Refusal
+pub fn finish_at(kind: SetType, group: Group, members: &[bool; ROWS], top: &[bool; ROWS]) -> Refusal
     ensures { λ r. ⌜ r ≡ finish kind (stateOf group (now (members .entry)) (now (top .entry))) (group .lack) ⌝ }
 {
     let lack = set_lack(kind, top);
@@ -380,7 +394,7 @@ fn finish_at(kind: SetType, group: Group, members: &[bool; ROWS], top: &[bool; R
     first_lack(kind, group, members)
 }
 
-// ---- the pass
+// ---- one line's step
 
 // A line that is refused by this number: nothing moves.
 fn refused_step(no: usize, group: Group) -> Step
@@ -402,8 +416,46 @@ pub fn header_after(label: usize, header: usize) -> usize
     0
 }
 
+// What is open behind a set-level line with row number i: its own group, with no member yet. The group before it ends.
+fn opened(
+    kind: SetType,
+    at: usize,
+    label: usize,
+    i: usize,
+    group: Group,
+    members: &mut [bool; ROWS],
+    top: &mut [bool; ROWS],
+) -> Group
+    requires { ⌜ i < rowCount ⌝ }
+    ensures { λ r. ⌜ (r ≡ openedGroup kind at label group (now (members .entry))) × (now (members .exit) ≡ noFlags) × (now (top .exit) ≡ set (now (top .entry)) i true) ⌝ }
+{
+    let lack = first_lack(kind, group, members);
+    mark(top, i);
+    clear(members);
+    Group {
+        header: label,
+        place: at,
+        lack,
+    }
+}
+
+// What is open behind a member with row number i.
+fn joined(label: usize, i: usize, group: Group, members: &mut [bool; ROWS]) -> Group
+    requires { ⌜ i < rowCount ⌝ }
+    ensures { λ r. ⌜ (r ≡ joinedGroup label group) × (now (members .exit) ≡ set (now (members .entry)) i true) ⌝ }
+{
+    mark(members, i);
+    let header = header_after(label, group.header);
+    let lack = group.lack;
+    Group {
+        header,
+        place: group.place,
+        lack,
+    }
+}
+
 // One line: 11, 12, 13, 14, 15; else what is then open, and the flags.
-fn step_at(
+pub fn step_at(
     kind: SetType,
     at: usize,
     label: usize,
@@ -414,48 +466,83 @@ fn step_at(
 ) -> Step
     ensures { λ r. ⌜ Stepped (rowOf kind label) kind (stateOf group (now (members .entry)) (now (top .entry))) (group .lack) at label (now (content .entry)) r (now (members .exit)) (now (top .exit)) ⌝ }
 {
-    match tables::find_row(kind, label) {
-        Found::Nothing => refused_step(Refusal::NOT_IN_SET, group),
-        Found::At(i, row) => {
-            let misplaced = place_no(i, row, group.header, members, top, label);
-            if misplaced != 0 {
-                return refused_step(misplaced, group);
-            }
-            let unfit = content_no(label, content);
-            if unfit != 0 {
-                return refused_step(unfit, group);
-            }
-            if row.under == 0 {
-                let lack = first_lack(kind, group, members);
-                mark(top, i);
-                clear(members);
-                return Step {
-                    no: 0,
-                    group: Group {
-                        header: label,
-                        place: at,
-                        lack,
-                    },
-                };
-            }
-            mark(members, i);
-            let header = header_after(label, group.header);
-            let lack = group.lack;
-            Step {
-                no: 0,
-                group: Group {
-                    header,
-                    place: group.place,
-                    lack,
-                },
-            }
-        }
+    let found = tables::find_row(kind, label);
+    let Found::At(i, row) = found else {
+        return refused_step(Refusal::NOT_IN_SET, group);
+    };
+    let misplaced = place_no(i, row, group.header, members, top, label);
+    if misplaced != 0 {
+        return refused_step(misplaced, group);
+    }
+    let unfit = content_no(label, content);
+    if unfit != 0 {
+        return refused_step(unfit, group);
+    }
+    if row.under == 0 {
+        let group = opened(kind, at, label, i, group, members, top);
+        return Step { no: 0, group };
+    }
+    let group = joined(label, i, group, members);
+    Step { no: 0, group }
+}
+
+// The step of the line of `size` bytes at an offset.
+fn line_step(
+    s: &[u8],
+    kind: SetType,
+    at: usize,
+    label: usize,
+    size: usize,
+    group: Group,
+    members: &mut [bool; ROWS],
+    top: &mut [bool; ROWS],
+) -> Step
+    requires { ⌜ (10 ≤ size) × (at + size ≤ length (now s)) ⌝ }
+    ensures { λ r. ⌜ Stepped (rowOf kind label) kind (stateOf group (now (members .entry)) (now (top .entry))) (group .lack) at label (contentOf (now (s .entry)) at size) r (now (members .exit)) (now (top .exit)) ⌝ }
+{
+    let from = at + lines::LINE_LEAD;
+    let end = at + size - lines::LINE_END;
+    step_at(kind, at, label, &s[from..end], group, members, top)
+}
+
+// ---- the pass
+
+// "All lines, in order, each by 7, 2, 3, 4, 5, 6; then" the rules: the first refusal of the lines from `from` on, which have `before` lines before them, else r.
+fn unless_unread(s: &[u8], from: usize, before: usize, r: Refusal) -> Refusal
+    requires { ⌜ (from ≤ length (now s)) × (before ≤ maxLines) ⌝ }
+    ensures { λ q. ⌜ q ≡ firstUnread (scanFrom (now (s .entry)) from before (maxLines - before)) r ⌝ }
+{
+    match lines::scan_from(s, from, before) {
+        Scan::Refused(unread) => unread,
+        Scan::Done {
+            length: _,
+            lines: _,
+        } => r,
     }
 }
 
-// 11 to 15 of the first n lines, then 16.
-fn pass(s: &[u8], kind: SetType, n: usize) -> Refusal
-    ensures { λ r. ⌜ r ≡ passFrom (now (s .entry)) kind 0 begin noRefusal n ⌝ }
+// 16 behind the last line of a set of this length and so many lines.
+fn finished(
+    kind: SetType,
+    group: Group,
+    members: &[bool; ROWS],
+    top: &[bool; ROWS],
+    length: usize,
+    lines: usize,
+) -> Scan
+    ensures { λ r. ⌜ r ≡ doneUnless (finish kind (stateOf group (now (members .entry)) (now (top .entry))) (group .lack)) length lines ⌝ }
+{
+    let r = finish_at(kind, group, members, top);
+    if r.no != 0 {
+        return Scan::Refused(r);
+    }
+    Scan::Done { length, lines }
+}
+
+// The lines of a set of this type, each read once: 7, 2 to 6, and 11 to 15 of each, then 16. A refusal by 11 to 15 waits until the lines behind it are read.
+fn pass(s: &[u8], kind: SetType) -> Scan
+    requires { ⌜ 0 < length (now s) ⌝ }
+    ensures { λ r. ⌜ r ≡ passed (now (s .entry)) kind (scanSet (now (s .entry))) ⌝ }
 {
     let mut members = [false; ROWS];
     let mut top = [false; ROWS];
@@ -465,53 +552,45 @@ fn pass(s: &[u8], kind: SetType, n: usize) -> Refusal
         lack: nothing(),
     };
     let mut at: usize = 0;
-    let mut k: usize = 0;
-    while k < n {
+    let mut lines: usize = 0;
+    loop {
+        if SetType::LINES <= lines {
+            return Scan::Refused(refused_at(Refusal::TOO_MANY_LINES, at));
+        }
         match lines::line_at(s, at) {
             Line::Refused(r) => {
-                return r;
+                return Scan::Refused(r);
             }
             Line::Read { label, size } => {
-                let from = at + lines::LINE_LEAD;
-                let end = at + size - lines::LINE_END;
-                let step = step_at(
-                    kind,
-                    at,
-                    label,
-                    &s[from..end],
-                    group,
-                    &mut members,
-                    &mut top,
-                );
+                let step = line_step(s, kind, at, label, size, group, &mut members, &mut top);
                 let no = step.no;
+                let place = at;
+                at += size;
+                lines += 1;
                 if no != 0 {
-                    return Refusal {
-                        no,
-                        place: at,
-                        label,
-                    };
+                    return Scan::Refused(unless_unread(s, at, lines, Refusal { no, place, label }));
+                }
+                if lines::ends_at(s, at) {
+                    return finished(kind, step.group, &members, &top, at, lines);
                 }
                 group = step.group;
-                at += size;
-                k += 1;
             }
         }
     }
-    finish_at(kind, group, &members, &top)
 }
 
 // ---- 8, 9, 10, and 17
 
 // "8100 has five digits", and its line so many bytes.
-const SUM_DIGITS: usize = 5;
+pub const SUM_DIGITS: usize = 5;
 
-const SUM_LINE: usize = SUM_DIGITS + lines::LINE_FRAME;
+pub const SUM_LINE: usize = SUM_DIGITS + lines::LINE_FRAME;
 
 // The digits of a set type.
-const TYPE_DIGITS: usize = 4;
+pub const TYPE_DIGITS: usize = 4;
 
 // The set type that a content of 8000 names.
-fn type_of(content: &[u8]) -> Known
+pub fn type_of(content: &[u8]) -> Known
     ensures { λ r. ⌜ r ≡ typeNamed (now (content .entry)) ⌝ }
 {
     if content.len() != TYPE_DIGITS {
@@ -520,17 +599,6 @@ fn type_of(content: &[u8]) -> Known
     match lines::number_at(content, 0, TYPE_DIGITS) {
         Number::Is(number) => SetType::of(number),
         Number::None => Known::Nothing,
-    }
-}
-
-// A refusal that carries no label.
-fn refused_at(no: usize, place: usize) -> Refusal
-    ensures { λ r. ⌜ r ≡ refusal no place 0 ⌝ }
-{
-    Refusal {
-        no,
-        place,
-        label: 0,
     }
 }
 
@@ -553,89 +621,71 @@ fn sum_at(s: &[u8], at: usize, size: usize, total: usize) -> Refusal
     }
 }
 
-// 10 to 17 of the n lines of a set of `total` bytes, where line 2 is read.
-fn second_by(
-    s: &[u8],
-    kind: SetType,
-    at: usize,
-    total: usize,
-    n: usize,
-    label: usize,
-    size: usize,
-) -> Refusal
-    requires { ⌜ at + size ≤ length (now s) ⌝ }
-    ensures { λ r. ⌜ r ≡ secondBy (now (s .entry)) kind at total n label size ⌝ }
+// 11 to 17, where line 2, of this size, is 8100 and stands at an offset.
+fn summed(s: &[u8], kind: SetType, at: usize, size: usize) -> Judged
+    requires { ⌜ (0 < length (now s)) × (at + size ≤ length (now s)) ⌝ }
+    ensures { λ r. ⌜ r ≡ judgedScan (scanSet (now (s .entry))) (λ total lines. asJudged (ruledWalk (now (s .entry)) kind at total lines size) kind total lines) ⌝ }
 {
-    if label != 8100 {
-        return refused_at(Refusal::NO_SUM, at);
+    match pass(s, kind) {
+        Scan::Refused(r) => Judged::Refused(r),
+        Scan::Done { length, lines } => {
+            let r = sum_at(s, at, size, length);
+            if r.no != 0 {
+                return Judged::Refused(r);
+            }
+            Judged::Accepted(Shape {
+                length,
+                lines,
+                kind: kind.number(),
+            })
+        }
     }
-    let r = pass(s, kind, n);
-    if r.no != 0 {
-        return r;
-    }
-    sum_at(s, at, size, total)
 }
 
 // 10 to 17, where line 1 ends at `at`.
-fn second_line(s: &[u8], kind: SetType, at: usize, total: usize, n: usize) -> Refusal
-    ensures { λ r. ⌜ r ≡ secondWalk (now (s .entry)) kind at total n ⌝ }
+fn second_line(s: &[u8], kind: SetType, at: usize) -> Judged
+    requires { ⌜ (0 < at) × (at ≤ length (now s)) × (scanSet (now s) ≡ scanFrom (now s) at 1 (maxLines - 1)) ⌝ }
+    ensures { λ r. ⌜ r ≡ judgedScan (scanSet (now (s .entry))) (λ total lines. typedBy (now (s .entry)) (Of kind) at total lines) ⌝ }
 {
-    if n < 2 {
-        return refused_at(Refusal::NO_SUM, at);
+    if lines::ends_at(s, at) {
+        return Judged::Refused(refused_at(Refusal::NO_SUM, at));
     }
     match lines::line_at(s, at) {
-        Line::Refused(r) => r,
-        Line::Read { label, size } => second_by(s, kind, at, total, n, label, size),
+        Line::Refused(r) => Judged::Refused(r),
+        Line::Read { label, size } => {
+            if label != 8100 {
+                return Judged::Refused(unless_unread(s, at, 1, refused_at(Refusal::NO_SUM, at)));
+            }
+            summed(s, kind, at, size)
+        }
     }
-}
-
-// 9 to 17, where line 1 names this type and ends at `at`.
-fn typed_by(s: &[u8], known: Known, at: usize, total: usize, n: usize) -> Judged
-    ensures { λ r. ⌜ r ≡ typedBy (now (s .entry)) known at total n ⌝ }
-{
-    let Known::Of(kind) = known else {
-        return Judged::Refused(refused_at(Refusal::UNKNOWN_SET, 0));
-    };
-    let r = second_line(s, kind, at, total, n);
-    if r.no != 0 {
-        return Judged::Refused(r);
-    }
-    Judged::Accepted(Shape {
-        length: total,
-        lines: n,
-        kind: kind.number(),
-    })
 }
 
 // 8 to 17, where line 1 is read.
-fn first_by(s: &[u8], label: usize, size: usize, total: usize, n: usize) -> Judged
-    requires { ⌜ (10 ≤ size) × (size ≤ length (now s)) ⌝ }
-    ensures { λ r. ⌜ r ≡ firstBy (now (s .entry)) label size total n ⌝ }
+fn first_line(s: &[u8], label: usize, size: usize) -> Judged
+    requires { ⌜ (10 ≤ size) × (size ≤ length (now s)) × (scanSet (now s) ≡ scanFrom (now s) size 1 (maxLines - 1)) ⌝ }
+    ensures { λ r. ⌜ r ≡ judgedScan (scanSet (now (s .entry))) (λ total lines. firstBy (now (s .entry)) label size total lines) ⌝ }
 {
     if label != 8000 {
-        return Judged::Refused(refused_at(Refusal::NO_START, 0));
+        return Judged::Refused(unless_unread(s, size, 1, refused_at(Refusal::NO_START, 0)));
     }
     let end = size - lines::LINE_END;
     let known = type_of(&s[lines::LINE_LEAD..end]);
-    typed_by(s, known, size, total, n)
-}
-
-// 8 to 17 of the n lines of a set of `total` bytes.
-fn first_line(s: &[u8], total: usize, n: usize) -> Judged
-    ensures { λ r. ⌜ r ≡ linesWalk (now (s .entry)) total n ⌝ }
-{
-    match lines::line_at(s, 0) {
-        Line::Refused(r) => Judged::Refused(r),
-        Line::Read { label, size } => first_by(s, label, size, total, n),
-    }
+    let Known::Of(kind) = known else {
+        return Judged::Refused(unless_unread(s, size, 1, refused_at(Refusal::UNKNOWN_SET, 0)));
+    };
+    second_line(s, kind, size)
 }
 
 // The set at the front of some bytes: accepted with its length, its lines and its type, or its first refusal in the paper's order.
 pub fn judge(set: &[u8]) -> Judged
     ensures { λ r. ⌜ r ≡ Reading.judge (now (set .entry)) ⌝ }
 {
-    match lines::scan_set(set) {
-        Scan::Refused(r) => Judged::Refused(r),
-        Scan::Done { length, lines } => first_line(set, length, lines),
+    if set.len() == 0 {
+        return Judged::Refused(refused_at(Refusal::EMPTY, 0));
+    }
+    match lines::line_at(set, 0) {
+        Line::Refused(r) => Judged::Refused(r),
+        Line::Read { label, size } => first_line(set, label, size),
     }
 }

@@ -60,6 +60,12 @@ mul-number c = omega (arith, digits-small (omega arith) (c .before .before .befo
 cast-number : tie.Need-cast-number Inv-loop μ-loop
 cast-number c = search needs
 
+cast-number-2 : tie.Need-cast-number-2 Inv-loop μ-loop
+cast-number-2 c = search needs
+
+sub-number : tie.Need-sub-number Inv-loop μ-loop
+sub-number c = search needs
+
 add-number : tie.Need-add-number Inv-loop μ-loop
 add-number c = omega (arith, digits-small (omega arith) (c .before .before .before .before .loop .inv .2))
 
@@ -95,6 +101,8 @@ number-at-spec =
     returns-5
     mul-number
     cast-number
+    cast-number-2
+    sub-number
     add-number
     add-i
     loop-less

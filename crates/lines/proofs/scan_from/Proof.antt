@@ -1,4 +1,4 @@
--- `scan_from` is the walk `scanFrom` from the second line on: the scan of the lines that are left is the scan of all.
+-- `scan_from` is the walk `scanFrom`: the scan of the lines that are left is the scan of all.
 -- Assumes nothing.
 use mathlib.Core.Path.{_≡_, refl, sym, _∙_}
 use Prim.Native.Nat.{_-_, _≤_}
@@ -13,14 +13,14 @@ use Rattle.lines.proofs.scan_from.Statement.{statement}
 use Rattle.lines.proofs.scan_from.Tie as tie
 
 abbrev Inv-loop : tie.InvT-loop
-Inv-loop s second at₀ lines₀ at lines =
-    (at ≤ length s) × (lines ≤ maxLines) × (scanFrom s at lines (maxLines - lines) ≡ scanFrom s second 1 (maxLines - 1))
+Inv-loop s start before at₀ lines₀ at lines =
+    (at ≤ length s) × (lines ≤ maxLines) × (scanFrom s at lines (maxLines - lines) ≡ scanFrom s start before (maxLines - before))
 
 abbrev μ-loop : tie.MeasureT-loop
-μ-loop s second at₀ lines₀ at lines = maxLines - lines
+μ-loop s start before at₀ lines₀ at lines = maxLines - lines
 
 loop-holds : tie.Need-loop-holds Inv-loop μ-loop
-loop-holds c = (search needs, omega arith, refl)
+loop-holds c = (search needs, search needs, refl)
 
 ends-at-requires : tie.Need-ends-at-requires Inv-loop μ-loop
 ends-at-requires c κs = search needs

@@ -1,32 +1,77 @@
--- `first_line`: line 1 is read.
+-- `first_line`: line 1 is another one, it names no type, it names one.
 -- Assumes nothing.
-use mathlib.Core.Path.{sym, _∙_}
+use mathlib.Core.Path.{sym, ap, _∙_}
 use native.Mathlib.Omega.{arith}
 use borrow.Author.Needs.{needs}
-use Rattle.rules.proofs.StartLaws.{lines-unread, lines-read}
-use Rattle.lines.proofs.Bridge.{read-back}
+use Rattle.meaning.specs.declared.Refusal.{Refusal}
+use Rattle.meaning.specs.declared.Judged.{Judged}
+use Rattle.lines.specs.Scan.{scanFrom}
+use Rattle.rules.specs.Walks.{firstUnread}
+use Rattle.rules.proofs.StartLaws.{first-other, first-untyped, first-typed}
 use Rattle.rules.proofs.first_line.Statement.{statement}
 use Rattle.rules.proofs.first_line.Tie as tie
 
-line-at-requires : tie.Need-line-at-requires
-line-at-requires c κs = search needs
+refused-at-requires : tie.Need-refused-at-requires
+refused-at-requires c κs = search needs
 
-enum-known-r : tie.Need-enum-known-r
-enum-known-r c = search needs
-
-enum-known-label : tie.Need-enum-known-label
-enum-known-label c = search needs
-
-first-by-requires : tie.Need-first-by-requires
-first-by-requires c κs = (read-back _ _ (sym (c .before .before .before .line-at .ensures) ∙ c .before .label .given .1) .least, omega (arith, read-back _ _ (sym (c .before .before .before .line-at .ensures) ∙ c .before .label .given .1) .within))
+unless-unread-requires : tie.Need-unless-unread-requires
+unless-unread-requires c κs = search needs
 
 returns : tie.Need-returns
-returns c = lines-unread _ _ _ _ (sym (c .before .before .before .line-at .ensures) ∙ c .before .r .given .1)
+returns c = ap Judged.Refused (c .unless-unread .ensures ∙ ap (λ (x : Refusal). firstUnread (scanFrom (c .before .before .before .before .args .s .now) (c .before .before .before .before .args .size) 1 511) x) (c .before .refused-at .ensures)) ∙ first-other _ _ _ (c .before .before .before .before .pre .2) (c .before .before .if1 .taken)
+
+sub-end : tie.Need-sub-end
+sub-end c = search needs
+
+sub-type-of : tie.Need-sub-type-of
+sub-type-of c = search needs
+
+part-type-of-start : tie.Need-part-type-of-start
+part-type-of-start c = search needs
+
+part-type-of-end : tie.Need-part-type-of-end
+part-type-of-end c = search needs
+
+type-of-requires : tie.Need-type-of-requires
+type-of-requires c κs = search needs
+
+enum-known-known : tie.Need-enum-known-known
+enum-known-known c = search needs
+
+enum-told : tie.Need-enum-told
+enum-told c = search needs
+
+refused-at-requires-2 : tie.Need-refused-at-requires-2
+refused-at-requires-2 c κs = search needs
+
+unless-unread-requires-2 : tie.Need-unless-unread-requires-2
+unless-unread-requires-2 c κs = search needs
 
 returns-2 : tie.Need-returns-2
-returns-2 c = c .first-by .ensures ∙ lines-read _ _ _ _ _ (sym (c .before .before .before .before .line-at .ensures) ∙ c .before .before .label .given .1)
+returns-2 c = ap Judged.Refused (c .unless-unread2 .ensures ∙ ap (λ (x : Refusal). firstUnread (scanFrom (c .before .before .before .before .before .before .before .before .args .s .now) (c .before .before .before .before .before .before .before .before .args .size) 1 511) x) (c .before .refused-at2 .ensures)) ∙ first-untyped _ _ _ (c .before .before .before .before .before .before .before .before .pre .2) (c .before .before .before .before .before .before .if1 .left) (c .before .before .before .before .before .before .before .before .pre .0) _ (c .before .before .before .before .type-of .ensures) (c .before .before .enum-told .given .1)
+
+second-line-requires : tie.Need-second-line-requires
+second-line-requires c κs = search needs
+
+returns-3 : tie.Need-returns-3
+returns-3 c = c .second-line .ensures ∙ first-typed _ _ _ (c .before .before .before .before .before .before .before .before .pre .2) (c .before .before .before .before .before .before .if1 .left) (c .before .before .before .before .before .before .before .before .pre .0) _ (c .before .before .before .before .type-of .ensures) _ (c .before .before .known .given .1)
 
 pub first-line-spec : {M : Type 1} → statement M
 first-line-spec =
     tie.close
-    (tie.spec line-at-requires enum-known-r enum-known-label first-by-requires returns returns-2)
+    (tie.spec
+    refused-at-requires
+    unless-unread-requires
+    returns
+    sub-end
+    sub-type-of
+    part-type-of-start
+    part-type-of-end
+    type-of-requires
+    enum-known-known
+    enum-told
+    refused-at-requires-2
+    unless-unread-requires-2
+    returns-2
+    second-line-requires
+    returns-3)
