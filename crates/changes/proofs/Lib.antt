@@ -1,0 +1,4 @@
+pub mod MiddleLaws
+pub mod LineChange
+pub mod PlanLaws
+pub mod CorrectLaws

@@ -1,0 +1,20 @@
+-- How long a part of a slice is, and what a loop that counts up has left.
+-- Assumes nothing.
+use mathlib.Core.Path.{_≡_}
+use Prim.Native.Nat.{ℕ, suc, _+_, _-_, _≤_, _<_}
+use native.Mathlib.Omega.{arith}
+
+-- a part that is told by its start and its length
+pub part-length : (from n : ℕ) → from + n - from ≡ n
+part-length from n = omega arith
+
+-- the content of a line, told by the line's start and size
+pub slice-length : (at size : ℕ) → 10 ≤ size → at + size - 2 - (at + 7) ≡ size - 9
+slice-length at size h = omega arith
+
+-- one more is left, or none
+pub one-more : {k n : ℕ} → k < n → n - k ≡ suc (n - (k + 1))
+one-more h = omega arith
+
+pub none-left : {k n : ℕ} → n ≤ k → n - k ≡ 0
+none-left h = omega arith

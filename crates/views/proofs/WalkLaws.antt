@@ -1,0 +1,154 @@
+-- The walk of specs/ step by step: one law for each way that the code takes.
+-- Assumes nothing.
+use mathlib.Core.Path.{_≡_, refl, ap}
+use mathlib.Core.Bool.{Bool, true, false, cond}
+use mathlib.Core.List.{List}
+use Prim.Native.Nat.{ℕ, zero, suc, pred, _+_, _-_, _≤_, _<_}
+use native.Mathlib.Omega.{arith}
+use native.Mathlib.Nat.{add-zero}
+use borrow.Author.Tests.{le-leb, lt-leb, eq-eqb, ne-eqb}
+use lib.Dec.{eqb}
+use lib.ListN.{length, take, drop, length-take}
+use Rattle.meaning.specs.declared.Part.{Part}
+use Rattle.meaning.specs.declared.Refusal.{Refusal}
+use Rattle.meaning.specs.declared.Shape.{Shape}
+use Rattle.meaning.specs.declared.Judged.the-variants.{Accepted}
+use Rattle.meaning.specs.declared.Viewed.{Viewed}
+use Rattle.meaning.specs.declared.Viewed.the-variants.{Sheet, Refused}
+use Rattle.meaning.specs.Refusals.{behind, refusal, badByte, badUse, noSuchLine, badList}
+use Rattle.meaning.specs.Lines.{minLineBytes}
+use Rattle.meaning.specs.Entries.{entryLead}
+use Rattle.meaning.specs.Reading.{judge}
+use Rattle.meaning.specs.Views.{part}
+use Rattle.meaning.proofs.Demands.{judge-read}
+use Rattle.entries.specs.declared.Head.{Head}
+use Rattle.entries.specs.declared.Head.the-variants.{Whole, Cut}
+use Rattle.entries.specs.Head.{entryAt}
+use Rattle.entries.proofs.HeadLaws.{whole-back}
+use Rattle.offers.specs.declared.Offer.{Offer}
+use Rattle.offers.specs.declared.OneLine.{OneLine}
+use Rattle.offers.specs.Offered.{lineAfter, offered, offerSpot}
+use Rattle.offers.proofs.OfferLaws.{line-stands, offer-byte}
+use Rattle.views.specs.declared.Checked.{Checked}
+use Rattle.views.specs.declared.Checked.the-variants.{Good}
+use Rattle.views.specs.Showing.{byOffer, byHead, checkedAt, newer, shownFrom, shownUnder, shownAlone}
+
+-- ---- one entry of the sheet
+
+-- the length of a part from a on
+pub part-length : (a n : ℕ) → (a + n) - a ≡ n
+part-length a n = omega arith
+
+-- the byte that is told of a content of n bytes at a
+pub byte-within : (s : List ℕ) (x : Shape) (h : List ℕ) (a k n : ℕ) (o : Offer) → o ≡ offered s x k (take ((a + n) - a) (drop a h)) → o .byte ≤ n
+byte-within s x h a k n o e =
+    let c : List ℕ = take ((a + n) - a) (drop a h) in
+    rw e (omega (arith, offer-byte s x k c, length-take ((a + n) - a) (drop a h), part-length a n))
+
+module _ (s : List ℕ) (x : Shape) (h : List ℕ) (at : ℕ) where
+  pub check-cut : entryAt h at ≡ Cut → Checked.Refused (refusal badList at 0) ≡ checkedAt s x h at
+  unfolding checkedAt
+  check-cut e = rw e
+
+  module _ (k n : ℕ) (e : entryAt h at ≡ Whole k n) (m : ℕ) (q : m ≡ n) (o : Offer) (p : o ≡ offered s x k (take m (drop (at + entryLead) h))) where
+    check-by : byOffer o at k n ≡ checkedAt s x h at
+    unfolding checkedAt
+    check-by = rw (e, p, q)
+
+    pub check-good : o .no ≡ 0 → Good k n ≡ checkedAt s x h at
+    check-good z = rw (z) at check-by
+
+    pub check-low : (o .no ≡ 0 → ⊥) → o .no ≡ badByte → Checked.Refused (refusal (o .no) ((at + entryLead) + o .byte) (o .label)) ≡ checkedAt s x h at
+    check-low z b =
+        let a : (at + entryLead) + o .byte ≡ at + (entryLead + o .byte) = omega arith in
+        rw a (rw (ne-eqb (o .no) 0 z, eq-eqb (o .no) badByte b) at check-by)
+
+    pub check-bad : (o .no ≡ 0 → ⊥) → (o .no ≡ badByte → ⊥) → Checked.Refused (refusal (o .no) at (o .label)) ≡ checkedAt s x h at
+    check-bad z b = rw (ne-eqb (o .no) 0 z, ne-eqb (o .no) badByte b, add-zero at) at check-by
+
+good-length : (b : Bool) (r : Refusal) (k n k′ n′ : ℕ) → cond b (Good k′ n′) (Checked.Refused r) ≡ Good k n → n′ ≡ n
+good-length true r k n k′ n′ e = cc
+good-length false r k n k′ n′ e = let z : _≡_ {A = ℕ} 0 1 = cc in absurd (omega arith)
+
+-- an entry that is good lies within the sheet
+pub check-within : (s : List ℕ) (x : Shape) (h : List ℕ) (at k n : ℕ) → checkedAt s x h at ≡ Good k n → at + (entryLead + n) ≤ length h
+unfolding checkedAt
+check-within s x h at k n e = go (entryAt h at) refl e
+  where
+    go : (y : Head) → entryAt h at ≡ y → byHead s x h at y ≡ Good k n → at + (entryLead + n) ≤ length h
+    go (Whole k′ n′) w q =
+        let o : Offer = offered s x k′ (take n′ (drop (at + entryLead) h)) in
+        omega (arith, good-length (eqb (o .no) 0) (refusal (o .no) (at + behind entryLead (offerSpot o)) (o .label)) k n k′ n′ q, whole-back h at w .within)
+    go Cut w q = let z : _≡_ {A = ℕ} 0 1 = cc in absurd (omega arith)
+
+-- ---- what is shown
+
+pub newer-this : (v : Viewed) (p : Part) (k n : ℕ) → k ≡ n → Sheet p ≡ newer v p k n
+unfolding newer
+newer-this v p k n e = rw (eq-eqb k n e)
+
+pub newer-other : (v : Viewed) (p : Part) (k n : ℕ) → (k ≡ n → ⊥) → v ≡ newer v p k n
+unfolding newer
+newer-other v p k n e = rw (ne-eqb k n e)
+
+-- a line of an accepted set lies within the set
+pub record Inside (s : List ℕ) (x : OneLine) : Type 0 where
+  pub least : minLineBytes ≤ x .size
+  pub within : x .at + x .size ≤ length s
+
+pub line-inside : (s : List ℕ) (x : Shape) (n : ℕ) → judge s ≡ Accepted x → 1 ≤ n → n ≤ x .lines → Inside s (lineAfter s (n - 1))
+line-inside s x n j lo hi =
+    let d = judge-read s x j in
+    let l = ap (λ (y : Shape). y .lines) (d .2) in
+    let st = line-stands s (d .0) (n - 1) (d .1) (omega (arith, l)) in
+    record { least = st .least; within = st .within }
+
+-- ---- the sheet, with at most m entries left
+
+module _ (s : List ℕ) (x : Shape) (h : List ℕ) (n m at : ℕ) (v : Viewed) where
+  pub shown-end : length h ≤ at → v ≡ shownFrom s x h n m at v
+  unfolding shownFrom
+  shown-end e = go m
+    where
+      go : (i : ℕ) → v ≡ shownFrom s x h n i at v
+      go zero = rw (le-leb (length h) at e)
+      go (suc i) = rw (le-leb (length h) at e)
+
+  module _ (l : at < length h) (w : length h ≤ at + m) where
+    pub shown-bad : (r : Refusal) → checkedAt s x h at ≡ Checked.Refused r → Refused r ≡ shownFrom s x h n m at v
+    unfolding shownFrom
+    shown-bad r e = go m w
+      where
+        go : (i : ℕ) → length h ≤ at + i → Refused r ≡ shownFrom s x h n i at v
+        go zero w = absurd (omega arith)
+        go (suc i) w = rw (lt-leb (length h) at l, e)
+
+    pub shown-next : (k len : ℕ) → checkedAt s x h at ≡ Good k len → (at′ : ℕ) → at′ ≡ at + (entryLead + len)
+        → (v′ : Viewed) → v′ ≡ newer v (part (at + entryLead) len) k n
+        → shownFrom s x h n (pred m) at′ v′ ≡ shownFrom s x h n m at v
+    unfolding shownFrom
+    shown-next k len e at′ p v′ q = go m w
+      where
+        go : (i : ℕ) → length h ≤ at + i → shownFrom s x h n (pred i) at′ v′ ≡ shownFrom s x h n i at v
+        go zero w = absurd (omega arith)
+        go (suc i) w = rw (lt-leb (length h) at l, e, p, q)
+
+-- ---- an accepted set
+
+module _ (s : List ℕ) (x : Shape) (h : List ℕ) (n : ℕ) where
+  pub alone-follows : x .length < length s → Refused (refusal badUse (x .length) 0) ≡ shownAlone s x h n
+  unfolding shownAlone
+  alone-follows a = rw (lt-leb (length s) (x .length) a)
+
+  module _ (a : length s ≤ x .length) where
+    pub alone-zero : n < 1 → Refused (refusal noSuchLine (x .length) 0) ≡ shownAlone s x h n
+    unfolding shownAlone
+    alone-zero b = rw (le-leb (length s) (x .length) a, lt-leb 1 n b)
+
+    pub alone-beyond : 1 ≤ n → x .lines < n → Refused (refusal noSuchLine (x .length) 0) ≡ shownAlone s x h n
+    unfolding shownAlone
+    alone-beyond b c = rw (le-leb (length s) (x .length) a, le-leb 1 n b, lt-leb n (x .lines) c)
+
+    pub alone-there : 1 ≤ n → n ≤ x .lines → shownUnder s x h n ≡ shownAlone s x h n
+    unfolding shownAlone
+    alone-there b c = rw (le-leb (length s) (x .length) a, le-leb 1 n b, le-leb n (x .lines) c)

@@ -1,0 +1,69 @@
+-- The walk of `viewed` behind `judge`: the tests of an accepted set, then entry by entry over the bytes of the sheet, in the code's order.
+-- Assumes nothing: these are definitions. What they mean is `viewed-accepted` in proofs/ShowingLaws.
+use mathlib.Core.Bool.{cond, _&&_}
+use mathlib.Core.List.{List}
+use Prim.Native.Nat.{ℕ, zero, suc, pred, _+_, _-_}
+use lib.ListN.{length, take, drop}
+use lib.Dec.{leb, eqb}
+use Rattle.meaning.specs.declared.Part.{Part}
+use Rattle.meaning.specs.declared.Shape.{Shape}
+use Rattle.meaning.specs.declared.Viewed.{Viewed}
+use Rattle.meaning.specs.declared.Viewed.the-variants.{Sheet, Set, Refused}
+use Rattle.meaning.specs.Refusals.{behind, refusal, badUse, noSuchLine, badList, tooManyLines}
+use Rattle.meaning.specs.Lines.{lineLead, lineEnd}
+use Rattle.meaning.specs.Entries.{entryLead}
+use Rattle.meaning.specs.Views.{part}
+use Rattle.entries.specs.declared.Head.{Head}
+use Rattle.entries.specs.declared.Head.the-variants.{Whole, Cut}
+use Rattle.entries.specs.Head.{entryAt}
+use Rattle.offers.specs.declared.Offer.{Offer}
+use Rattle.offers.specs.Offered.{lineAfter, offered, offerSpot}
+use Rattle.views.specs.declared.Checked.{Checked}
+use Rattle.views.specs.declared.Checked.the-variants.{Good}
+
+-- ---- one entry of the sheet
+
+-- the entry at offset `at`, by what speaks against its content
+abbrev pub byOffer : Offer → ℕ → ℕ → ℕ → Checked
+byOffer o at k n = cond (eqb (o .no) 0) (Good k n) (Checked.Refused (refusal (o .no) (at + behind entryLead (offerSpot o)) (o .label)))
+
+-- by its head
+abbrev pub byHead : List ℕ → Shape → List ℕ → ℕ → Head → Checked
+byHead s x h at (Whole k n) = byOffer (offered s x k (take n (drop (at + entryLead) h))) at k n
+byHead s x h at Cut = Checked.Refused (refusal badList at 0)
+
+-- the entry at an offset of the sheet h: "21 (cut only), 19, 20, 6, 14"
+unfoldable pub checkedAt : List ℕ → Shape → List ℕ → ℕ → Checked
+checkedAt s x h at = byHead s x h at (entryAt h at)
+
+-- ---- what is shown
+
+-- "the last for a line counts": the part p of an entry for line k, where line n is asked for
+unfoldable pub newer : Viewed → Part → ℕ → ℕ → Viewed
+newer v p k n = cond (eqb k n) (Sheet p) v
+
+-- the part of the set that holds the content of line n
+unfoldable pub setPart : List ℕ → ℕ → Part
+setPart s n = part (lineAfter s (pred n) .at + lineLead) (lineAfter s (pred n) .size - (lineLead + lineEnd))
+
+-- a refusal stands; else what f makes of an entry
+abbrev pub checkedThen : Checked → (ℕ → ℕ → Viewed) → Viewed
+checkedThen (Good k n) f = f k n
+checkedThen (Checked.Refused r) f = Refused r
+
+-- what line n shows behind the entries from offset `at` of the sheet on, of which there are at most m, where v was shown before them
+unfoldable pub shownFrom : List ℕ → Shape → List ℕ → ℕ → ℕ → ℕ → Viewed → Viewed
+shownFrom s x h n zero at v = cond (leb (length h) at) v (Refused (refusal tooManyLines at 0))
+shownFrom s x h n (suc m) at v =
+    cond (leb (length h) at) v
+    (checkedThen (checkedAt s x h at) (λ k l. shownFrom s x h n m (at + (entryLead + l)) (newer v (part (at + entryLead) l) k n)))
+
+-- a sheet never has more entries than bytes
+unfoldable pub shownUnder : List ℕ → Shape → List ℕ → ℕ → Viewed
+shownUnder s x h n = shownFrom s x h n (length h) 0 (Set (setPart s n))
+
+-- the set alone (18), the asked line (19), then the sheet
+unfoldable pub shownAlone : List ℕ → Shape → List ℕ → ℕ → Viewed
+shownAlone s x h n =
+    cond (leb (length s) (x .length)) (cond (leb 1 n && leb n (x .lines)) (shownUnder s x h n) (Refused (refusal noSuchLine (x .length) 0)))
+    (Refused (refusal badUse (x .length) 0))

@@ -1,0 +1,302 @@
+-- The lines that the writer puts: what each `return` has to show, what the walk over a checked list gives, and the answers of `write`.
+-- Assumes nothing.
+use mathlib.Core.Path.{_≡_, refl, sym, ap, ap₂, _∙_, subst}
+use mathlib.Core.Bool.{Bool, true, false, cond, _&&_}
+use mathlib.Core.List.{List, [], _∷_, _++_, append-assoc, append-nil}
+use Prim.Native.Nat.{ℕ, _+_, _-_, _*_, _≤_, _<_}
+use native.Mathlib.Omega.{arith}
+use lib.Dec.{leb, eqb}
+use lib.ListN.{length, take, drop, replicate, length-append, drop-of-length-le}
+use borrow.Author.Tests.{le-leb, lt-leb, eq-eqb, ne-eqb, eqb-true, eqb-false}
+use borrow.Rule.Slice.PartMut.{midOf, putMid}
+use Rattle.meaning.specs.declared.Refusal.{Refusal}
+use Rattle.meaning.specs.declared.Made.the-variants.{Done, Refused}
+use Rattle.meaning.specs.Limits.{maxEntries, maxSetBytes}
+use Rattle.meaning.specs.Digits.{digits}
+use Rattle.meaning.specs.Field.{Field, field, isNil}
+use Rattle.meaning.specs.Refusals.{Spot, Fault, Reply, refused, done, thenTo, verdict, withRoom, refusal, empty, noRoom}
+use Rattle.meaning.specs.Pieces.{parsed, pieces}
+use Rattle.meaning.specs.Lines.{cr, lf, lineLead, lineEnd, lineSize, lineThen, size, render}
+use Rattle.meaning.specs.Entries.{entryLead, entryForm, listSize}
+use Rattle.meaning.specs.Rules.{ruleFaults}
+use Rattle.meaning.specs.Lists.{withSum, inList, setWithRoom, write}
+use Rattle.meaning.specs.Answers.{made, bytesLeft, writeCall}
+use Rattle.meaning.proofs.DigitLaws.{length-digits}
+use Rattle.meaning.proofs.LineLaws.{length-line, length-render, render-split}
+use Rattle.entries.specs.declared.Head.the-variants.{Whole, Cut}
+use Rattle.entries.specs.Head.{entryAt}
+use Rattle.rules.proofs.FirstLaws.{firstOf, Real}
+use Rattle.buffers.specs.Places.{over}
+use Rattle.buffers.proofs.LendLaws.{length-over}
+use Rattle.writer.specs.declared.Checked.the-variants.{Done as Counted, Refused as Unchecked}
+use Rattle.writer.specs.Writing.{contentOf, checkFrom, judgeEntries, entryLines, linesFrom}
+use Rattle.lists.proofs.PartLaws.{one-more, none-left}
+use Rattle.lists.proofs.OverLaws.{over-then, over-lent, front-then-zeros}
+use Rattle.lists.proofs.ListLaws.{sizes}
+use Rattle.writer.proofs.CheckLaws.{Reads, check-entered, check-refused}
+use Rattle.writer.proofs.EntryPass.{entries-found, rules-real}
+
+-- ---- one line
+
+line-then : (f : Field) (t : List ℕ) → lineThen f [] ++ t ≡ lineThen f t
+line-then f t = sym (render-split (f ∷ []) t)
+
+-- length, label, content and end, each put behind what stands
+pub line-put : (b b₁ b₂ y₃ y₄ c : List ℕ) (l to : ℕ) → to + (length c + (lineLead + lineEnd)) ≤ length b
+    → b₁ ≡ over to (digits 3 (length c + 9)) b
+    → b₂ ≡ over (to + 3) (digits 4 l) b₁
+    → y₃ ≡ c ++ drop (length c) (midOf (to + 7) (length b₂ - (to + 7)) b₂)
+    → let b₃ : List ℕ = putMid (to + 7) (length b₂ - (to + 7)) b₂ y₃ in
+    let end : ℕ = to + 7 + length c in
+    y₄ ≡ cr ∷ lf ∷ drop 2 (midOf end (length b₃ - end) b₃)
+    → putMid end (length b₃ - end) b₃ y₄ ≡ over to (lineThen (field l c) []) b
+line-put b b₁ b₂ y₃ y₄ c l to h e₁ e₂ e₃ e₄ =
+    let b₃ : List ℕ = putMid (to + 7) (length b₂ - (to + 7)) b₂ y₃ in
+    let end : ℕ = to + 7 + length c in
+    let three : List ℕ = digits 3 (length c + 9) in
+    let four : List ℕ = digits 4 l in
+    let lead : List ℕ = three ++ four in
+    let crlf : List ℕ = 13 ∷ 10 ∷ [] in
+    let n₂ : length (three ++ four) ≡ 7 = refl in
+    let n₃ : length (lead ++ c) ≡ 7 + length c = length-append lead c in
+    let n₄ : length ((lead ++ c) ++ crlf) ≡ 7 + length c + 2 = length-append (lead ++ c) crlf ∙ omega (arith, n₃) in
+    let a₂ : b₂ ≡ over to lead b = e₂ ∙ (ap (over (to + 3) four) e₁ ∙ over-then b to three four (omega (arith, n₂))) in
+    let a₃ : b₃ ≡ over to (lead ++ c) b = over-lent b₂ y₃ (to + 7) c e₃ ∙ (ap (over (to + 7) c) a₂ ∙ over-then b to lead c (omega (arith, n₃))) in
+    let q : to + length (lead ++ c) ≡ end = omega (arith, n₃) in
+    over-lent b₃ y₄ end crlf e₄
+    ∙ (ap₂ (λ (m : ℕ) (u : List ℕ). over m crlf u) (sym q) a₃
+    ∙ (over-then b to (lead ++ c) crlf (omega (arith, n₄)) ∙ ap (λ (u : List ℕ). over to u b) (append-assoc lead c crlf ∙ append-assoc three four (c ++ crlf))))
+
+-- ---- the lines of one entry
+
+module _ (k l : ℕ) (c sum : List ℕ) where
+  abbrev own : List ℕ
+  own = lineThen (field l c) []
+
+  abbrev second : List ℕ
+  second = lineThen (field 8100 sum) []
+
+  own-length : length own ≡ length c + (lineLead + lineEnd)
+  own-length = length-line (field l c) [] ∙ omega arith
+
+  second-length : length second ≡ length sum + (lineLead + lineEnd)
+  second-length = length-line (field 8100 sum) [] ∙ omega arith
+
+  later-only : (k ≡ 0 → ⊥) → entryLines k l c sum ≡ own
+  unfolding entryLines
+  later-only h = rw (ne-eqb k 0 h) (append-nil own)
+
+  first-both : k ≡ 0 → entryLines k l c sum ≡ own ++ second
+  unfolding entryLines
+  first-both h = rw (eq-eqb k 0 h)
+
+  first-length : k ≡ 0 → length (entryLines k l c sum) ≡ (length c + (lineLead + lineEnd)) + (length sum + (lineLead + lineEnd))
+  first-length h = ap length (first-both h) ∙ (length-append own second ∙ omega (arith, own-length, second-length))
+
+  pub own-fits : (to room : ℕ) → to + length (entryLines k l c sum) ≤ room → to + (length c + (lineLead + lineEnd)) ≤ room
+  own-fits to room h = go (eqb k 0) refl
+    where
+      go : (b : Bool) → eqb k 0 ≡ b → to + (length c + (lineLead + lineEnd)) ≤ room
+      go true e = omega (arith, first-length (eqb-true k 0 e))
+      go false e = omega (arith, ap length (later-only (eqb-false k 0 e)), own-length)
+
+  pub second-fits : (to room : ℕ) → k ≡ 0 → to + length (entryLines k l c sum) ≤ room → to + (length c + (lineLead + lineEnd)) + (length sum + (lineLead + lineEnd)) ≤ room
+  second-fits to room e h = omega (arith, first-length e)
+
+  pub later-put : (b b₁ : List ℕ) (to : ℕ) → (k ≡ 0 → ⊥) → b₁ ≡ over to own b
+      → (to + (length c + (lineLead + lineEnd)) ≡ to + length (entryLines k l c sum)) × (b₁ ≡ over to (entryLines k l c sum) b)
+  later-put b b₁ to h e = (omega (arith, ap length (later-only h), own-length), e ∙ ap (λ (u : List ℕ). over to u b) (sym (later-only h)))
+
+  pub first-put : (b b₁ b₂ : List ℕ) (to : ℕ) → k ≡ 0 → to + length (entryLines k l c sum) ≤ length b → b₁ ≡ over to own b
+      → b₂ ≡ over (to + (length c + (lineLead + lineEnd))) second b₁
+      → (to + (length c + (lineLead + lineEnd)) + (length sum + (lineLead + lineEnd)) ≡ to + length (entryLines k l c sum)) × (b₂ ≡ over to (entryLines k l c sum) b)
+  first-put b b₁ b₂ to h g e₁ e₂ =
+      let q : to + (length c + (lineLead + lineEnd)) ≡ to + length own = omega (arith, own-length) in (
+        omega (arith, first-length h),
+        e₂ ∙ (ap₂ (λ (m : ℕ) (u : List ℕ). over m second u) q e₁
+            ∙ (over-then b to own second (omega (arith, length-append own second, own-length, second-length, first-length h))
+            ∙ ap (λ (u : List ℕ). over to u b) (sym (first-both h)))),
+      )
+
+-- ---- the walk: no entry is left, a head is cut, an entry more
+
+module _ (l sum : List ℕ) (at k n : ℕ) where
+  pub lines-end : n ≤ k → linesFrom l sum at k (n - k) ≡ []
+  unfolding linesFrom
+  lines-end h = rw (none-left h)
+
+  pub lines-cut : k < n → entryAt l at ≡ Cut → linesFrom l sum at k (n - k) ≡ []
+  unfolding linesFrom
+  lines-cut h e = rw (one-more h, e)
+
+  lines-on : k < n → {label m : ℕ} → entryAt l at ≡ Whole label m
+      → linesFrom l sum at k (n - k) ≡ entryLines k label (contentOf l at m) sum ++ linesFrom l sum (at + (entryLead + m)) (k + 1) (n - (k + 1))
+  unfolding linesFrom
+  lines-on h e = rw (one-more h, e)
+
+-- what is left to put is always what was left, with the lines of one entry
+pub record Turned (l sum out out′ : List ℕ) (at end k n to to′ : ℕ) : Type 0 where
+  pub same-room : length out′ ≡ length out
+  pub has-room : to′ + length (linesFrom l sum end (k + 1) (n - (k + 1))) ≤ length out′
+  pub same : over to′ (linesFrom l sum end (k + 1) (n - (k + 1))) out′ ≡ over to (linesFrom l sum at k (n - k)) out
+
+module _ (l sum : List ℕ) (at k n : ℕ) (h : k < n) {label m : ℕ} (e : entryAt l at ≡ Whole label m) (w : ℕ) (q : w ≡ m) (end : ℕ) (x : end ≡ at + (entryLead + m))
+    (out : List ℕ) (to : ℕ) (g : to + length (linesFrom l sum at k (n - k)) ≤ length out) where
+  abbrev here : List ℕ
+  here = entryLines k label (take w (drop (at + entryLead) l)) sum
+
+  abbrev behind : List ℕ
+  behind = linesFrom l sum end (k + 1) (n - (k + 1))
+
+  both : linesFrom l sum at k (n - k) ≡ here ++ behind
+  both = lines-on l sum at k n h e ∙ ap₂ (λ (y z : ℕ). entryLines k label (take y (drop (at + entryLead) l)) sum ++ linesFrom l sum z (k + 1) (n - (k + 1))) (sym q) (sym x)
+
+  fits-both : to + length (here ++ behind) ≤ length out
+  fits-both = subst (λ (u : List ℕ). to + length u ≤ length out) both g
+
+  pub lines-fit : to + length here ≤ length out
+  lines-fit = omega (arith, fits-both, length-append here behind)
+
+  pub put-turn : (to′ : ℕ) (out′ : List ℕ) → to′ ≡ to + length here → out′ ≡ over to here out → Turned l sum out out′ at end k n to to′
+  put-turn to′ out′ a b =
+      let r : length out′ ≡ length out = ap length b ∙ length-over here out to lines-fit in
+      record {
+        same-room = r;
+        has-room = omega (arith, fits-both, length-append here behind, a, r);
+        same = ap₂ (λ (y : ℕ) (u : List ℕ). over y behind u) a b ∙ (over-then out to here behind fits-both ∙ ap (λ (u : List ℕ). over to u out) (sym both));
+      }
+
+-- ---- what the walk gives
+
+-- the entries behind the first: by induction on fs
+later-lines : (l sum : List ℕ) (fs : List Field) (at k : ℕ) → Reads l at fs → 1 ≤ k → linesFrom l sum at k (length fs) ≡ render fs []
+unfolding linesFrom
+later-lines l sum [] at k rd h = refl
+later-lines l sum (f ∷ fs) at k rd h =
+    rw (rd .0, rd .1, later-only k (f .label) (f .content) sum (λ e. omega arith))
+    (ap (λ (u : List ℕ). lineThen f [] ++ u) (later-lines l sum fs (at + (entryLead + length (f .content))) (k + 1) (rd .2) (omega arith)) ∙ line-then f (render fs []))
+
+-- all entries: behind the first stands the line of 8100
+all-lines : (l sum : List ℕ) (f : Field) (fs : List Field) → Reads l 0 (f ∷ fs) → linesFrom l sum 0 0 (length (f ∷ fs)) ≡ render (f ∷ field 8100 sum ∷ fs) []
+unfolding linesFrom
+all-lines l sum f fs rd =
+    let s : Field = field 8100 sum in
+    rw (rd .0, rd .1, first-both 0 (f .label) (f .content) sum refl)
+    (append-assoc (lineThen f []) (lineThen s []) (linesFrom l sum (0 + (entryLead + length (f .content))) (0 + 1) (length fs))
+    ∙ (ap (λ (u : List ℕ). lineThen f [] ++ (lineThen s [] ++ u)) (later-lines l sum fs (0 + (entryLead + length (f .content))) (0 + 1) (rd .2) (omega arith))
+    ∙ (ap (λ (u : List ℕ). lineThen f [] ++ u) (line-then s (render fs [])) ∙ line-then f (render (s ∷ fs) []))))
+
+-- ---- the answers
+
+-- how many bytes the set of a list of n entries has
+abbrev pub totalOf : List ℕ → ℕ → ℕ
+totalOf l n = length l + n * 5 + 14
+
+-- the digits of its sum
+abbrev pub sumOf : List ℕ → ℕ → List ℕ
+sumOf l n = digits 5 (totalOf l n)
+
+-- the digits fill their place
+pub sum-filled : (l : List ℕ) (n : ℕ) (b b′ : List ℕ) → length b ≡ 5 → b′ ≡ over 0 (sumOf l n) b → b′ ≡ sumOf l n
+unfolding over
+sum-filled l n b b′ h e = e ∙ (ap (λ (u : List ℕ). sumOf l n ++ u) (drop-of-length-le b {i = 0 + length (sumOf l n)} (omega (arith, h))) ∙ append-nil (sumOf l n))
+
+-- where a fault is found it is the answer, else what follows
+by-first : {A : Type 0} (pl : ℕ → Spot → ℕ) (xs : List Fault) (d : A) (k : A → Reply (List ℕ)) → Real xs
+    → thenTo (verdict pl xs d) k ≡ cond (eqb (firstOf pl xs .no) 0) (k d) (refused (firstOf pl xs))
+by-first pl [] d k h = refl
+by-first pl (x ∷ xs) d k h = sym (rw (ne-eqb (x .no) 0 h))
+
+-- what is known of a list that is checked
+pub record Answers (l : List ℕ) (n : ℕ) : Type 0 where
+  pub few : n ≤ maxEntries
+  pub need : length (linesFrom l (sumOf l n) 0 0 n) ≡ totalOf l n
+  pub answer : (room : ℕ) → write l room
+      ≡ cond (eqb (judgeEntries l n (sumOf l n) .no) 0)
+      (withRoom (leb (totalOf l n) room && leb (totalOf l n) maxSetBytes) (totalOf l n) (linesFrom l (sumOf l n) 0 0 n)) (refused (judgeEntries l n (sumOf l n)))
+
+not-nil : (l : List ℕ) → 0 < length l → isNil l ≡ false
+not-nil [] h = absurd (omega arith)
+not-nil (b ∷ l) h = refl
+
+module _ (l : List ℕ) (n : ℕ) (some : 0 < length l) where
+  answers-of : (es : List Field) (t : List ℕ) → pieces entryForm maxEntries 0 l ≡ done (parsed es t) → n ≡ length es
+      → Reads l 0 es → listSize es ≡ length l → n ≤ maxEntries → Answers l n
+  unfolding write
+  answers-of [] t p c rd w few = absurd (omega (arith, w))
+  answers-of (f ∷ fs) t p c rd w few =
+      let es : List Field = f ∷ fs in
+      let sum : List ℕ = sumOf l n in
+      let all : List Field = f ∷ field 8100 sum ∷ fs in
+      let total : lineSize f + (14 + size fs) ≡ totalOf l n = omega (arith, sizes es, w, c) in
+      let put-in : withSum es ≡ all = ap (λ (x : ℕ). f ∷ field 8100 (digits 5 x) ∷ fs) total in
+      let sized : size all ≡ totalOf l n = omega (arith, total, length-digits 5 (totalOf l n)) in
+      let lines : linesFrom l sum 0 0 n ≡ render all [] = ap (linesFrom l sum 0 0) c ∙ all-lines l sum f fs rd in
+      let found : judgeEntries l n sum ≡ firstOf (inList es) (ruleFaults all) = ap (λ (x : ℕ). judgeEntries l x sum) c ∙ entries-found l f fs sum rd in
+      record {
+        few = few;
+        need = ap length lines ∙ (length-render all [] ∙ omega (arith, sized));
+        answer = λ room. rw (not-nil l some, p, put-in) (
+            by-first (inList es) (ruleFaults all) all (λ gs. setWithRoom gs room) (rules-real all)
+            ∙ ap₂ (λ (r : Refusal) (y : Reply (List ℕ)). cond (eqb (r .no) 0) y (refused r)) (sym found)
+            (ap₂ (λ (m : ℕ) (u : List ℕ). withRoom (leb m room && leb m maxSetBytes) m u) sized (sym lines)));
+      }
+
+  pub answers-are : checkFrom l 0 0 maxEntries ≡ Counted n → Answers l n
+  answers-are e = let x = check-entered l n e in answers-of (x .entries) (x .left) (x .scanned) (x .count) (x .reads) (x .whole) (x .few)
+
+  -- the lines have as many bytes as is told
+  pub set-fits : checkFrom l 0 0 maxEntries ≡ Counted n → (sum : List ℕ) → sum ≡ sumOf l n → {room : ℕ} → totalOf l n ≤ room → length (linesFrom l sum 0 0 n) ≤ room
+  set-fits e sum s h = omega (arith, answers-are e .need, ap (λ (u : List ℕ). length (linesFrom l u 0 0 n)) s)
+
+  module _ (e : checkFrom l 0 0 maxEntries ≡ Counted n) (b sum : List ℕ) (s : sum ≡ sumOf l n) (r : Refusal) (j : r ≡ judgeEntries l n sum) where
+    judged-so : r ≡ judgeEntries l n (sumOf l n)
+    judged-so = j ∙ ap (judgeEntries l n) s
+
+    -- 8, 9, 11 to 16
+    pub answer-ruled : (r .no ≡ 0 → ⊥) → (Refused r ≡ writeCall l b .answer) × (b ≡ writeCall l b .buffer)
+    answer-ruled h =
+        let q : refused r ≡ write l (length b) = sym (answers-are e .answer (length b) ∙ rw (← judged-so, ne-eqb (r .no) 0 h)) in
+        (ap made q, ap (λ (x : Reply (List ℕ)). bytesLeft x b) q)
+
+    module _ (h : r .no ≡ 0) where
+      by-room : write l (length b) ≡ withRoom (leb (totalOf l n) (length b) && leb (totalOf l n) maxSetBytes) (totalOf l n) (linesFrom l (sumOf l n) 0 0 n)
+      by-room = answers-are e .answer (length b) ∙ rw (← judged-so, h)
+
+      -- 22: "over the buffer"
+      pub answer-full : length b < totalOf l n → (Refused (refusal noRoom (totalOf l n) 0) ≡ writeCall l b .answer) × (b ≡ writeCall l b .buffer)
+      answer-full g =
+          let q : refused (refusal noRoom (totalOf l n) 0) ≡ write l (length b) = sym (by-room ∙ rw (lt-leb (totalOf l n) (length b) g)) in
+          (ap made q, ap (λ (x : Reply (List ℕ)). bytesLeft x b) q)
+
+      module _ (g : totalOf l n ≤ length b) where
+        -- 22: "or over 99,999"
+        pub answer-long : maxSetBytes < totalOf l n → (Refused (refusal noRoom (totalOf l n) 0) ≡ writeCall l b .answer) × (b ≡ writeCall l b .buffer)
+        answer-long m =
+            let q : refused (refusal noRoom (totalOf l n) 0) ≡ write l (length b) = sym (by-room ∙ rw (le-leb (totalOf l n) (length b) g, lt-leb (totalOf l n) maxSetBytes m)) in
+            (ap made q, ap (λ (x : Reply (List ℕ)). bytesLeft x b) q)
+
+        -- the set at the front, and zeros behind it
+        pub answer-set : totalOf l n ≤ maxSetBytes → (b′ y : List ℕ) → b′ ≡ over 0 (linesFrom l sum 0 0 n) b
+            → y ≡ replicate (length (midOf (totalOf l n) (length b′ - totalOf l n) b′)) 0
+            → (Done (totalOf l n) ≡ writeCall l b .answer) × (putMid (totalOf l n) (length b′ - totalOf l n) b′ y ≡ writeCall l b .buffer)
+        answer-set m b′ y p z =
+            let x : List ℕ = linesFrom l (sumOf l n) 0 0 n in
+            let q : done x ≡ write l (length b) = sym (by-room ∙ rw (le-leb (totalOf l n) (length b) g, le-leb (totalOf l n) maxSetBytes m)) in
+            let need : totalOf l n ≡ length x = sym (answers-are e .need) in (
+              ap Done need ∙ ap made q,
+              front-then-zeros b b′ y x (totalOf l n) (p ∙ ap (λ (u : List ℕ). over 0 (linesFrom l u 0 0 n) b) s) need z ∙ ap (λ (u : Reply (List ℕ)). bytesLeft u b) q,
+            )
+
+-- 1
+pub answer-empty : (l b : List ℕ) → length l ≡ 0 → (Refused (refusal empty 0 0) ≡ writeCall l b .answer) × (b ≡ writeCall l b .buffer)
+unfolding write
+answer-empty [] b h = (refl, refl)
+answer-empty (x ∷ l) b h = absurd (omega arith)
+
+-- 7, 21, 6
+pub answer-unchecked : (l b : List ℕ) (r : Refusal) → 0 < length l → checkFrom l 0 0 maxEntries ≡ Unchecked r → (Refused r ≡ writeCall l b .answer) × (b ≡ writeCall l b .buffer)
+unfolding write
+answer-unchecked l b r h e =
+    let q : refused r ≡ write l (length b) = sym (rw (not-nil l h, check-refused l r e)) in
+    (ap made q, ap (λ (x : Reply (List ℕ)). bytesLeft x b) q)

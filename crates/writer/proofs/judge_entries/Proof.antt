@@ -1,0 +1,45 @@
+-- `judge_entries`: by the head of the first entry.
+-- Assumes nothing.
+use mathlib.Core.Path.{sym, _∙_}
+use native.Mathlib.Omega.{arith}
+use borrow.Author.Needs.{needs}
+use Rattle.entries.proofs.HeadLaws.{whole-back}
+use Rattle.writer.proofs.EntryPass.{judge-cut, judge-whole}
+use Rattle.writer.proofs.judge_entries.Statement.{statement}
+use Rattle.writer.proofs.judge_entries.Tie as tie
+
+entry-at-requires : tie.Need-entry-at-requires
+entry-at-requires c κs = search needs
+
+enum-told : tie.Need-enum-told
+enum-told c = search needs
+
+refused-at-requires : tie.Need-refused-at-requires
+refused-at-requires c κs = search needs
+
+enum-known-kind : tie.Need-enum-known-kind
+enum-known-kind c = search needs
+
+first-entry-requires : tie.Need-first-entry-requires
+first-entry-requires c κs =
+    let b3 = c .before .before .before in
+    let b6 = b3 .before .before .before in
+    omega (arith, whole-back (b6 .args .list .now) 0 (sym (b3 .entry-at .ensures) ∙ c .before .kind .given .1) .within)
+
+returns : tie.Need-returns
+returns c = c .refused-at .ensures ∙ judge-cut _ _ _ (sym (c .before .before .before .entry-at .ensures) ∙ c .before .enum-told .given .1)
+
+returns-2 : tie.Need-returns-2
+returns-2 c = c .first-entry .ensures ∙ judge-whole _ _ _ (sym (c .before .before .before .before .entry-at .ensures) ∙ c .before .before .kind .given .1)
+
+pub judge-entries-spec : {M : Type 1} → statement M
+judge-entries-spec =
+    tie.close
+    (tie.spec
+    entry-at-requires
+    enum-told
+    refused-at-requires
+    enum-known-kind
+    first-entry-requires
+    returns
+    returns-2)
