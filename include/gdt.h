@@ -7,8 +7,8 @@
    A pointer must not be null, also where its length is 0. What is lent to be written overlaps nothing else that is lent.
    No call keeps a pointer, allocates, or uses more than 8 KiB of stack.
 
-   Two programs stand behind this header: the proved library (`rt staticlib gdt`), which has gdt_judge so far, and the second,
-   independent program in second/, which has all calls. */
+   Two programs stand behind this header: the proved library, in two archives (`rt staticlib gdt` has every call but gdt_write,
+   `rt staticlib gdtwrite` that one), and the second, independent program in second/. */
 #ifndef GDT_H
 #define GDT_H
 

@@ -1,0 +1,22 @@
+-- `gdt_list`: the numbers of what `list` answers, and the buffer that it leaves.
+-- Assumes nothing.
+use mathlib.Core.Path.{ap, _∙_}
+use borrow.Author.Needs.{needs}
+use Rattle.gdt.specs.Replies.{madeReply}
+use Rattle.gdt.proofs.gdt_list.Statement.{statement}
+use Rattle.gdt.proofs.gdt_list.Tie as tie
+
+list-requires : tie.Need-list-requires
+list-requires c κs = search needs
+
+made-reply-requires : tie.Need-made-reply-requires
+made-reply-requires c κs = search needs
+
+same-length : tie.Need-same-length
+same-length c = search needs
+
+returns : tie.Need-returns
+returns c = (c .made-reply .ensures ∙ ap madeReply (c .before .before .before .list .ensures .0), c .before .before .before .list .ensures .1)
+
+pub gdt-list-spec : {M : Type 1} → statement M
+gdt-list-spec = tie.close (tie.spec list-requires made-reply-requires same-length returns)
