@@ -1,0 +1,13 @@
+pub mod TableFacts
+pub mod StateLaws
+pub mod LabelLaws
+pub mod LackLaws
+pub mod RulesExact
+pub mod Exact
+pub mod WriterExact
+pub mod CorrectionExact
+pub mod FirstLine
+pub mod FirstRule
+pub mod FirstMissing
+pub mod FirstBreach
+pub mod FirstOnly

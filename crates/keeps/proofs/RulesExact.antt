@@ -1,0 +1,274 @@
+-- 8 to 16 find no fault in the lines of a set exactly where the lines keep the rules for sets of some type.
+-- Assumes nothing.
+use mathlib.Core.Path.{_≡_, refl, sym, ap, _∙_, subst}
+use mathlib.Core.Bool.{Bool, true, false, cond, not, _&&_, _||_, true≢false}
+use mathlib.Core.List.{List, [], _∷_, _++_, cons≢nil}
+use mathlib.Core.Logic.{_⊎_, inl, inr}
+use Prim.Native.Nat.{ℕ, zero, suc, _+_, _≤_, _<_}
+use native.Mathlib.Omega.{arith}
+use native.Mathlib.Numerals.{add-one}
+use lib.Dec.{eqb}
+use lib.ListN.{length, drop, getD, List·getD-map, drop-of-length-le}
+use lib.Seq.{drop-cons}
+use borrow.Author.Tests.{eqb-true, eq-eqb}
+use Rattle.meaning.specs.declared.SetType.{SetType}
+use Rattle.meaning.specs.declared.SetType.the-variants.{T6300, T6301, T6302, T6310, T6311}
+use Rattle.meaning.specs.declared.Known.{Known}
+use Rattle.meaning.specs.declared.Known.the-variants.{Of, Nothing}
+use Rattle.meaning.specs.Limits.{typeOf, typeNumber}
+use Rattle.meaning.specs.Digits.{digits, number, allDigits}
+use Rattle.meaning.specs.Field.{Field, labels, noField, labelAtLine, contentAtLine}
+use Rattle.meaning.specs.Refusals.{Fault, atLine, ask, otherVersion, badContent}
+use Rattle.meaning.specs.Kinds.{point, sameBytes, is0210}
+use Rattle.meaning.specs.Tables.{setLevel, table}
+use Rattle.meaning.specs.Groups.{State, first, Role, unknown, strayed, atSetLevel, member, labelFaults}
+use Rattle.meaning.specs.Missing.{among, lacking, groupsLacking, missingFaults}
+use Rattle.meaning.specs.Rules.{typeNamed, Profile, profile, rowsOf, labelIs, isKnown, startFaults, fits, current, contentFaults, contentRules, lineRules, roleIn, rulesFrom}
+use Rattle.meaning.proofs.Bools.{and-left, and-right}
+use Rattle.meaning.proofs.DigitLaws.{digits-number}
+use Rattle.meaning.proofs.FaultLaws.{append-none, none-both, ask-last}
+use Rattle.meaning.proofs.RuleLaws.{line-fits, Ruled, begins-of}
+use Rattle.keeps.specs.Keeps.{StartsWith, ContentsFit, VersionIs0210, GroupHas, KeepsRules}
+use Rattle.keeps.proofs.TableFacts.{le-cases}
+use Rattle.keeps.proofs.StateLaws.{roleBehind, stateAt}
+use Rattle.keeps.proofs.LabelLaws.{table-kept, groups-kept, odds-kept, set-once, groups-once, labels-fine}
+use Rattle.keeps.proofs.LackLaws.{ClearTo, clear-all, no-lack, lack-none-all, after-all, set-has, groups-have, values-have-units, has-8437-with-8438, names-have-odds, set-lacks-none, groups-lack-none}
+
+-- ---- the type that line 1 names
+
+pub of-same : {a b : SetType} → _≡_ {A = Known} (Of a) (Of b) → a ≡ b
+of-same e = cc
+
+nothing-of {ℓ} : {X : Type ℓ} {a : SetType} → _≡_ {A = Known} Nothing (Of a) → X
+nothing-of e = let z : _≡_ {A = ℕ} 0 1 = cc in absurd (omega arith)
+
+type-number : (n : ℕ) (t : SetType) → typeOf n ≡ Of t → n ≡ typeNumber t
+unfolding typeOf
+type-number n t e = go (eqb n 6300) (eqb n 6301) (eqb n 6302) (eqb n 6310) (eqb n 6311) refl refl refl refl refl e
+  where
+    go : (a b c d f : Bool) → eqb n 6300 ≡ a → eqb n 6301 ≡ b → eqb n 6302 ≡ c → eqb n 6310 ≡ d → eqb n 6311 ≡ f
+        → cond a (Of T6300) (cond b (Of T6301) (cond c (Of T6302) (cond d (Of T6310) (cond f (Of T6311) Nothing)))) ≡ Of t → n ≡ typeNumber t
+    go true b c d f p q r s u x = eqb-true n 6300 p ∙ ap typeNumber (of-same x)
+    go false true c d f p q r s u x = eqb-true n 6301 q ∙ ap typeNumber (of-same x)
+    go false false true d f p q r s u x = eqb-true n 6302 r ∙ ap typeNumber (of-same x)
+    go false false false true f p q r s u x = eqb-true n 6310 s ∙ ap typeNumber (of-same x)
+    go false false false false true p q r s u x = eqb-true n 6311 u ∙ ap typeNumber (of-same x)
+    go false false false false false p q r s u x = nothing-of x
+
+pub type-digits : (c : List ℕ) (t : SetType) → typeNamed c ≡ Of t → c ≡ digits 4 (typeNumber t)
+unfolding typeNamed
+type-digits c t e = go (eqb (length c) 4 && allDigits c) refl e
+  where
+    go : (b : Bool) → eqb (length c) 4 && allDigits c ≡ b → cond b (typeOf (number c)) Nothing ≡ Of t → c ≡ digits 4 (typeNumber t)
+    go true p q =
+        let l : length c ≡ 4 = eqb-true _ _ (and-left (eqb (length c) 4) _ p) in
+        sym (rw l at (digits-number c (and-right (eqb (length c) 4) _ p))) ∙ ap (digits 4) (type-number (number c) t q)
+    go false p q = nothing-of q
+
+pub type-named : (t : SetType) → typeNamed (digits 4 (typeNumber t)) ≡ Of t
+unfolding typeNamed typeOf
+type-named T6300 = refl
+type-named T6301 = refl
+type-named T6302 = refl
+type-named T6310 = refl
+type-named T6311 = refl
+
+pub known-type : (k : Known) → isKnown k ≡ true → (t : SetType) × (k ≡ Of t)
+known-type (Of t) e = (t, refl)
+known-type Nothing e = absurd (true≢false (sym e))
+
+-- the profile of sets of a type
+abbrev pub typed : SetType → Profile
+typed t = record { setType = Of t }
+
+pub profile-typed : (t : SetType) (fs : List Field) → contentAtLine fs 0 ≡ digits 4 (typeNumber t) → profile fs ≡ typed t
+unfolding profile
+profile-typed t fs e = ap (λ (k : Known). record { setType = k }) (ap typeNamed e ∙ type-named t)
+
+-- ---- 8, 9, 10
+
+pub label-is : (fs : List Field) (k l : ℕ) → labelAtLine fs k ≡ l → labelIs fs k l ≡ true
+label-is fs k l e = eq-eqb _ l (List·getD-map (λ (f : Field). f .label) fs k noField ∙ e)
+
+begins-none : (t : SetType) (fs : List Field) → StartsWith t fs → labelAtLine fs 1 ≡ 8100 → startFaults fs ≡ []
+unfolding startFaults
+begins-none t fs s e = rw (label-is fs 0 8000 (s .0), profile-typed t fs (s .1), label-is fs 1 8100 e) refl
+
+-- ---- 11 to 15, line by line
+
+content-current : (p : Profile) (k : ℕ) (f : Field) → contentFaults p k f ≡ [] → current p f ≡ true
+unfolding contentFaults
+content-current p k f e = go (fits p f) e
+  where
+    go : (b : Bool) → cond b (ask (current p f) (atLine otherVersion k (f .label))) (atLine badContent k (f .label) ∷ []) ≡ [] → current p f ≡ true
+    go true q = ask-last _ _ q
+    go false q = absurd (cons≢nil q)
+
+line-current : (o : Role) (p : Profile) (st : State) (k : ℕ) (f : Field) → lineRules o p st k f ≡ [] → current p f ≡ true
+unfolding lineRules labelFaults contentRules
+line-current unknown p st k f e = absurd (cons≢nil e)
+line-current strayed p st k f e = absurd (cons≢nil e)
+line-current (atSetLevel r) p st k f e = content-current p k f (append-none (labelFaults (atSetLevel r) st k (f .label)) _ e .1)
+line-current (member r) p st k f e = content-current p k f (append-none (labelFaults (member r) st k (f .label)) _ e .1)
+
+content-none : (o : Role) (p : Profile) (k : ℕ) (f : Field) → fits p f ≡ true → current p f ≡ true → contentRules o p k f ≡ []
+unfolding contentRules contentFaults
+content-none unknown p k f a b = refl
+content-none strayed p k f a b = rw (a, b) refl
+content-none (atSetLevel r) p k f a b = rw (a, b) refl
+content-none (member r) p k f a b = rw (a, b) refl
+
+same-bytes : (c d : List ℕ) → sameBytes c d ≡ true → c ≡ d
+unfolding sameBytes
+same-bytes [] [] e = refl
+same-bytes [] (y ∷ d) e = absurd (true≢false (sym e))
+same-bytes (x ∷ c) [] e = absurd (true≢false (sym e))
+same-bytes (x ∷ c) (y ∷ d) e =
+    let p : x ≡ y = eqb-true x y (and-left (eqb x y) _ e) in
+    rw (p, same-bytes c d (and-right (eqb x y) _ e)) refl
+
+bytes-same : (c : List ℕ) → sameBytes c c ≡ true
+unfolding sameBytes
+bytes-same [] = refl
+bytes-same (x ∷ c) = rw (eq-eqb x x refl) (bytes-same c)
+
+pub version-current : (p : Profile) (f : Field) → (f .label ≡ 9218 → f .content ≡ digits 2 2 ++ (point ∷ digits 2 10)) → current p f ≡ true
+unfolding current is0210
+version-current p f h = go (eqb (f .label) 9218) refl
+  where
+    go : (b : Bool) → eqb (f .label) 9218 ≡ b → not b || sameBytes (f .content) (digits 2 2 ++ (point ∷ digits 2 10)) ≡ true
+    go true e = rw (h (eqb-true _ _ e)) (bytes-same (digits 2 2 ++ (point ∷ digits 2 10)))
+    go false e = refl
+
+module _ (t : SetType) (fs : List Field) where
+  -- what is wrong with line k
+  abbrev pub faultsAt : ℕ → List Fault
+  faultsAt k = lineRules (roleIn (typed t) (stateAt t fs k) (getD fs k noField)) (typed t) (stateAt t fs k) k (getD fs k noField)
+
+  pub rules-step : (i : ℕ) → i < length fs
+      → rulesFrom (typed t) (stateAt t fs i) i (drop i fs) ≡ faultsAt i ++ rulesFrom (typed t) (stateAt t fs (suc i)) (suc i) (drop (suc i) fs)
+  unfolding rulesFrom stateAt
+  rules-step i l = rw (drop-cons fs i noField l, add-one i) refl
+
+  pub rules-end : (i : ℕ) → length fs ≤ i → rulesFrom (typed t) (stateAt t fs i) i (drop i fs) ≡ []
+  unfolding rulesFrom
+  rules-end i l = rw (drop-of-length-le fs {i = i} l) refl
+
+  each-from : (n i : ℕ) → i + n ≡ length fs → rulesFrom (typed t) (stateAt t fs i) i (drop i fs) ≡ [] → (k : ℕ) → i ≤ k → k < length fs → faultsAt k ≡ []
+  each-from zero i e h k a b = absurd (omega arith)
+  each-from (suc n) i e h k a b =
+      let x = append-none (faultsAt i) _ (sym (rules-step i (omega arith)) ∙ h) in
+      go (x .0) (each-from n (suc i) (omega arith) (x .1) k) (le-cases i k a)
+    where
+      go : faultsAt i ≡ [] → (suc i ≤ k → k < length fs → faultsAt k ≡ []) → (i < k) ⊎ (i ≡ k) → faultsAt k ≡ []
+      go p q (inl r) = q r b
+      go p q (inr r) = subst (λ (z : ℕ). faultsAt z ≡ []) r p
+
+  from-each : (n i : ℕ) → i + n ≡ length fs → ((k : ℕ) → k < length fs → faultsAt k ≡ []) → rulesFrom (typed t) (stateAt t fs i) i (drop i fs) ≡ []
+  from-each zero i e h = rules-end i (omega arith)
+  from-each (suc n) i e h = rules-step i (omega arith) ∙ none-both (faultsAt i) _ (h i (omega arith)) (from-each n (suc i) (omega arith) h)
+
+  pub rules-each : rulesFrom (typed t) first 0 fs ≡ [] → (k : ℕ) → k < length fs → faultsAt k ≡ []
+  unfolding stateAt
+  rules-each h k l = each-from (length fs) 0 (omega arith) h k (omega arith) l
+
+  pub each-rules : ((k : ℕ) → k < length fs → faultsAt k ≡ []) → rulesFrom (typed t) first 0 fs ≡ []
+  unfolding stateAt
+  each-rules h = from-each (length fs) 0 (omega arith) h
+
+  pub labels-fine-at : ((k : ℕ) → k < length fs → faultsAt k ≡ []) → (k : ℕ) → k < length fs
+      → labelFaults (roleBehind t fs (stateAt t fs k) k) (stateAt t fs k) k (labelAtLine fs k) ≡ []
+  unfolding lineRules
+  labels-fine-at h k l = append-none (labelFaults (roleBehind t fs (stateAt t fs k) k) (stateAt t fs k) k (labelAtLine fs k)) _ (h k l) .0
+
+  -- ---- 14 and 15
+
+  contents-so : ((k : ℕ) → k < length fs → faultsAt k ≡ []) → ContentsFit fs
+  unfolding fits
+  contents-so h k l = line-fits _ (typed t) (stateAt t fs k) k (getD fs k noField) (h k l)
+
+  pub version-at : (k : ℕ) → faultsAt k ≡ [] → labelAtLine fs k ≡ 9218 → contentAtLine fs k ≡ digits 2 2 ++ (point ∷ digits 2 10)
+  unfolding current is0210
+  version-at k h e =
+      same-bytes _ _ (rw (eq-eqb (labelAtLine fs k) 9218 e) at (line-current _ (typed t) (stateAt t fs k) k (getD fs k noField) h))
+
+  version-so : ((k : ℕ) → k < length fs → faultsAt k ≡ []) → VersionIs0210 fs
+  version-so h k l e = version-at k (h k l) e
+
+  contents-none : KeepsRules t fs → (k : ℕ) → k < length fs → (o : Role) → contentRules o (typed t) k (getD fs k noField) ≡ []
+  unfolding fits
+  contents-none r k l o = content-none o (typed t) k (getD fs k noField) (r .contents-fit k l) (version-current (typed t) (getD fs k noField) (r .version k l))
+
+  pub faults-none : KeepsRules t fs → (k : ℕ) → k < length fs → faultsAt k ≡ []
+  unfolding lineRules
+  faults-none r k l = none-both _ _ (labels-fine t fs r k l) (contents-none r k l (roleBehind t fs (stateAt t fs k) k))
+
+  -- ---- 16
+
+  pub missing-parts : missingFaults (table t) (labels fs) ≡ []
+      → (lacking (table t) setLevel 0 (among (stateAt t fs (length fs) .top)) ≡ []) × (groupsLacking (table t) first 0 (labels fs) ≡ [])
+  unfolding missingFaults
+  missing-parts e = append-none _ _ (rw (after-all t fs) at e)
+
+  parts-missing : KeepsRules t fs → missingFaults (table t) (labels fs) ≡ []
+  unfolding missingFaults
+  parts-missing r = rw (after-all t fs) (none-both _ _ (set-lacks-none t fs r) (lack-none-all t fs (groups-lack-none t fs r)))
+
+  -- ---- all of them
+
+  -- the header of a group is a line
+  group-line : (h l : ℕ) → GroupHas t fs h l → h < length fs
+  group-line h l g = omega (arith, g .1 .behind, g .1 .a-line)
+
+  value-line : (h : ℕ) → GroupHas t fs h 8420 ⊎ (GroupHas t fs h 8461 ⊎ GroupHas t fs h 8462) → h < length fs
+  value-line h (inl g) = group-line h 8420 g
+  value-line h (inr (inl g)) = group-line h 8461 g
+  value-line h (inr (inr g)) = group-line h 8462 g
+
+  pub typed-rules : StartsWith t fs → labelAtLine fs 1 ≡ 8100 → rulesFrom (typed t) first 0 fs ≡ [] → missingFaults (table t) (labels fs) ≡ [] → KeepsRules t fs
+  typed-rules s e a b =
+      let h : (k : ℕ) → k < length fs → faultsAt k ≡ [] = rules-each a in
+      let fine = labels-fine-at h in
+      let m = missing-parts b in
+      let clear : ClearTo t fs (length fs) = clear-all t fs (no-lack t fs (m .1)) in
+      record {
+        starts = s;
+        second-8100 = e;
+        in-table = table-kept t fs fine;
+        in-groups = groups-kept t fs fine;
+        after-names = odds-kept t fs fine;
+        once-in-set = set-once t fs fine;
+        once-in-groups = groups-once t fs fine;
+        contents-fit = contents-so h;
+        version = version-so h;
+        set-complete = set-has t fs fine (m .0);
+        groups-complete = groups-have t fs fine (length fs) clear;
+        needs-8421 = λ h g. values-have-units t fs fine (length fs) clear h (value-line h g) g;
+        needs-8437 = λ h g. has-8437-with-8438 t fs fine (length fs) clear h (group-line h 8438 g) g;
+        names-followed = names-have-odds t fs fine (length fs) clear;
+      }
+
+-- the lines of an accepted set keep the rules
+pub ruled-keeps : (fs : List Field) → Ruled fs → (t : SetType) × KeepsRules t fs
+unfolding profile
+ruled-keeps fs r =
+    let b = begins-of fs (r .begins) in
+    let k = known-type (typeNamed (contentAtLine fs 0)) (b .type-known) in
+    let t = k .0 in
+    let c : contentAtLine fs 0 ≡ digits 4 (typeNumber t) = type-digits (contentAtLine fs 0) t (k .1) in
+    let p : profile fs ≡ typed t = profile-typed t fs c in (
+      t,
+      typed-rules t fs (b .first-label, c) (b .second-label)
+          (subst (λ (q : Profile). rulesFrom q first 0 fs ≡ []) p (r .each-line))
+          (subst (λ (q : Profile). missingFaults (rowsOf q) (labels fs) ≡ []) p (r .none-missing)),
+    )
+
+-- and lines that keep them have no fault
+pub keeps-ruled : (t : SetType) (fs : List Field) → KeepsRules t fs → Ruled fs
+keeps-ruled t fs r =
+    let p : profile fs ≡ typed t = profile-typed t fs (r .starts .1) in
+    record {
+      begins = begins-none t fs (r .starts) (r .second-8100);
+      each-line = subst (λ (q : Profile). rulesFrom q first 0 fs ≡ []) (sym p) (each-rules t fs (faults-none t fs r));
+      none-missing = subst (λ (q : Profile). missingFaults (rowsOf q) (labels fs) ≡ []) (sym p) (parts-missing t fs r);
+    }

@@ -1,0 +1,85 @@
+-- Which lists are written and which corrections are made, and what is made of them: the reasons of the paper, each by itself.
+-- Assumes nothing: these are definitions, by the rules of Keeps. proofs/WriterExact and proofs/CorrectionExact: exactly these are made.
+use mathlib.Core.Path.{_≡_}
+use mathlib.Core.Bool.{true}
+use mathlib.Core.List.{List, [], _∷_}
+use mathlib.Core.Logic.{_≢_}
+use Prim.Native.Nat.{ℕ, pred, _≤_, _<_}
+use lib.ListN.{length, take, getD}
+use Rattle.meaning.specs.declared.SetType.{SetType}
+use Rattle.meaning.specs.Limits.{maxEntries, maxSetBytes}
+use Rattle.meaning.specs.Digits.{digits}
+use Rattle.meaning.specs.Field.{Field, field, noField, labelAtLine}
+use Rattle.meaning.specs.Lines.{leastByte, size, render}
+use Rattle.meaning.specs.Entries.{entryThen}
+use Rattle.meaning.specs.FieldTable.{fitsLabel}
+use Rattle.keeps.specs.Keeps.{KeepsRules, Keeps}
+
+-- "Content bytes are 20h to FFh."
+abbrev pub NoLowByte : List ℕ → Type 0
+NoLowByte c = (i : ℕ) → i < length c → leastByte ≤ getD c i 0
+
+-- "8100 has five digits, the sum of all line lengths of the set, its own included."
+abbrev pub sumLineOf : List Field → Field
+sumLineOf fs = field 8100 (digits 5 (size fs))
+
+-- ---- the writer
+
+-- "Entry after entry, nothing between: content length in two bytes, kind in two bytes (the label), both little-endian, then the content."
+abbrev pub entriesOf : List Field → List ℕ
+entriesOf [] = []
+entriesOf (e ∷ es) = entryThen e (entriesOf es)
+
+-- an entry that is not refused by 21 or 6; its length has two bytes
+pub record EntryRight (e : Field) : Type 0 where
+  pub label-most : e .label ≤ 9999
+  pub two-bytes : length (e .content) < 65536
+  pub no-low-byte : NoLowByte (e .content)
+
+-- the list l is written into `room` bytes as out
+pub record Writes (l : List ℕ) (room : ℕ) (out : List ℕ) : Type 0 where
+  pub set-type : SetType
+  pub first-entry : Field
+  pub others : List Field
+  pub lines : List Field
+  -- 1, 7, 21, 6
+  pub list-is : l ≡ entriesOf (first-entry ∷ others)
+  pub few-entries : length (first-entry ∷ others) ≤ maxEntries
+  pub entries-right : (k : ℕ) → k < length (first-entry ∷ others) → EntryRight (getD (first-entry ∷ others) k noField)
+  -- "8100 has no entry. The writer adds it as line 2."
+  pub lines-are : lines ≡ first-entry ∷ sumLineOf lines ∷ others
+  -- 8, 9, 11 to 16
+  pub rules : KeepsRules set-type lines
+  -- 22
+  pub has-room : size lines ≤ room
+  pub not-over : size lines ≤ maxSetBytes
+  pub out-is : out ≡ render lines []
+
+-- ---- corrections
+
+-- the lines after content c was given to line number n: that line and the sum are new, all others are as before
+pub record NewLines (lines : List Field) (n : ℕ) (c : List ℕ) (new : List Field) : Type 0 where
+  pub as-many : length new ≡ length lines
+  pub new-content : getD new (pred n) noField ≡ field (labelAtLine lines (pred n)) c
+  pub new-sum : getD new 1 noField ≡ sumLineOf new
+  pub others-stay : (k : ℕ) → k ≢ pred n → k ≢ 1 → getD new k noField ≡ getD lines k noField
+
+-- of the buffer b the first `used` bytes are a set; its line number n is given content c, and out then stands at the front
+pub record Corrects (b : List ℕ) (used n : ℕ) (c out : List ℕ) : Type 0 where
+  pub set-type : SetType
+  pub lines : List Field
+  pub new : List Field
+  -- 18, the set's own rules, and nothing follows it
+  pub used-within : used ≤ length b
+  pub keeps : Keeps (take used b) set-type lines []
+  -- 19: "line number 0 or beyond the set"
+  pub line-there : (1 ≤ n) × (n ≤ length lines)
+  -- 20: "line is 8000, 8100 or 9218"
+  pub not-fixed : (labelAtLine lines (pred n) ≢ 8000) × (labelAtLine lines (pred n) ≢ 8100) × (labelAtLine lines (pred n) ≢ 9218)
+  -- 6, 14
+  pub no-low-byte : NoLowByte c
+  pub content-fits : fitsLabel (labelAtLine lines (pred n)) c ≡ true
+  -- 22
+  pub new-lines : NewLines lines n c new
+  pub has-room : size new ≤ length b
+  pub out-is : out ≡ render new []
