@@ -1,0 +1,392 @@
+#!/usr/bin/env python3
+"""generate.py SEED COUNT CALLS [--check] | rows | store: writes a stream of cases; --check runs it and prints how often each answer is met.
+Assumes harness/sets.py and, where it checks, the second program through harness/run; the same seed gives the same stream."""
+import collections
+import lzma
+import os
+import random
+import sys
+
+import sets
+from rows import FIELDS, SET_TABLES, marked
+from stream import CALLS, NUMBERS, ROOT, Case, answers, entries, packed
+
+SET_FAULTS = range(1, 18)
+FOUND_FIRST = range(2, 8)  # faults of lines that come before all rules
+FAR = 0.05  # how many of the sets and lists with such faults have far places
+ADDING = (2, 3, 11, 12, 13, 21)  # faults that may add a line or an entry
+MANY_LINES = 400
+STORED_CASES = 1200
+STORED_SEED = 21
+ROWS = "rows"  # the stored stream that goes through the tables row by row
+
+# Of a call's cases at least so many parts of a hundred must be accepted, meet each number, have over 400 lines.
+LEAST_ACCEPTED, LEAST_NUMBER, LEAST_LONG = 30, 0.1, 1
+
+# ---- Sets and lists with given faults: those that leave the least standing are made last ----------------------------------------------
+
+
+def fields_for(r, faults):
+    """Type and fields of an accepted set in which these faults can be made; one in fifty has over 400 lines."""
+    if 7 in faults:
+        return 6310, sets.accepted(r, 6310, sets.MOST_LINES, short=True)
+    if r.random() < 0.02:
+        most = sets.MOST_LINES - any(no in ADDING for no in faults)
+        lines = r.choice((most, most - 1, r.randint(MANY_LINES + 1, most)))
+        return 6310, sets.accepted(r, 6310, lines, short=r.random() < 0.9)
+    kind = 6310 if 12 in faults else r.choice((6310, *SET_TABLES))
+    return kind, sets.accepted(r, kind, r.choice((0, 8, 14, r.randint(5, 40))), short=r.random() < 0.5)
+
+
+def set_with(r, faults):
+    """The lines of a set that has these faults; one that is accepted where there are none."""
+    if 1 in faults:
+        return []
+    kind, fields = fields_for(r, faults)
+    for no in reversed(faults):
+        if no in sets.FIELD_FAULTS and len(fields) > 2:
+            sets.FIELD_FAULTS[no](r, kind, fields, 2)
+    lines = sets.lines_of(fields)
+    if faults and all(no in FOUND_FIRST for no in faults) and r.random() < FAR:
+        lines = sets.far(r, lines, sets.MOST_LINES if 7 in faults else r.randint(70, sets.MOST_LINES - 1))
+    if 7 in faults:
+        lines = sets.too_many(r, lines)
+    at = r.randrange(len(lines))
+    for no in reversed(faults):
+        if no in sets.LINE_FAULTS and len(lines[-1]) >= sets.LEAST_LINE:
+            lines = sets.LINE_FAULTS[no](r, lines, min(len(lines) - 1, r.choice((at, r.randrange(len(lines))))))
+    return lines
+
+
+def list_with(r, faults):
+    """The entries of a list that has these faults, and what the writer would need for it."""
+    if 1 in faults:
+        return [], 0
+    kind, fields = fields_for(r, faults)
+    fields = [field for field in fields if field[0] != 8100]
+    for no in reversed(faults):
+        if no in sets.FIELD_FAULTS and len(fields) > 1:
+            sets.FIELD_FAULTS[no](r, kind, fields, 1)
+    found = sets.entries_of(fields)
+    need = sum(map(len, found)) + 5 * len(found) + 14
+    if faults and all(no in (6, 7, 21) for no in faults) and r.random() < FAR:
+        found = sets.far_entries(r, found, sets.MOST_LINES - 1, [990]) if 7 in faults else sets.far_entries(r, found, 9, [990, 20000, 65535])
+    for no in faults:
+        if no == 6:
+            found = sets.low_entry(r, found)
+        if no == 7:
+            found = found + [r.choice((sets.entry(6228, b"one more"), b"\x00", sets.entry(3000, b"\x07"), sets.entry(10000, b"7")))]
+        if no == 21:
+            found = r.choice((sets.cut_entries, sets.label_over))(r, found)
+    return found, need
+
+
+def follower(r):
+    """Bytes behind a set that are not judged: another set, good or not."""
+    return r.choice((b"xyz8000", b"0138000", b"\x00\x01\x028000\xff", b"".join(set_with(r, ())), b"".join(set_with(r, (r.randint(2, 17),)))[:200]))
+
+
+def begins_set(data):
+    return data[3:7] == b"8000"
+
+
+def room_for(r, need, enough):
+    """A room that is enough, often just so, or one that is not."""
+    if enough:
+        return need + r.choice((0, 0, 1, r.randrange(60)))
+    return r.choice((need - 1, need - 1, 0, r.randrange(need)))
+
+
+# ---- A case of each call that has given faults --------------------------------------------------------------------------------------
+
+
+def read_case(r, call, faults):
+    """judge, index and list: a set, and for the last two a room."""
+    data = b"".join(set_with(r, [no for no in faults if no in SET_FAULTS]))
+    behind = follower(r) if not faults and r.random() < 0.15 else b""
+    args = {"set": data + behind if begins_set(behind) else data}
+    if call != "j":
+        lines = data.count(b"\r\n")
+        need = lines if call == "i" else len(data) - 14 - 5 * (lines - 1)
+        args["room"] = room_for(r, max(need, 1), 22 not in faults)
+    return args
+
+
+def write_case(r, faults):
+    found, need = list_with(r, faults)
+    return {"room": room_for(r, max(need, 1), 22 not in faults), "list": b"".join(found)}
+
+
+def labels_in(lines):
+    """The labels of lines that may be faulty; 3000 where there is none."""
+    return [int(data[3:7]) if data[3:7].isdigit() and int(data[3:7]) in FIELDS else 3000 for data in lines]
+
+
+def label_of(labels, line):
+    """The label of a line, 3000 where there is no such line."""
+    return labels[line - 1] if 0 < line <= len(labels) else 3000
+
+
+def line_of(r, labels, faults):
+    """A number of a line, for 19 one that no line has, for 20 a fixed one."""
+    if 19 in faults:
+        return r.choice((0, len(labels) + 1, len(labels) + 2, 513, 65535))
+    return r.choice([at for at, label in enumerate(labels, 1) if (label in sets.FIXED) == (20 in faults)] or [1])
+
+
+def content_of(r, label, faults):
+    """A content for a line with this label, for 14 one that does not fit, for 6 one with a byte under 20h."""
+    content = sets.unfitting(r, label) if 14 in faults else sets.fitting(r, label)
+    if 6 in faults:
+        content = content or b"?"
+        at = r.choice((0, len(content) - 1, r.randrange(len(content))))
+        content = sets.replaced(content, at, r.choice(sets.LOW_BYTES))
+    return content
+
+
+def longer_line(r, lines, labels):
+    """The number of a line that may have a longer content, and such a content; nothing where there is no such line."""
+    able = []
+    for number, (data, label) in enumerate(zip(lines, labels), 1):
+        longer, most = len(data) - 8, FIELDS[label][1]
+        if label not in sets.FIXED and 1 < longer <= most:
+            able.append((number, label, r.randint(longer, most)))
+    if not able:
+        return None
+    number, label, length = r.choice(able)
+    return number, sets.fitting_of(r, label, length)
+
+
+def shared_faults(r, faults):
+    """6 and 14 can be the set's or the new content's: which of them the set has."""
+    own = [no for no in faults if no in SET_FAULTS]
+    return [no for no in own if no not in (6, 14) or r.random() < 0.4]
+
+
+def correct_case(r, faults):
+    own = shared_faults(r, faults)
+    new = [no for no in faults if no not in own]
+    lines = set_with(r, own)
+    labels = labels_in(lines) or [3000]
+    line = line_of(r, labels, new)
+    content = content_of(r, label_of(labels, line), new)
+    longer = longer_line(r, lines, labels) if new == [22] else None
+    if new == [22] and not longer and not own:
+        return correct_case(r, faults)
+    if longer:
+        line, content = longer
+    data = b"".join(lines)
+    used = len(data)
+    growth = len(content) + 9 - len(lines[line - 1]) if 0 < line <= len(lines) else 0
+    if 22 in new:
+        spare = r.choice((0, max(growth, 1) - 1, r.randrange(max(growth, 1))))
+    else:
+        spare = max(growth, 0) + r.choice((0, 0, 1, r.randrange(40)))
+    if 18 in new and r.random() < 0.5:
+        data += r.choice((b"xyz8000", b"".join(set_with(r, ()))))
+        used = len(data)
+    elif 18 in new:
+        used += spare + r.choice((1, 2, 1000, 2**32, 2**64 - 1 - used - spare))
+    return {"used": used, "line": line, "content": content, "buffer": data + bytes(r.choice(b"\x00\xaa0\r\n8zZ") for _ in range(spare))}
+
+
+def view_case(r, faults):
+    own = shared_faults(r, faults)
+    new = [no for no in faults if no not in own]
+    lines = set_with(r, own)
+    labels = labels_in(lines) or [3000]
+    asked_wrong = 19 in new and r.random() < 0.6
+    sheet = []
+    count = r.randint(513, 600) if r.random() < 0.01 else r.choice((0, 1, 2, 3, r.randrange(12)))
+    for _ in range(count + (21 in new)):
+        line = line_of(r, labels, ())
+        sheet.append((line, content_of(r, labels[line - 1], ())))
+    asked = [line for line, _ in sheet] * 2 + [1, 2, r.randint(1, len(labels)), r.randint(1, len(labels))]
+    for no in new:
+        if no in (6, 14, 20) or no == 19 and not asked_wrong:
+            made = r.choice(((no,), [other for other in new if other >= no]))
+            line = line_of(r, labels, made)
+            content = content_of(r, label_of(labels, line), made)
+            sheet.insert(r.randint(0, len(sheet)), (line, content))
+    found = [sets.entry(line, content) for line, content in sheet]
+    if 21 in new:
+        found = sets.cut_entries(r, found)
+    data = b"".join(lines)
+    if 18 in new:
+        data += r.choice((b"xyz8000", b"".join(set_with(r, ()))))
+    line = r.choice((0, len(labels) + 1, 513, 2**32, 2**64 - 1)) if asked_wrong else r.choice(asked)
+    return {"line": line, "set": data, "sheet": b"".join(found)}
+
+
+MAKERS = {"w": write_case, "c": correct_case, "v": view_case}
+
+
+def case_with(r, call, faults):
+    if call in MAKERS:
+        return Case(call, MAKERS[call](r, faults))
+    return Case(call, read_case(r, call, faults))
+
+
+# ---- A stream -------------------------------------------------------------------------------------------------------------------------
+
+
+def some_faults(r, numbers, turn):
+    """In turn each two neighbours, whose order is easy to mistake, and any two or three of the numbers a call can give."""
+    if turn % 2:
+        at = turn // 2 % (len(numbers) - 1)
+        return numbers[at : at + 2]
+    return sorted(set(r.choices(numbers, k=r.choice((2, 3)))))
+
+
+def cases(seed, count, calls):
+    """So many cases of each call, and beside each the number that it was made for; None where more than one fault was made."""
+    r = random.Random("%s %s" % (seed, calls))
+    turns = collections.Counter()
+    for _ in range(count):
+        for call in calls:
+            numbers = [no for no in CALLS[call][2] if no != 7 or r.random() < 0.3]
+            way = r.random()
+            if way < 0.42:
+                yield case_with(r, call, ()), 0
+            elif way < 0.78:
+                no = r.choice(numbers)
+                yield case_with(r, call, (no,)), no
+            elif way < 0.93:
+                turns[call] += 1
+                yield case_with(r, call, some_faults(r, numbers, turns[call])), None
+            else:
+                case = case_with(r, call, ())
+                name = r.choice(CALLS[call][1])
+                if name in NUMBERS:
+                    case.args[name] = max(0, case.args[name] + r.choice((-20, -2, -1, 1, 2, 20)))
+                else:
+                    case.args[name] = sets.scrambled(r, case.args[name])
+                yield case, None
+
+
+def plain_fields(kind, leave_out):
+    """The required fields of a set, without one of them."""
+    r = random.Random(STORED_SEED)
+    needed = [(label, sets.fitting(r, label, short=True)) for label in marked(SET_TABLES[kind], "!") if label not in (8000, 8100, leave_out)]
+    return [(8000, b"%d" % kind), (8100, None)] + needed
+
+
+def judged(fields):
+    return Case("j", {"set": b"".join(sets.lines_of(fields))})
+
+
+def row_cases():
+    """For judge: every label in every set type, once and twice; every row of the field table with the contents at the edges of its length and kind."""
+    r = random.Random(STORED_SEED)
+    headers = {**sets.MEMBER_OF, **{name + 1: name for name in sets.NAMES}}
+    for kind in SET_TABLES:
+        for label in sorted({*FIELDS, 101, 8412, 6306, 6329, 6400, 9999} - {8000}):
+            field = (label, sets.fitting(r, label) if label in FIELDS else b"7")
+            before = [(headers[label], b"x")] if label in headers and kind == 6310 else []
+            yield judged(plain_fields(kind, label) + [field])
+            yield judged(plain_fields(kind, label) + before + [field, field])
+    for label in sorted(set(FIELDS) - {8000, 8100} - set(range(6332, 6398))):
+        before = [(headers[label], b"x")] if label in headers else []
+        for content in sets.fitting_edges(r, label) + sets.unfitting_lines(r, label):
+            yield judged(plain_fields(6310, label) + before + [(label, content)])
+    for content in sets.unfitting_lines(r, 8100) + [b"000510", b"0051"]:
+        yield judged([(8000, b"6300"), (8100, content), (9218, b"02.10"), (3000, b"0")])
+
+
+def again_cases():
+    """For the writer: 8000 and 8100 again, in every set type."""
+    for kind in SET_TABLES:
+        for again in ((8000, b"%d" % kind), (8100, b"00051")):
+            yield Case("w", {"room": 200, "list": b"".join(sets.entries_of(plain_fields(kind, None) + [again]))})
+
+
+# ---- What a stream meets ----------------------------------------------------------------------------------------------------------------
+
+
+def line_count(case):
+    if case.call == "w":
+        return len(entries(case.args["list"])) + 1
+    return case.args["buffer" if case.call == "c" else "set"].count(b"\r\n")
+
+
+def met(found, lines):
+    """For each call how many cases had each answer (0: accepted, "long": over 400 lines, "all")."""
+    counts = collections.defaultdict(collections.Counter)
+    for case, line in zip(found, lines):
+        words = line.split(" ", 2)
+        counts[case.call]["all"] += 1
+        counts[case.call]["long"] += line_count(case) > MANY_LINES
+        counts[case.call][int(words[1]) if words[0] == "refused" else 0] += 1
+    return counts
+
+
+def shortfalls(counts):
+    """What is met too seldom, as sentences."""
+    out = []
+    for call, count in counts.items():
+        name, _, numbers = CALLS[call]
+        least = {0: ("accepted", LEAST_ACCEPTED), "long": ("over 400 lines", LEAST_LONG), **{no: ("refused by %d" % no, LEAST_NUMBER) for no in numbers}}
+        for key, (what, percent) in least.items():
+            if 100 * count[key] < percent * count["all"]:
+                out.append("%s: %d of %d cases %s, at least %s %% are wanted" % (name, count[key], count["all"], what, percent))
+    return out
+
+
+def histogram(counts):
+    """A table in percent: a row for each answer, a column for each call."""
+    calls = list(counts)
+    rows = [("cases", "all"), ("> 400", "long"), ("ok", 0)] + [(str(no), no) for no in range(1, 23)]
+    out = ["%7s" % "" + "".join("%9s" % CALLS[call][0] for call in calls)]
+    for name, key in rows:
+        cells = [str(counts[call][key]) if key == "all" else "%.2f" % (100 * counts[call][key] / counts[call]["all"]) for call in calls]
+        cells = ["-" if isinstance(key, int) and key > 0 and key not in CALLS[call][2] else cell for call, cell in zip(calls, cells)]
+        out.append("%7s" % name + "".join("%9s" % cell for cell in cells))
+    return out
+
+
+def check(found, aims):
+    """Prints the histogram of these cases by the second program; the sentences where something is wrong."""
+    told = answers("second", b"".join(map(packed, found)))
+    if told.status:
+        return ["the second program: " + told.message]
+    counts = met(found, told.lines)
+    print("\n".join(histogram(counts)), file=sys.stderr)
+    wrong = shortfalls(counts)
+    for number, (case, aim, line) in enumerate(zip(found, aims, told.lines), 1):
+        if aim is not None and not line.startswith("refused %d " % aim if aim else "ok "):
+            wrong.append("case %d, %s, was made for %d: %s" % (number, CALLS[case.call][0], aim, line[:60]))
+    return wrong
+
+
+def store():
+    """Writes the stored streams: one for each call, and one for the rows."""
+    streams = {CALLS[call][0]: [case for case, _ in cases(STORED_SEED, STORED_CASES, call)] for call in CALLS}
+    streams["write"] += again_cases()
+    streams[ROWS] = row_cases()
+    for name, found in streams.items():
+        with open(os.path.join(ROOT, "harness", "streams", name + ".xz"), "wb") as file:
+            file.write(lzma.compress(b"".join(map(packed, found)), preset=9 | lzma.PRESET_EXTREME))
+
+
+def main(words):
+    if words == ["store"]:
+        store()
+        return 0
+    if words == ["rows"]:
+        sys.stdout.buffer.write(b"".join(map(packed, row_cases())))
+        return 0
+    checked = words[-1:] == ["--check"]
+    if len(words) != 3 + checked or not words[1].isdigit() or set(words[2]) - set(CALLS):
+        print(__doc__, file=sys.stderr)
+        return 2
+    found, aims = zip(*cases(words[0], int(words[1]), words[2]))
+    if not checked:
+        sys.stdout.buffer.write(b"".join(map(packed, found)))
+        return 0
+    wrong = check(found, aims)
+    print("".join(line + "\n" for line in wrong), end="", file=sys.stderr)
+    return 1 if wrong else 0
+
+
+if __name__ == "__main__":
+    sys.exit(main(sys.argv[1:]))
