@@ -3,6 +3,7 @@
 #include "x86.h"
 #include "icount.h"
 #include "stackuse.h"
+#include "putline.h"
 #include "gdt.h"
 
 struct gdt_judged second_judge(const uint8_t *set, size_t set_length);
@@ -14,37 +15,22 @@ struct gdt_viewed second_view(const uint8_t *set, size_t set_length, const uint8
 
 size_t second_view_copy(const uint8_t *set, size_t set_length, const uint8_t *sheet, size_t sheet_length, size_t line, uint8_t *out, size_t room);
 
-enum { BUFFER = 65536, LINES = 512, SUM_AT = 20 };
+enum { BUFFER = 65536, LINES = 512, SUM_AT = 20, SUM_DIGITS = 5 };
 static uint8_t set[BUFFER], list[BUFFER], ours[BUFFER], theirs[BUFFER];
 static struct gdt_entry our_entries[LINES], their_entries[LINES];
-static size_t used, lines, list_used;
+static size_t used, list_used;
 
 /* ---- the loads -------------------------------------------------------------------------------------------------------------- */
 
-static void digits(size_t number, int width)
-{
-    for (int i = width - 1; i >= 0; i--) {
-        set[used + (size_t)i] = (uint8_t)('0' + number % 10);
-        number /= 10;
-    }
-    used += (size_t)width;
-}
-
 static void line(size_t label, const char *content, size_t length)
 {
-    digits(length + 9, 3);
-    digits(label, 4);
-    memcpy(set + used, content, length);
-    used += length;
-    set[used++] = 13;
-    set[used++] = 10;
-    lines++;
+    put_line(set, &used, label, content, length);
 }
 
 /* The five lines that a 6310 set starts with here; `finish` puts the sum in. */
 static void begin(void)
 {
-    used = lines = 0;
+    used = 0;
     line(8000, "6310", 4);
     line(8100, "00000", 5);
     line(9218, "02.10", 5);
@@ -54,10 +40,8 @@ static void begin(void)
 
 static void finish(void)
 {
-    size_t length = used;
-    used = SUM_AT;
-    digits(length, 5);
-    used = length;
+    size_t at = SUM_AT;
+    put_digits(set, &at, used, SUM_DIGITS);
 }
 
 /* ---- one row ---------------------------------------------------------------------------------------------------------------- */
@@ -134,7 +118,7 @@ int main(void)
     static const char forty[] = "abcdefghijklmnopqrstuvwxyzabcdefghijklmn";
     printf("| Load | Call | Proved, instructions | Second, instructions | Ratio | Stack of the proved, bytes |\n");
     printf("|---|---|---|---|---|---|\n");
-    used = lines = 0;
+    used = 0;
     line(8000, "6300", 4);
     line(8100, "00051", 5);
     line(9218, "02.10", 5);

@@ -3,6 +3,7 @@
    the same. The sets are the same in every run. Prints `ok - ..` or `FAILED - ..` for each kind of set, then for the stack. */
 #include "x86.h"
 #include "stackuse.h"
+#include "putline.h"
 #include "gdt.h"
 
 struct gdt_made second_index(const uint8_t *set, size_t set_length, struct gdt_entry *out, size_t room);
@@ -12,6 +13,7 @@ enum {
     LINES = 512,
     GUARDS = 4,       /* entries before and behind those that are lent */
     SUM_AT = 20,      /* the place of the sum's digits */
+    SUM_DIGITS = 5,
     STACK_MOST = 8192 /* "8 KiB of stack" */
 };
 
@@ -39,24 +41,9 @@ static unsigned roll(unsigned n)
     return seed % n;
 }
 
-static void digits(size_t number, int width)
-{
-    for (int i = width - 1; i >= 0; i--) {
-        set[used + (size_t)i] = (uint8_t)('0' + number % 10);
-        number /= 10;
-    }
-    used += (size_t)width;
-}
-
 static void line(unsigned label, const char *content)
 {
-    size_t length = strlen(content);
-    digits(length + 9, 3);
-    digits(label, 4);
-    memcpy(set + used, content, length);
-    used += length;
-    set[used++] = 13;
-    set[used++] = 10;
+    put_line(set, &used, label, content, strlen(content));
     lines++;
 }
 
@@ -137,10 +124,8 @@ static void test_part(void)
 /* Writes the set's length into line 2. */
 static void finish(void)
 {
-    size_t length = used;
-    used = SUM_AT;
-    digits(length, 5);
-    used = length;
+    size_t at = SUM_AT;
+    put_digits(set, &at, used, SUM_DIGITS);
 }
 
 /* An accepted set of this type. */

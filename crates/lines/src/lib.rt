@@ -1,5 +1,6 @@
 // One line of a set at an offset, where a set ends, and the scan of the lines from an offset on: 2 to 7 of the paper's replies.
-// Assumes nothing of the bytes or the offset: each contract cites a walk of specs/, and proofs/Bridge says what the walks mean.
+// Assumes nothing of the bytes; `first_low` and `scan_from`, which only other crates here call, assume that their offset lies within them. Each contract cites a walk of specs/,
+// and proofs/Bridge says what the walks mean.
 ghost use mathlib.Core.Path.{_≡_};
 ghost use mathlib.Core.Bool.{true};
 ghost use Prim.Native.Nat.{_+_, _-_, _≤_};

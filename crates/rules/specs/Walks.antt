@@ -1,4 +1,4 @@
--- The second pass as the code walks it: over offsets, with the rows that were seen as flags. proofs/Pass ties it to the rules of `meaning`.
+-- The rules as the code walks them: over offsets, with the rows that were seen as flags. proofs/PassLaws and proofs/JudgeLaws tie them to the rules of `meaning`.
 -- Assumes nothing: these are definitions.
 use mathlib.Core.Bool.{Bool, true, false, cond, not, _&&_, _||_}
 use mathlib.Core.Path.{_≡_}
