@@ -1,18 +1,17 @@
 -- The walk over a set answers what `meaning` says: `judgeWalk s ≡ judge s`, for all bytes.
 -- Assumes nothing.
-use mathlib.Core.Path.{_≡_, refl, sym, ap, ap₂, _∙_, subst}
-use mathlib.Core.Bool.{Bool, true, false, cond, not, _&&_}
+use mathlib.Core.Path.{_≡_, refl, sym, ap, _∙_, subst}
+use mathlib.Core.Bool.{Bool, true, false, cond, _&&_}
 use mathlib.Core.List.{List, [], _∷_, _++_}
-use Prim.Native.Nat.{ℕ, zero, suc, _+_, _-_, _≤_, _<_}
+use Prim.Native.Nat.{ℕ, _+_, _-_, _≤_}
 use native.Mathlib.Omega.{arith}
 use native.Mathlib.Nat.{zero-add}
-use lib.Dec.{leb, eqb}
-use lib.ListN.{length, getD, drop, take, length-take}
+use lib.Dec.{eqb}
+use lib.ListN.{length, drop, take, length-take}
 use borrow.Author.Tests.{eq-eqb, ne-eqb, eqb-true, le-leb}
 use Rattle.meaning.specs.declared.Refusal.{Refusal}
 use Rattle.meaning.specs.declared.Row.{Row}
 use Rattle.meaning.specs.declared.Judged.{Judged}
-use Rattle.meaning.specs.declared.Judged.the-variants.{Accepted}
 use Rattle.meaning.specs.declared.Known.{Known}
 use Rattle.meaning.specs.declared.Known.the-variants.{Of, Nothing}
 use Rattle.meaning.specs.declared.SetType.{SetType}
@@ -25,23 +24,24 @@ use Rattle.meaning.specs.Tables.{table, setLevel}
 use Rattle.meaning.specs.Groups.{first, after}
 use Rattle.meaning.specs.Missing.{lacking, among, groupsLacking, missingFaults}
 use Rattle.meaning.specs.Rules.{Profile, profile, typeNamed, isKnown, rowsOf, fits, startFaults, rulesFrom, sumFaults, ruleFaults, setFaults}
-use Rattle.meaning.specs.Reading.{inSet, scan, byRules, read, shape, judged, judge}
+use Rattle.meaning.specs.Reading.{inSet, scan, byRules, read, judged, judge}
 use Rattle.meaning.specs.Lists.{sumDigits, sumLine}
 use Rattle.meaning.specs.Answers.{noRefusal}
 use Rattle.meaning.proofs.Bools.{Every}
 use Rattle.meaning.proofs.FaultLaws.{append-none}
-use Rattle.meaning.proofs.LineLaws.{Sound, LaterLine}
+use Rattle.meaning.proofs.LineLaws.{Sound}
 use Rattle.meaning.proofs.FieldLaws.{sum-fits}
 use Rattle.meaning.proofs.SetLaws.{scanned, second-fits, later-sound}
-use Rattle.lines.specs.declared.Number.{Number}
 use Rattle.lines.specs.declared.Number.the-variants.{Is}
 use Rattle.lines.specs.Number.{numberAt}
-use Rattle.lines.proofs.Bridge.{summary, asNumber, number-is, scan-is, read-line, read-back}
-use Rattle.rules.specs.Walks.{orElse, begin, contentOf, passFrom, sumIs, sumWalk, secondBy, secondWalk, asJudged, typedBy, firstBy, linesWalk, judgedScan, judgeWalk}
-use Rattle.rules.proofs.FirstLaws.{firstOf, Real, first-append, real-append, real-ask, real-rule, first-none, or-assoc, or-none, or-bad, or-then}
-use Rattle.rules.proofs.FlagLaws.{flags-none}
-use Rattle.rules.proofs.LackLaws.{real-lacking}
-use Rattle.rules.proofs.PassLaws.{Same, real-rules, real-groups, reads-content, reads-on, whole, pass-is}
+use Rattle.lines.proofs.Bridge.{summary, asNumber, number-is, scan-is, read-line}
+use Rattle.lacks.specs.Lacks.{orElse, begin}
+use Rattle.lacks.proofs.FirstLaws.{firstOf, Real, first-append, real-append, real-ask, real-rule, first-none, or-assoc, or-none, or-bad, or-then}
+use Rattle.lacks.proofs.FlagLaws.{begin-same}
+use Rattle.lacks.proofs.LackLaws.{real-lacking, real-groups}
+use Rattle.steps.proofs.SameLaws.{real-rules, whole}
+use Rattle.rules.specs.Walks.{passFrom, sumWalk, secondBy, secondWalk, asJudged, typedBy, firstBy, linesWalk, judgedScan, judgeWalk}
+use Rattle.rules.proofs.PassLaws.{reads-content, reads-on, pass-is}
 
 -- ---- 11 to 16, as found
 
@@ -69,9 +69,6 @@ whole-found kind pl fs =
     ap (λ (x : Refusal). orElse (firstOf pl (rulesFrom p first 0 fs)) (orElse (firstOf pl tops) x)) (or-none (firstOf pl groups))
     ∙ (ap (orElse (firstOf pl (rulesFrom p first 0 fs))) (sym (first-append pl tops groups (real-lacking (table kind) setLevel 0 (among (after (table kind) first 0 (labels fs) .top)))))
     ∙ sym (first-append pl (rulesFrom p first 0 fs) (tops ++ groups) (real-rules p first 0 fs)))
-
-pub begin-same : (kind : SetType) (pl : ℕ → Spot → ℕ) → 0 ≡ pl 0 start → Same (table kind) pl begin first
-begin-same kind pl e = record { header = refl; place = e; members = flags-none (table kind); top = flags-none (table kind) }
 
 pass-found : (s : List ℕ) (kind : SetType) (fs : List Field) (t : List ℕ) → Every Sound fs → s ≡ render fs t
     → passFrom s kind 0 begin noRefusal (length fs) ≡ firstOf (inSet fs) (middle (ofType kind) fs)

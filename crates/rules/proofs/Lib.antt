@@ -1,9 +1,6 @@
-pub mod Laws
-pub mod FirstLaws
-pub mod FlagLaws
-pub mod LackLaws
+-- The laws that the proofs of this crate and of later ones cite.
+-- Assumes nothing.
 pub mod PassLaws
-pub mod JudgeLaws
-pub mod StepLaws
 pub mod OnceLaws
 pub mod StartLaws
+pub mod JudgeLaws

@@ -6,7 +6,7 @@ use mathlib.Core.List.{List}
 use Prim.Native.Nat.{ℕ, zero, suc, _+_, _-_, _≤_, _<_}
 use native.Mathlib.Nat.{zero-add, add-zero}
 use native.Mathlib.Omega.{arith}
-use lib.Dec.{leb, eqb}
+use lib.Dec.{leb}
 use lib.ListN.{length}
 use borrow.Author.Tests.{ne-eqb, le-leb, lt-leb, leb-true, leb-false}
 use Rattle.meaning.specs.declared.Refusal.{Refusal}
@@ -22,9 +22,11 @@ use Rattle.lines.specs.Line.{lineAt}
 use Rattle.lines.specs.Scan.{endsAt, after, scanFrom, scanSet}
 use Rattle.lines.proofs.Laws.{scan-done, scan-full, scan-bad, scan-further}
 use Rattle.lines.proofs.Bridge.{read-back}
-use Rattle.rules.specs.declared.Step.{Step}
-use Rattle.rules.specs.Walks.{State, begin, rowOf, finish, contentOf, stateOf, Stepped, passFrom, scanOn, firstUnread, doneUnless, passed}
-use Rattle.rules.proofs.StepLaws.{pass-bad, pass-on}
+use Rattle.lacks.specs.Lacks.{State, begin, finish, stateOf}
+use Rattle.steps.specs.declared.Step.{Step}
+use Rattle.steps.specs.Steps.{rowOf, Stepped}
+use Rattle.rules.specs.Walks.{contentOf, passFrom, scanOn, firstUnread, doneUnless, passed}
+use Rattle.rules.proofs.PassLaws.{pass-bad, pass-on}
 
 -- ---- the scan
 

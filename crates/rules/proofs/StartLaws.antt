@@ -3,12 +3,12 @@
 use mathlib.Core.Path.{_≡_, refl, sym, ap, _∙_, subst}
 use mathlib.Core.Bool.{Bool, true, false, cond, _&&_}
 use mathlib.Core.List.{List}
-use Prim.Native.Nat.{ℕ, _+_, _-_, _≤_, _<_}
+use Prim.Native.Nat.{ℕ, _+_, _-_, _≤_}
 use native.Mathlib.Omega.{arith}
-use lib.Dec.{leb, eqb}
+use lib.Dec.{eqb}
 use lib.ListN.{length, take, drop}
 use lib.Seq.{take-all}
-use borrow.Author.Tests.{eq-eqb, ne-eqb, le-leb, lt-leb}
+use borrow.Author.Tests.{eq-eqb, ne-eqb, le-leb}
 use Rattle.meaning.specs.declared.Refusal.{Refusal}
 use Rattle.meaning.specs.declared.Judged.{Judged}
 use Rattle.meaning.specs.declared.Judged.the-variants.{Accepted}
@@ -18,13 +18,12 @@ use Rattle.meaning.specs.declared.SetType.{SetType}
 use Rattle.meaning.specs.Limits.{maxLines, typeOf, typeNumber}
 use Rattle.meaning.specs.Digits.{number, allDigits}
 use Rattle.meaning.specs.Refusals.{refusal, empty, noStart, unknownSet, noSum, badSum}
-use Rattle.meaning.specs.Lines.{lineLead, lineEnd}
+use Rattle.meaning.specs.Lines.{lineLead}
 use Rattle.meaning.specs.Rules.{typeNamed, typeDigits}
 use Rattle.meaning.specs.Lists.{sumDigits, sumLine}
 use Rattle.meaning.specs.Answers.{noRefusal}
 use Rattle.lines.specs.declared.Number.{Number}
 use Rattle.lines.specs.declared.Number.the-variants.{Is, None}
-use Rattle.lines.specs.declared.Line.{Line}
 use Rattle.lines.specs.declared.Line.the-variants.{Read, Refused}
 use Rattle.lines.specs.declared.Scan.{Scan}
 use Rattle.lines.specs.declared.Scan.the-variants.{Done}
@@ -33,7 +32,8 @@ use Rattle.lines.specs.Line.{lineAt}
 use Rattle.lines.specs.Scan.{endsAt, scanFrom, scanSet}
 use Rattle.lines.proofs.Laws.{scan-done, scan-bad, scan-further}
 use Rattle.lines.proofs.Bridge.{asNumber, number-is}
-use Rattle.rules.specs.Walks.{orElse, begin, contentOf, passFrom, firstUnread, doneUnless, passed, sumIs, sumWalk, ruledWalk, secondBy, secondWalk, asJudged, typedBy, firstBy, linesWalk, judgedScan, judgeWalk}
+use Rattle.lacks.specs.Lacks.{orElse, begin}
+use Rattle.rules.specs.Walks.{passFrom, firstUnread, doneUnless, passed, sumWalk, ruledWalk, secondBy, secondWalk, asJudged, typedBy, firstBy, linesWalk, judgedScan, judgeWalk}
 use Rattle.rules.proofs.OnceLaws.{Counts, scan-counts}
 
 -- ---- 9: the type that a content names

@@ -75,9 +75,9 @@ fn mark_at(kind: SetType, walk: Walk, label: usize) -> Mark
                     line: walk.lines,
                 };
             }
-            if rules::belongs_to(row, walk.header, label) {
+            if steps::belongs_to(row, walk.header, label) {
                 let under = one_more(walk.line);
-                let header = rules::header_after(label, walk.header);
+                let header = steps::header_after(label, walk.header);
                 return Mark {
                     under,
                     header,

@@ -23,13 +23,15 @@ use Rattle.meaning.specs.Lists.{inList}
 use Rattle.meaning.specs.Answers.{noRefusal}
 use Rattle.entries.specs.declared.Head.the-variants.{Whole, Cut}
 use Rattle.entries.specs.Head.{entryAt}
-use Rattle.rules.specs.declared.Step.{Step}
-use Rattle.rules.specs.Walks.{State, begin, rowOf, finish, stateOf, Stepped}
-use Rattle.rules.proofs.FirstLaws.{firstOf, Real, real-append}
-use Rattle.rules.proofs.PassLaws.{Same, whole, pass-line, pass-finish}
-use Rattle.rules.proofs.JudgeLaws.{middle, real-middle, ofType, starts, real-starts, whole-found, begin-same}
-use Rattle.writer.specs.Writing.{stepThen, entriesPass, setPass, byKnown, firstEntry, judgeEntries}
+use Rattle.lacks.specs.Lacks.{State, begin, finish, stateOf}
+use Rattle.lacks.proofs.FirstLaws.{firstOf, Real, real-append}
+use Rattle.lacks.proofs.FlagLaws.{Same, begin-same}
+use Rattle.steps.specs.declared.Step.{Step}
+use Rattle.steps.specs.Steps.{rowOf, Stepped}
+use Rattle.steps.proofs.SameLaws.{whole, pass-line, pass-finish}
+use Rattle.rules.proofs.JudgeLaws.{middle, real-middle, ofType, starts, real-starts, whole-found}
 use Rattle.lists.proofs.PartLaws.{one-more, none-left}
+use Rattle.writer.specs.Writing.{stepThen, entriesPass, setPass, byKnown, firstEntry, judgeEntries}
 use Rattle.writer.proofs.CheckLaws.{Reads}
 
 -- ---- one line, as the code takes it

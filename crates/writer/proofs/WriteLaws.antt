@@ -25,7 +25,7 @@ use Rattle.meaning.proofs.DigitLaws.{length-digits}
 use Rattle.meaning.proofs.LineLaws.{length-line, length-render, render-split}
 use Rattle.entries.specs.declared.Head.the-variants.{Whole, Cut}
 use Rattle.entries.specs.Head.{entryAt}
-use Rattle.rules.proofs.FirstLaws.{firstOf, Real}
+use Rattle.lacks.proofs.FirstLaws.{firstOf, Real}
 use Rattle.buffers.specs.Places.{over}
 use Rattle.buffers.proofs.LendLaws.{length-over}
 use Rattle.writer.specs.declared.Checked.the-variants.{Done as Counted, Refused as Unchecked}

@@ -19,7 +19,8 @@ use Rattle.lines.specs.Line.{firstLow}
 use Rattle.entries.specs.declared.Head.{Head}
 use Rattle.entries.specs.declared.Head.the-variants.{Whole, Cut}
 use Rattle.entries.specs.Head.{entryAt}
-use Rattle.rules.specs.Walks.{State, begin, rowOf, lineNo, nextState, staysIn, lackThen, finish}
+use Rattle.lacks.specs.Lacks.{State, begin, finish}
+use Rattle.steps.specs.Steps.{rowOf, lineNo, nextState, staysIn, lackThen}
 use Rattle.writer.specs.declared.Checked.{Checked}
 use Rattle.writer.specs.declared.Checked.the-variants.{Done, Refused}
 

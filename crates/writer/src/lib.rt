@@ -10,16 +10,16 @@ ghost use Rattle.meaning.specs.Refusals.{refusal};
 ghost use Rattle.meaning.specs.Lines.{cr, lf, lineLead, lineEnd, lineThen};
 ghost use Rattle.meaning.specs.Entries.{entryLead};
 ghost use Rattle.meaning.specs.Answers.{writeCall};
-ghost use Rattle.rules.specs.Walks.{stateOf};
 ghost use Rattle.buffers.specs.Places.{over};
+ghost use Rattle.lacks.specs.Lacks.{stateOf};
 ghost use Rattle.writer.specs.declared.Checked.the-variants.{Done, Refused};
 ghost use Rattle.writer.specs.Writing.{checkContent, checkEntry, checkFrom, entriesPass, setPass, firstEntry, judgeEntries, entryLines, linesFrom};
 use entries::Head;
+use lacks::Group;
 use meaning::Known;
 use meaning::Made;
 use meaning::Refusal;
 use meaning::SetType;
-use rules::Group;
 
 // "more than 511 (7)": 8100 has no entry.
 const ENTRIES: usize = SetType::LINES - 1;
@@ -39,7 +39,7 @@ pub enum Checked {
 fn unchecked(no: usize, place: usize) -> Checked
     ensures { λ r. ⌜ r ≡ Refused (refusal no place 0) ⌝ }
 {
-    Checked::Refused(rules::refused_at(no, place))
+    Checked::Refused(lacks::refused_at(no, place))
 }
 
 // The entry at an offset, which is not cut.
@@ -111,8 +111,8 @@ fn pass_entries(
     second: usize,
     n: usize,
     opened: Group,
-    members: &mut [bool; rules::ROWS],
-    top: &mut [bool; rules::ROWS],
+    members: &mut [bool; lacks::ROWS],
+    top: &mut [bool; lacks::ROWS],
 ) -> Refusal
     ensures { λ r. ⌜ r ≡ entriesPass (now (list .entry)) kind second (stateOf opened (now (members .entry)) (now (top .entry))) (opened .lack) (n - 1) ⌝ }
 {
@@ -122,7 +122,7 @@ fn pass_entries(
     while k < n {
         match entries::entry_at(list, at) {
             Head::Cut => {
-                return rules::refused_at(Refusal::BAD_LIST, at);
+                return lacks::refused_at(Refusal::BAD_LIST, at);
             }
             Head::Whole {
                 kind: label,
@@ -130,7 +130,7 @@ fn pass_entries(
             } => {
                 let from = at + entries::ENTRY_LEAD;
                 let end = from + length;
-                let step = rules::step_at(kind, at, label, &list[from..end], group, members, top);
+                let step = steps::step_at(kind, at, label, &list[from..end], group, members, top);
                 let no = step.no;
                 if no != 0 {
                     return refused_line(no, at, label);
@@ -141,7 +141,7 @@ fn pass_entries(
             }
         }
     }
-    rules::finish_at(kind, group, members, top)
+    lacks::finish_at(kind, group, members, top)
 }
 
 // 11 to 16, where the first entry is 8000 with a content of this length: line 1, line 2 ("the writer adds it"), and the other entries.
@@ -149,15 +149,15 @@ fn pass_set(list: &[u8], kind: SetType, bytes: usize, n: usize, sum: &[u8]) -> R
     requires { ⌜ entryLead + bytes ≤ length (now list) ⌝ }
     ensures { λ r. ⌜ r ≡ setPass (now (list .entry)) kind bytes n (now (sum .entry)) ⌝ }
 {
-    let mut members = [false; rules::ROWS];
-    let mut top = [false; rules::ROWS];
+    let mut members = [false; lacks::ROWS];
+    let mut top = [false; lacks::ROWS];
     let group = Group {
         header: 0,
         place: 0,
-        lack: rules::nothing(),
+        lack: lacks::nothing(),
     };
     let end = entries::ENTRY_LEAD + bytes;
-    let first = rules::step_at(
+    let first = steps::step_at(
         kind,
         0,
         8000,
@@ -169,7 +169,7 @@ fn pass_set(list: &[u8], kind: SetType, bytes: usize, n: usize, sum: &[u8]) -> R
     if first.no != 0 {
         return refused_line(first.no, 0, 8000);
     }
-    let second = rules::step_at(kind, 0, 8100, sum, first.group, &mut members, &mut top);
+    let second = steps::step_at(kind, 0, 8100, sum, first.group, &mut members, &mut top);
     if second.no != 0 {
         return refused_line(second.no, 0, 8100);
     }
@@ -183,12 +183,12 @@ fn first_entry(list: &[u8], label: usize, bytes: usize, n: usize, sum: &[u8]) ->
 {
     // 8, NoStart: "line 1 is not 8000"
     if label != 8000 {
-        return rules::refused_at(Refusal::NO_START, 0);
+        return lacks::refused_at(Refusal::NO_START, 0);
     }
     // 9, UnknownSet: "8000 names none of the five"
     let end = entries::ENTRY_LEAD + bytes;
     let Known::Of(kind) = rules::type_of(&list[entries::ENTRY_LEAD..end]) else {
-        return rules::refused_at(Refusal::UNKNOWN_SET, 0);
+        return lacks::refused_at(Refusal::UNKNOWN_SET, 0);
     };
     pass_set(list, kind, bytes, n, sum)
 }
@@ -198,7 +198,7 @@ fn judge_entries(list: &[u8], n: usize, sum: &[u8]) -> Refusal
     ensures { λ r. ⌜ r ≡ judgeEntries (now (list .entry)) n (now (sum .entry)) ⌝ }
 {
     match entries::entry_at(list, 0) {
-        Head::Cut => rules::refused_at(Refusal::BAD_LIST, 0),
+        Head::Cut => lacks::refused_at(Refusal::BAD_LIST, 0),
         Head::Whole { kind, length } => first_entry(list, kind, length, n, sum),
     }
 }
@@ -283,10 +283,10 @@ fn write_entries(list: &[u8], n: usize, out: &mut [u8]) -> Made
     }
     // 22, NoRoom: "the new total is over the buffer or over 99,999"; "place: the need"
     if out.len() < total {
-        return Made::Refused(rules::refused_at(Refusal::NO_ROOM, total));
+        return Made::Refused(lacks::refused_at(Refusal::NO_ROOM, total));
     }
     if SetType::SET_BYTES < total {
-        return Made::Refused(rules::refused_at(Refusal::NO_ROOM, total));
+        return Made::Refused(lacks::refused_at(Refusal::NO_ROOM, total));
     }
     put_set(list, n, &sum, out);
     buffers::clear(&mut out[total..]);
@@ -299,7 +299,7 @@ pub fn write(list: &[u8], out: &mut [u8]) -> Made
 {
     // 1, Empty: "a set or list of no bytes"
     if list.len() == 0 {
-        return Made::Refused(rules::refused_at(Refusal::EMPTY, 0));
+        return Made::Refused(lacks::refused_at(Refusal::EMPTY, 0));
     }
     match check_entries(list) {
         Checked::Refused(r) => Made::Refused(r),

@@ -1,7 +1,7 @@
 -- `line_step`: the content of the line, and its step.
 -- Assumes nothing.
 use borrow.Author.Needs.{needs}
-use Rattle.rules.proofs.StepLaws.{step-line}
+use Rattle.rules.proofs.PassLaws.{step-line}
 use Rattle.rules.proofs.line_step.Statement.{statement}
 use Rattle.rules.proofs.line_step.Tie as tie
 

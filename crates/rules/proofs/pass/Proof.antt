@@ -7,7 +7,7 @@ use borrow.Author.Needs.{needs}
 use Rattle.meaning.specs.Limits.{maxLines}
 use Rattle.lines.specs.declared.Scan.the-variants.{Refused}
 use Rattle.lines.proofs.Bridge.{read-back}
-use Rattle.rules.specs.Walks.{begin, stateOf}
+use Rattle.lacks.specs.Lacks.{begin, stateOf}
 use Rattle.rules.proofs.OnceLaws.{Along, along-start, along-full, along-unread, along-bad, along-end, along-on}
 use Rattle.rules.proofs.pass.Statement.{statement}
 use Rattle.rules.proofs.pass.Tie as tie

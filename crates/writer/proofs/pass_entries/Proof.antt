@@ -5,7 +5,7 @@ use Prim.Native.Nat.{_-_}
 use native.Mathlib.Omega.{arith}
 use borrow.Author.Needs.{needs}
 use Rattle.entries.proofs.HeadLaws.{whole-back}
-use Rattle.rules.specs.Walks.{stateOf}
+use Rattle.lacks.specs.Lacks.{stateOf}
 use Rattle.writer.specs.Writing.{entriesPass}
 use Rattle.lists.proofs.PartLaws.{part-length}
 use Rattle.writer.proofs.EntryPass.{pass-end, pass-cut, pass-bad, pass-on}

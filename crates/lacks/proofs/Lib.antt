@@ -1,0 +1,6 @@
+-- The laws that the proofs of this crate and of later ones cite.
+-- Assumes nothing.
+pub mod Laws
+pub mod FirstLaws
+pub mod FlagLaws
+pub mod LackLaws

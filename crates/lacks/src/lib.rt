@@ -1,0 +1,304 @@
+// Which rows were seen, as flags by row number, and rule 16: what a group and the set lack.
+// Assumes nothing: `finish_at` has no `requires`. Each contract cites a walk of specs/, and proofs/LackLaws says what the walks mean.
+ghost use mathlib.Core.Path.{_≡_};
+ghost use mathlib.Core.Bool.{true, false, not};
+ghost use Prim.Native.Nat.{_<_};
+ghost use lib.ListN.{getD, set};
+ghost use Rattle.meaning.specs.Refusals.{refusal};
+ghost use Rattle.meaning.specs.Tables.{rows6310, table, rowLabel};
+ghost use Rattle.meaning.specs.Answers.{noRefusal};
+ghost use Rattle.lacks.specs.Lacks.{rowCount, noFlags, flagged, valued, lack8437, lack8410, lack6302, lackName, lackUnder, lackAll, basicLabels, patientLabels, testLabels, groupLack, firstLack, setLack, finish, stateOf};
+use meaning::Refusal;
+use meaning::SetType;
+use tables::Found;
+
+// The rows of the longest table.
+pub const ROWS: usize = 57;
+
+// The numbers of some rows of the 6310 table.
+const ROW_6303: usize = 33;
+
+const ROW_6304: usize = 34;
+
+const ROW_6305: usize = 35;
+
+const ROW_6331: usize = 37;
+
+const ROW_8437: usize = 44;
+
+const ROW_8438: usize = 45;
+
+const ROW_8420: usize = 47;
+
+const ROW_8421: usize = 48;
+
+const ROW_8461: usize = 52;
+
+const ROW_8462: usize = 53;
+
+// The open header or name (0: none), the place of its line, and what the first group that ended with a lack lacks (number 0: none so far).
+pub struct Group {
+    pub header: usize,
+    pub place: usize,
+    pub lack: Refusal,
+}
+
+// No refusal.
+pub fn nothing() -> Refusal
+    ensures { λ r. ⌜ r ≡ noRefusal ⌝ }
+{
+    Refusal {
+        no: 0,
+        place: 0,
+        label: 0,
+    }
+}
+
+// A refusal that carries no label.
+pub fn refused_at(no: usize, place: usize) -> Refusal
+    ensures { λ r. ⌜ r ≡ refusal no place 0 ⌝ }
+{
+    Refusal {
+        no,
+        place,
+        label: 0,
+    }
+}
+
+// ---- which rows were seen
+
+pub fn has(flags: &[bool; ROWS], i: usize) -> bool
+    requires { ⌜ i < rowCount ⌝ }
+    ensures { λ r. ⌜ r ≡ getD (now (flags .entry)) i false ⌝ }
+{
+    flags[i]
+}
+
+pub fn mark(flags: &mut [bool; ROWS], i: usize)
+    requires { ⌜ i < rowCount ⌝ }
+    ensures { λ _. ⌜ now (flags .exit) ≡ set (now (flags .entry)) i true ⌝ }
+{
+    flags[i] = true;
+}
+
+pub fn clear(flags: &mut [bool; ROWS])
+    ensures { λ _. ⌜ now (flags .exit) ≡ noFlags ⌝ }
+{
+    *flags = [false; ROWS];
+}
+
+// ---- 16: what a group and the set lack
+
+fn missing(place: usize, label: usize) -> Refusal
+    ensures { λ r. ⌜ r ≡ refusal 16 place label ⌝ }
+{
+    Refusal {
+        no: Refusal::MISSING,
+        place,
+        label,
+    }
+}
+
+// A group that has a value or a limit.
+fn has_value(members: &[bool; ROWS]) -> bool
+    ensures { λ r. ⌜ r ≡ valued (flagged rows6310 (now (members .entry))) ⌝ }
+{
+    if has(members, ROW_8420) {
+        return true;
+    }
+    if has(members, ROW_8461) {
+        return true;
+    }
+    has(members, ROW_8462)
+}
+
+// An 8410 group: "8437 is required in a group that has 8438", 8421 in one that has a value or a limit.
+fn lack_8410(members: &[bool; ROWS], place: usize) -> Refusal
+    ensures { λ r. ⌜ r ≡ lack8410 (flagged rows6310 (now (members .entry))) place ⌝ }
+{
+    if has_value(members) {
+        if has(members, ROW_8421) {
+            return lack_8437(members, place);
+        }
+        return missing(place, 8421);
+    }
+    lack_8437(members, place)
+}
+
+fn lack_8437(members: &[bool; ROWS], place: usize) -> Refusal
+    ensures { λ r. ⌜ r ≡ lack8437 (flagged rows6310 (now (members .entry))) place ⌝ }
+{
+    if has(members, ROW_8438) {
+        if has(members, ROW_8437) {
+            return nothing();
+        }
+        return missing(place, 8437);
+    }
+    nothing()
+}
+
+// A 6302 group: "6303, 6304 and 6305 are its members, each required once".
+fn lack_6302(members: &[bool; ROWS], place: usize) -> Refusal
+    ensures { λ r. ⌜ r ≡ lack6302 (flagged rows6310 (now (members .entry))) place ⌝ }
+{
+    if has(members, ROW_6303) {
+        if has(members, ROW_6304) {
+            if has(members, ROW_6305) {
+                return nothing();
+            }
+            return missing(place, 6305);
+        }
+        return missing(place, 6304);
+    }
+    missing(place, 6303)
+}
+
+// A name: "the next line must be the label one higher".
+fn lack_name(members: &[bool; ROWS], name: usize, place: usize) -> Refusal
+    requires { ⌜ name < 10000 ⌝ }
+    ensures { λ r. ⌜ r ≡ lackName (flagged rows6310 (now (members .entry))) name place ⌝ }
+{
+    if has(members, ROW_6331) {
+        return nothing();
+    }
+    missing(place, name + 1)
+}
+
+// What the group of a header lacks in a 6310 set.
+fn lack_under(members: &[bool; ROWS], header: usize, place: usize) -> Refusal
+    ensures { λ r. ⌜ r ≡ lackUnder (rowLabel header) (flagged rows6310 (now (members .entry))) header place ⌝ }
+{
+    let row = tables::row_label(header);
+    if row == 8410 {
+        return lack_8410(members, place);
+    }
+    if row == 6302 {
+        return lack_6302(members, place);
+    }
+    if row == 6330 {
+        return lack_name(members, header, place);
+    }
+    nothing()
+}
+
+// What the group of a header lacks: only 6310 has groups.
+fn group_lack(kind: SetType, members: &[bool; ROWS], header: usize, place: usize) -> Refusal
+    ensures { λ r. ⌜ r ≡ groupLack kind (flagged (table kind) (now (members .entry))) header place ⌝ }
+{
+    match kind {
+        SetType::T6310 => lack_under(members, header, place),
+        SetType::T6300 => nothing(),
+        SetType::T6301 => nothing(),
+        SetType::T6302 => nothing(),
+        SetType::T6311 => nothing(),
+    }
+}
+
+// What the first group lacks that lacks something, up to the open one, which ends here.
+pub fn first_lack(kind: SetType, group: Group, members: &[bool; ROWS]) -> Refusal
+    ensures { λ r. ⌜ r ≡ firstLack kind (group .header) (group .place) (now (members .entry)) (group .lack) ⌝ }
+{
+    let lack = group.lack;
+    if lack.no != 0 {
+        return lack;
+    }
+    if group.header == 0 {
+        return nothing();
+    }
+    group_lack(kind, members, group.header, group.place)
+}
+
+// A required label that does not stand at set level.
+fn lacks_label(kind: SetType, top: &[bool; ROWS], label: usize) -> bool
+    requires { ⌜ rowLabel label ≡ label ⌝ }
+    ensures { λ r. ⌜ r ≡ not (flagged (table kind) (now (top .entry)) label) ⌝ }
+{
+    match tables::find_row(kind, label) {
+        Found::At(i, _) => !has(top, i),
+        Found::Nothing => true,
+    }
+}
+
+// "Required at set level: 8000, 8100, 9218, 3000 in all"
+fn lack_basic(kind: SetType, top: &[bool; ROWS]) -> Refusal
+    ensures { λ r. ⌜ r ≡ lackAll (flagged (table kind) (now (top .entry))) basicLabels ⌝ }
+{
+    if lacks_label(kind, top, 3000) {
+        return missing(0, 3000);
+    }
+    if lacks_label(kind, top, 8000) {
+        return missing(0, 8000);
+    }
+    if lacks_label(kind, top, 8100) {
+        return missing(0, 8100);
+    }
+    if lacks_label(kind, top, 9218) {
+        return missing(0, 9218);
+    }
+    nothing()
+}
+
+// "3101, 3102, 3103 also in 6301 and 6302"
+fn lack_patient(kind: SetType, top: &[bool; ROWS]) -> Refusal
+    ensures { λ r. ⌜ r ≡ lackAll (flagged (table kind) (now (top .entry))) patientLabels ⌝ }
+{
+    if lacks_label(kind, top, 3000) {
+        return missing(0, 3000);
+    }
+    if lacks_label(kind, top, 3101) {
+        return missing(0, 3101);
+    }
+    if lacks_label(kind, top, 3102) {
+        return missing(0, 3102);
+    }
+    if lacks_label(kind, top, 3103) {
+        return missing(0, 3103);
+    }
+    lack_basic(kind, top)
+}
+
+// "8402 also in 6310"
+fn lack_test(kind: SetType, top: &[bool; ROWS]) -> Refusal
+    ensures { λ r. ⌜ r ≡ lackAll (flagged (table kind) (now (top .entry))) testLabels ⌝ }
+{
+    if lacks_label(kind, top, 3000) {
+        return missing(0, 3000);
+    }
+    if lacks_label(kind, top, 8000) {
+        return missing(0, 8000);
+    }
+    if lacks_label(kind, top, 8100) {
+        return missing(0, 8100);
+    }
+    if lacks_label(kind, top, 8402) {
+        return missing(0, 8402);
+    }
+    if lacks_label(kind, top, 9218) {
+        return missing(0, 9218);
+    }
+    nothing()
+}
+
+// What the set lacks at set level, lowest label first.
+fn set_lack(kind: SetType, top: &[bool; ROWS]) -> Refusal
+    ensures { λ r. ⌜ r ≡ setLack kind (now (top .entry)) ⌝ }
+{
+    match kind {
+        SetType::T6300 => lack_basic(kind, top),
+        SetType::T6301 => lack_patient(kind, top),
+        SetType::T6302 => lack_patient(kind, top),
+        SetType::T6310 => lack_test(kind, top),
+        SetType::T6311 => lack_basic(kind, top),
+    }
+}
+
+// 16 behind the last line: "set level before groups and pairs in order".
+pub fn finish_at(kind: SetType, group: Group, members: &[bool; ROWS], top: &[bool; ROWS]) -> Refusal
+    ensures { λ r. ⌜ r ≡ finish kind (stateOf group (now (members .entry)) (now (top .entry))) (group .lack) ⌝ }
+{
+    let lack = set_lack(kind, top);
+    if lack.no != 0 {
+        return lack;
+    }
+    first_lack(kind, group, members)
+}

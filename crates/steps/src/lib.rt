@@ -1,0 +1,186 @@
+// One line's step: 11 to 15 of the line, and what is open behind it.
+// Assumes nothing: `step_at` has no `requires`. Each contract cites a walk of specs/, and proofs/SameLaws says what the walks mean.
+ghost use mathlib.Core.Path.{_≡_};
+ghost use mathlib.Core.Bool.{true, cond};
+ghost use Prim.Native.Nat.{_<_};
+ghost use lib.ListN.{set};
+ghost use Rattle.meaning.specs.Tables.{isPairLabel};
+ghost use Rattle.meaning.specs.Groups.{belongs};
+ghost use Rattle.lacks.specs.Lacks.{rowCount, noFlags, stateOf};
+ghost use Rattle.steps.specs.Steps.{rowOf, againNo, placeNo, versionNo, contentNo, openedGroup, joinedGroup, Stepped};
+use lacks::Group;
+use lacks::ROWS;
+use meaning::Refusal;
+use meaning::Row;
+use meaning::SetType;
+use tables::Found;
+
+// A line's refusal by its number (0: none), and what is open behind it.
+pub struct Step {
+    pub no: usize,
+    pub group: Group,
+}
+
+// ---- 11 to 15 of one line
+
+// 13, Repeated: "single label again in the set or its group".
+fn again_no(many: bool, seen: bool) -> usize
+    ensures { λ r. ⌜ r ≡ againNo many seen ⌝ }
+{
+    if many {
+        return 0;
+    }
+    if seen {
+        return Refusal::REPEATED;
+    }
+    0
+}
+
+// The row's label belongs to the open header: an odd label right behind its name, any other member under the header that its row names.
+pub fn belongs_to(row: Row, header: usize, label: usize) -> bool
+    ensures { λ r. ⌜ r ≡ belongs row header label ⌝ }
+{
+    if row.under != 6330 {
+        return row.under as usize == header;
+    }
+    if label < 1 {
+        return false;
+    }
+    header == label - 1
+}
+
+// 12 and 13 of a line whose row has this number, or 0.
+fn place_no(
+    i: usize,
+    row: Row,
+    header: usize,
+    members: &[bool; ROWS],
+    top: &[bool; ROWS],
+    label: usize,
+) -> usize
+    requires { ⌜ i < rowCount ⌝ }
+    ensures { λ r. ⌜ r ≡ placeNo i row header (now (members .entry)) (now (top .entry)) label ⌝ }
+{
+    if row.under == 0 {
+        return again_no(row.many, lacks::has(top, i));
+    }
+    if belongs_to(row, header, label) {
+        return again_no(row.many, lacks::has(members, i));
+    }
+    Refusal::STRAY
+}
+
+// 15, OtherVersion, of a content that fits, or 0.
+fn version_no(label: usize, content: &[u8]) -> usize
+    ensures { λ r. ⌜ r ≡ versionNo label (now (content .entry)) ⌝ }
+{
+    if label != 9218 {
+        return 0;
+    }
+    if kinds::is_0210(content) {
+        return 0;
+    }
+    Refusal::OTHER_VERSION
+}
+
+// 14, BadContent, and 15, or 0.
+fn content_no(label: usize, content: &[u8]) -> usize
+    ensures { λ r. ⌜ r ≡ contentNo label (now (content .entry)) ⌝ }
+{
+    if kinds::fits_label(label, content) {
+        return version_no(label, content);
+    }
+    Refusal::BAD_CONTENT
+}
+
+// ---- one line's step
+
+// A line that is refused by this number: nothing moves.
+fn refused_step(no: usize, group: Group) -> Step
+    ensures { λ r. ⌜ (r .no ≡ no) ⌝ }
+{
+    Step { no, group }
+}
+
+// The open header behind a member: "an odd label 6331 to 6399 stands nowhere else", so nothing follows it in its pair.
+pub fn header_after(label: usize, header: usize) -> usize
+    ensures { λ r. ⌜ r ≡ cond (isPairLabel label) 0 header ⌝ }
+{
+    if label < 6330 {
+        return header;
+    }
+    if 6399 < label {
+        return header;
+    }
+    0
+}
+
+// What is open behind a set-level line with row number i: its own group, with no member yet. The group before it ends.
+fn opened(
+    kind: SetType,
+    at: usize,
+    label: usize,
+    i: usize,
+    group: Group,
+    members: &mut [bool; ROWS],
+    top: &mut [bool; ROWS],
+) -> Group
+    requires { ⌜ i < rowCount ⌝ }
+    ensures { λ r. ⌜ (r ≡ openedGroup kind at label group (now (members .entry))) × (now (members .exit) ≡ noFlags) × (now (top .exit) ≡ set (now (top .entry)) i true) ⌝ }
+{
+    let lack = lacks::first_lack(kind, group, members);
+    lacks::mark(top, i);
+    lacks::clear(members);
+    Group {
+        header: label,
+        place: at,
+        lack,
+    }
+}
+
+// What is open behind a member with row number i.
+fn joined(label: usize, i: usize, group: Group, members: &mut [bool; ROWS]) -> Group
+    requires { ⌜ i < rowCount ⌝ }
+    ensures { λ r. ⌜ (r ≡ joinedGroup label group) × (now (members .exit) ≡ set (now (members .entry)) i true) ⌝ }
+{
+    lacks::mark(members, i);
+    let header = header_after(label, group.header);
+    let lack = group.lack;
+    Group {
+        header,
+        place: group.place,
+        lack,
+    }
+}
+
+// One line: 11, 12, 13, 14, 15; else what is then open, and the flags.
+pub fn step_at(
+    kind: SetType,
+    at: usize,
+    label: usize,
+    content: &[u8],
+    group: Group,
+    members: &mut [bool; ROWS],
+    top: &mut [bool; ROWS],
+) -> Step
+    ensures { λ r. ⌜ Stepped (rowOf kind label) kind (stateOf group (now (members .entry)) (now (top .entry))) (group .lack) at label (now (content .entry)) r (now (members .exit)) (now (top .exit)) ⌝ }
+{
+    let found = tables::find_row(kind, label);
+    let Found::At(i, row) = found else {
+        return refused_step(Refusal::NOT_IN_SET, group);
+    };
+    let misplaced = place_no(i, row, group.header, members, top, label);
+    if misplaced != 0 {
+        return refused_step(misplaced, group);
+    }
+    let unfit = content_no(label, content);
+    if unfit != 0 {
+        return refused_step(unfit, group);
+    }
+    if row.under == 0 {
+        let group = opened(kind, at, label, i, group, members, top);
+        return Step { no: 0, group };
+    }
+    let group = joined(label, i, group, members);
+    Step { no: 0, group }
+}
