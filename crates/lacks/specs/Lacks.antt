@@ -86,11 +86,15 @@ unfoldable pub lackAll : (ℕ → Bool) → List ℕ → Refusal
 lackAll has [] = noRefusal
 lackAll has (l ∷ ls) = let rest = lackAll has ls in cond (has l) rest (lackHere 0 l)
 
+-- those that have the same rows in every table
+abbrev pub fixedLabels : List ℕ
+fixedLabels = 8000 ∷ 8100 ∷ 9218 ∷ []
+
 abbrev pub basicLabels : List ℕ
-basicLabels = 3000 ∷ 8000 ∷ 8100 ∷ 9218 ∷ []
+basicLabels = 3000 ∷ fixedLabels
 
 abbrev pub patientLabels : List ℕ
-patientLabels = 3000 ∷ 3101 ∷ 3102 ∷ 3103 ∷ 8000 ∷ 8100 ∷ 9218 ∷ []
+patientLabels = 3000 ∷ 3101 ∷ 3102 ∷ 3103 ∷ fixedLabels
 
 abbrev pub testLabels : List ℕ
 testLabels = 3000 ∷ 8000 ∷ 8100 ∷ 8402 ∷ 9218 ∷ []

@@ -1,21 +1,22 @@
 // Which rows were seen, as flags by row number, and rule 16: what a group and the set lack.
 // Assumes nothing: `finish_at` has no `requires`. Each contract cites a walk of specs/, and proofs/LackLaws says what the walks mean.
 ghost use mathlib.Core.Path.{_≡_};
-ghost use mathlib.Core.Bool.{true, false, not};
+ghost use mathlib.Core.Bool.{true, false};
 ghost use Prim.Native.Nat.{_<_};
 ghost use lib.ListN.{getD, set};
 ghost use Rattle.meaning.specs.Refusals.{refusal};
-ghost use Rattle.meaning.specs.Tables.{rows6310, table, rowLabel};
+ghost use Rattle.meaning.specs.Tables.{rows6300, rows6301, rows6302, rows6310, table, rowLabel};
 ghost use Rattle.meaning.specs.Answers.{noRefusal};
-ghost use Rattle.lacks.specs.Lacks.{rowCount, noFlags, flagged, valued, lack8437, lack8410, lack6302, lackName, lackUnder, lackAll, basicLabels, patientLabels, testLabels, groupLack, firstLack, setLack, finish, stateOf};
+ghost use Rattle.lacks.specs.Lacks.{rowCount, noFlags, flagged, valued, lack8437, lack8410, lack6302, lackName, lackUnder, lackAll, fixedLabels, basicLabels, patientLabels, testLabels, groupLack, firstLack, setLack, finish, stateOf};
 use meaning::Refusal;
 use meaning::SetType;
-use tables::Found;
 
 // The rows of the longest table.
 pub const ROWS: usize = 57;
 
 // The numbers of some rows of the 6310 table.
+const ROW_8402: usize = 23;
+
 const ROW_6303: usize = 33;
 
 const ROW_6304: usize = 34;
@@ -35,6 +36,30 @@ const ROW_8421: usize = 48;
 const ROW_8461: usize = 52;
 
 const ROW_8462: usize = 53;
+
+// The numbers of the rows of required labels: these in every table.
+const ROW_8000: usize = 0;
+
+const ROW_8100: usize = 1;
+
+const ROW_9218: usize = 5;
+
+// 3000 in the tables of 6300, 6301 and 6311, then in those of 6302 and 6310.
+const ROW_3000: usize = 6;
+
+const LATER_3000: usize = 9;
+
+const ROW_3101_OF_6301: usize = 8;
+
+const ROW_3102_OF_6301: usize = 9;
+
+const ROW_3103_OF_6301: usize = 10;
+
+const ROW_3101_OF_6302: usize = 11;
+
+const ROW_3102_OF_6302: usize = 12;
+
+const ROW_3103_OF_6302: usize = 13;
 
 // The open header or name (0: none), the place of its line, and what the first group that ended with a lack lacks (number 0: none so far).
 pub struct Group {
@@ -208,72 +233,87 @@ pub fn first_lack(kind: SetType, group: Group, members: &[bool; ROWS]) -> Refusa
     group_lack(kind, members, group.header, group.place)
 }
 
-// A required label that does not stand at set level.
-fn lacks_label(kind: SetType, top: &[bool; ROWS], label: usize) -> bool
-    requires { ⌜ rowLabel label ≡ label ⌝ }
-    ensures { λ r. ⌜ r ≡ not (flagged (table kind) (now (top .entry)) label) ⌝ }
+// "Required at set level: 8000, 8100, 9218, 3000 in all": the first three.
+fn lack_fixed(top: &[bool; ROWS]) -> Refusal
+    ensures { λ r. ⌜ r ≡ lackAll (flagged rows6300 (now (top .entry))) fixedLabels ⌝ }
 {
-    match tables::find_row(kind, label) {
-        Found::At(i, _) => !has(top, i),
-        Found::Nothing => true,
-    }
-}
-
-// "Required at set level: 8000, 8100, 9218, 3000 in all"
-fn lack_basic(kind: SetType, top: &[bool; ROWS]) -> Refusal
-    ensures { λ r. ⌜ r ≡ lackAll (flagged (table kind) (now (top .entry))) basicLabels ⌝ }
-{
-    if lacks_label(kind, top, 3000) {
-        return missing(0, 3000);
-    }
-    if lacks_label(kind, top, 8000) {
+    if !has(top, ROW_8000) {
         return missing(0, 8000);
     }
-    if lacks_label(kind, top, 8100) {
+    if !has(top, ROW_8100) {
         return missing(0, 8100);
     }
-    if lacks_label(kind, top, 9218) {
+    if !has(top, ROW_9218) {
         return missing(0, 9218);
     }
     nothing()
 }
 
-// "3101, 3102, 3103 also in 6301 and 6302"
-fn lack_patient(kind: SetType, top: &[bool; ROWS]) -> Refusal
-    ensures { λ r. ⌜ r ≡ lackAll (flagged (table kind) (now (top .entry))) patientLabels ⌝ }
+// What a 6300 or a 6311 set lacks.
+fn lack_basic(top: &[bool; ROWS]) -> Refusal
+    ensures { λ r. ⌜ r ≡ lackAll (flagged rows6300 (now (top .entry))) basicLabels ⌝ }
 {
-    if lacks_label(kind, top, 3000) {
+    if !has(top, ROW_3000) {
         return missing(0, 3000);
     }
-    if lacks_label(kind, top, 3101) {
-        return missing(0, 3101);
-    }
-    if lacks_label(kind, top, 3102) {
-        return missing(0, 3102);
-    }
-    if lacks_label(kind, top, 3103) {
-        return missing(0, 3103);
-    }
-    lack_basic(kind, top)
+    lack_fixed(top)
 }
 
-// "8402 also in 6310"
-fn lack_test(kind: SetType, top: &[bool; ROWS]) -> Refusal
-    ensures { λ r. ⌜ r ≡ lackAll (flagged (table kind) (now (top .entry))) testLabels ⌝ }
+// What a 6301 set lacks: "3101, 3102, 3103 also in 6301 and 6302".
+fn lack_in_6301(top: &[bool; ROWS]) -> Refusal
+    ensures { λ r. ⌜ r ≡ lackAll (flagged rows6301 (now (top .entry))) patientLabels ⌝ }
 {
-    if lacks_label(kind, top, 3000) {
+    if !has(top, ROW_3000) {
         return missing(0, 3000);
     }
-    if lacks_label(kind, top, 8000) {
+    if !has(top, ROW_3101_OF_6301) {
+        return missing(0, 3101);
+    }
+    if !has(top, ROW_3102_OF_6301) {
+        return missing(0, 3102);
+    }
+    if !has(top, ROW_3103_OF_6301) {
+        return missing(0, 3103);
+    }
+    lack_fixed(top)
+}
+
+// What a 6302 set lacks.
+fn lack_in_6302(top: &[bool; ROWS]) -> Refusal
+    ensures { λ r. ⌜ r ≡ lackAll (flagged rows6302 (now (top .entry))) patientLabels ⌝ }
+{
+    if !has(top, LATER_3000) {
+        return missing(0, 3000);
+    }
+    if !has(top, ROW_3101_OF_6302) {
+        return missing(0, 3101);
+    }
+    if !has(top, ROW_3102_OF_6302) {
+        return missing(0, 3102);
+    }
+    if !has(top, ROW_3103_OF_6302) {
+        return missing(0, 3103);
+    }
+    lack_fixed(top)
+}
+
+// What a 6310 set lacks: "8402 also in 6310".
+fn lack_in_6310(top: &[bool; ROWS]) -> Refusal
+    ensures { λ r. ⌜ r ≡ lackAll (flagged rows6310 (now (top .entry))) testLabels ⌝ }
+{
+    if !has(top, LATER_3000) {
+        return missing(0, 3000);
+    }
+    if !has(top, ROW_8000) {
         return missing(0, 8000);
     }
-    if lacks_label(kind, top, 8100) {
+    if !has(top, ROW_8100) {
         return missing(0, 8100);
     }
-    if lacks_label(kind, top, 8402) {
+    if !has(top, ROW_8402) {
         return missing(0, 8402);
     }
-    if lacks_label(kind, top, 9218) {
+    if !has(top, ROW_9218) {
         return missing(0, 9218);
     }
     nothing()
@@ -284,11 +324,11 @@ fn set_lack(kind: SetType, top: &[bool; ROWS]) -> Refusal
     ensures { λ r. ⌜ r ≡ setLack kind (now (top .entry)) ⌝ }
 {
     match kind {
-        SetType::T6300 => lack_basic(kind, top),
-        SetType::T6301 => lack_patient(kind, top),
-        SetType::T6302 => lack_patient(kind, top),
-        SetType::T6310 => lack_test(kind, top),
-        SetType::T6311 => lack_basic(kind, top),
+        SetType::T6300 => lack_basic(top),
+        SetType::T6301 => lack_in_6301(top),
+        SetType::T6302 => lack_in_6302(top),
+        SetType::T6310 => lack_in_6310(top),
+        SetType::T6311 => lack_basic(top),
     }
 }
 

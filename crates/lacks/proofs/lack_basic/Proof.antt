@@ -1,112 +1,31 @@
--- `lack_basic` asks for the required labels one by one: c1 to c4 are what is known behind each test.
+-- `lack_basic` asks for 3000, then for the labels that stand in the same rows of every table.
 -- Assumes nothing.
-use mathlib.Core.Path.{refl, sym, _∙_}
+use mathlib.Core.Path.{_∙_}
 use borrow.Author.Needs.{needs}
-use Rattle.meaning.specs.Tables.{rowLabel}
-use Rattle.lacks.proofs.Laws.{lack-this, lack-next, lack-none}
+use Rattle.meaning.specs.Tables.{rows6300}
+use Rattle.tables.specs.LookUp.{findFrom}
+use Rattle.lacks.specs.Lacks.{flagged}
+use Rattle.lacks.proofs.Laws.{lack-this, lack-next}
 use Rattle.lacks.proofs.lack_basic.Statement.{statement}
 use Rattle.lacks.proofs.lack_basic.Tie as tie
 
-lacks-label-requires : tie.Need-lacks-label-requires
-unfolding rowLabel
-lacks-label-requires c κs = refl
+has-requires : tie.Need-has-requires
+has-requires c κs = search needs
 
 missing-requires : tie.Need-missing-requires
 missing-requires c κs = search needs
 
 returns : tie.Need-returns
-returns c =
-    let c1 = c .before in
-    c .missing .ensures
-    ∙ sym
-    (lack-this _ _ _ (c1 .before .lacks-label .ensures) (c1 .if1 .taken))
+unfolding flagged findFrom rows6300
+returns c = c .missing .ensures ∙ lack-this _ _ _ (c .before .before .has .ensures) (c .before .if1 .taken)
 
-lacks-label-requires-2 : tie.Need-lacks-label-requires-2
-unfolding rowLabel
-lacks-label-requires-2 c κs = refl
-
-missing-requires-2 : tie.Need-missing-requires-2
-missing-requires-2 c κs = search needs
+lack-fixed-requires : tie.Need-lack-fixed-requires
+lack-fixed-requires c κs = search needs
 
 returns-2 : tie.Need-returns-2
-returns-2 c =
-    let c2 = c .before in
-    let c1 = c2 .before .before in
-    c .missing2 .ensures
-    ∙ sym
-    (lack-next _ _ _ (c1 .before .lacks-label .ensures) (c1 .if1 .left)
-    ∙ lack-this _ _ _ (c2 .before .lacks-label2 .ensures) (c2 .if2 .taken))
-
-lacks-label-requires-3 : tie.Need-lacks-label-requires-3
-unfolding rowLabel
-lacks-label-requires-3 c κs = refl
-
-missing-requires-3 : tie.Need-missing-requires-3
-missing-requires-3 c κs = search needs
-
-returns-3 : tie.Need-returns-3
-returns-3 c =
-    let c3 = c .before in
-    let c2 = c3 .before .before in
-    let c1 = c2 .before .before in
-    c .missing3 .ensures
-    ∙ sym
-    (lack-next _ _ _ (c1 .before .lacks-label .ensures) (c1 .if1 .left)
-    ∙ (lack-next _ _ _ (c2 .before .lacks-label2 .ensures) (c2 .if2 .left)
-    ∙ lack-this _ _ _ (c3 .before .lacks-label3 .ensures) (c3 .if3 .taken)))
-
-lacks-label-requires-4 : tie.Need-lacks-label-requires-4
-unfolding rowLabel
-lacks-label-requires-4 c κs = refl
-
-missing-requires-4 : tie.Need-missing-requires-4
-missing-requires-4 c κs = search needs
-
-returns-4 : tie.Need-returns-4
-returns-4 c =
-    let c4 = c .before in
-    let c3 = c4 .before .before in
-    let c2 = c3 .before .before in
-    let c1 = c2 .before .before in
-    c .missing4 .ensures
-    ∙ sym
-    (lack-next _ _ _ (c1 .before .lacks-label .ensures) (c1 .if1 .left)
-    ∙ (lack-next _ _ _ (c2 .before .lacks-label2 .ensures) (c2 .if2 .left)
-    ∙ (lack-next _ _ _ (c3 .before .lacks-label3 .ensures) (c3 .if3 .left)
-    ∙ lack-this _ _ _ (c4 .before .lacks-label4 .ensures) (c4 .if4 .taken))))
-
-nothing-requires : tie.Need-nothing-requires
-nothing-requires c κs = search needs
-
-returns-5 : tie.Need-returns-5
-returns-5 c =
-    let c4 = c .before in
-    let c3 = c4 .before .before in
-    let c2 = c3 .before .before in
-    let c1 = c2 .before .before in
-    c .nothing .ensures
-    ∙ sym
-    (lack-next _ _ _ (c1 .before .lacks-label .ensures) (c1 .if1 .left)
-    ∙ (lack-next _ _ _ (c2 .before .lacks-label2 .ensures) (c2 .if2 .left)
-    ∙ (lack-next _ _ _ (c3 .before .lacks-label3 .ensures) (c3 .if3 .left)
-    ∙ (lack-next _ _ _ (c4 .before .lacks-label4 .ensures) (c4 .if4 .left)
-    ∙ lack-none _))))
+unfolding flagged findFrom rows6300
+returns-2 c = lack-next _ _ _ (c .before .before .has .ensures) (c .before .if1 .left) _ (c .lack-fixed .ensures)
 
 pub lack-basic-spec : {M : Type 1} → statement M
 lack-basic-spec =
-    tie.close
-    (tie.spec
-    lacks-label-requires
-    missing-requires
-    returns
-    lacks-label-requires-2
-    missing-requires-2
-    returns-2
-    lacks-label-requires-3
-    missing-requires-3
-    returns-3
-    lacks-label-requires-4
-    missing-requires-4
-    returns-4
-    nothing-requires
-    returns-5)
+    tie.close (tie.spec has-requires missing-requires returns lack-fixed-requires returns-2)
