@@ -2,7 +2,7 @@
 -- Assumes nothing. The code goes by offsets and the definitions by lists, so most laws speak of what is left from an offset on.
 use mathlib.Core.Path.{_≡_, refl}
 use mathlib.Core.Bool.{Bool, true, false}
-use mathlib.Core.List.{List, [], _∷_, map}
+use mathlib.Core.List.{List, [], _∷_}
 use Prim.Native.Nat.{ℕ, _+_, _-_, _≤_, _<_}
 use native.Mathlib.Numerals.{add-one}
 use native.Mathlib.Omega.{arith}
@@ -13,24 +13,26 @@ use borrow.Author.Tests.{eq-eqb, ne-eqb, leb-true}
 use Rattle.meaning.specs.declared.FieldRow.{FieldRow}
 use Rattle.meaning.specs.Digits.{digit, allDigits}
 use Rattle.meaning.specs.Kinds.{point, minus, decimals, whole, unsigned, isFloat, noNumber, twoAt, sameBytes}
-use Rattle.meaning.specs.FieldTable.{fieldRowIn, noRow}
+use Rattle.meaning.specs.Tables.{rowLabel}
+use Rattle.meaning.specs.FieldTable.{fieldTable, fieldRowIn, fieldRow, hasLength, fitsRow, fitsLabel}
 use Rattle.meaning.proofs.Bools.{and-left, and-right, and-no}
-use Rattle.tables.proofs.Laws.{NoneOf, none-beside}
+use Rattle.fields.specs.Codes.{fieldCode}
+use Rattle.fields.proofs.CodeLaws.{Small, row-small, kind-back, code-least, code-most, code-kind}
 use Rattle.kinds.specs.declared.Float.the-variants.{Is, Not}
 use Rattle.kinds.specs.Floats.{floatIf, floatOf}
+use Rattle.kinds.specs.Fitting.{fitsField}
 
--- ---- the field table
+-- ---- a content and the code of a field row
 
--- the labels of field rows
-abbrev pub labelsOf : List FieldRow → List ℕ
-labelsOf xs = map (λ (x : FieldRow). x .label) xs
+-- a content fits the code of a row where it fits the row
+fits-coded : (x : FieldRow) (c : List ℕ) → Small x → fitsField (fieldCode x) c ≡ fitsRow x c
+unfolding fitsField fitsRow hasLength
+fits-coded x c s = rw (code-least x s, code-most x s, code-kind x s, kind-back (x .kind))
 
--- a label that is none of a table's has no row there
-pub field-none : (A : Type 0) (xs : List FieldRow) (l : ℕ) → NoneOf A l (labelsOf xs) → fieldRowIn xs l ≡ noRow
-unfolding fieldRowIn
-field-none A [] l h = refl
-field-none A (x ∷ xs) l h =
-    rw (ne-eqb l (x .label) (none-beside (A × (l ≡ x .label → ⊥)) l (labelsOf xs) h .1)) (field-none (A × (l ≡ x .label → ⊥)) xs l h)
+-- and so for the row of a label
+pub fits-code : (l : ℕ) (c : List ℕ) → fitsField (fieldCode (fieldRow l)) c ≡ fitsLabel l c
+unfolding fitsLabel fieldRow
+fits-code l c = fits-coded (fieldRowIn fieldTable (rowLabel l)) c (row-small (rowLabel l))
 
 -- ---- digits
 

@@ -1,14 +1,14 @@
-// The field table, a test for each content kind, and whether a content fits its label.
+// A test for each content kind, and whether a content fits a row of the field table.
 // Assumes nothing; no function here asks anything of its caller, and each says in its contract which definition of the meaning it equals.
 ghost use mathlib.Core.Path.{_≡_};
 ghost use mathlib.Core.List.{[], _∷_};
 ghost use lib.ListN.{drop, getD};
 ghost use Rattle.meaning.specs.Digits.{digit, allDigits};
 ghost use Rattle.meaning.specs.Kinds.{isNum, decimals, whole, unsigned, isFloat, twoAt, isRule020, isRule008, isRule090, isRule112, isRule116, isCharset, isVersion, sameBytes, is0210, ofKind};
-ghost use Rattle.meaning.specs.FieldTable.{row, exactly, upTo, fieldTable, fieldRowIn, fieldRow, fitsLabel};
+ghost use Rattle.meaning.specs.FieldTable.{fitsLabel};
+ghost use Rattle.fields.specs.Codes.{kindOf};
+ghost use Rattle.kinds.specs.Fitting.{fitsField};
 ghost use Rattle.kinds.specs.Floats.{floatIf, floatOf};
-use meaning::FieldRow;
-use meaning::Kind;
 
 // The bytes that the tests name.
 const DIGIT_ZERO: u8 = b'0';
@@ -22,117 +22,12 @@ const POINT: u8 = b'.';
 // What two bytes that are not both digits count as: over every bound below.
 const NO_NUMBER: u8 = 100;
 
-// "var" is taken as 1 to 60.
-const VAR: usize = 60;
-
 // What the float test answers.
 pub enum Float {
     // The content is a decimal number.
     Is,
     // It is none.
     Not,
-}
-
-// A row of the field table: "8" means exactly.
-fn exactly(label: usize, bytes: usize, kind: Kind) -> FieldRow
-    ensures { λ r. ⌜ r ≡ row label (exactly bytes) kind ⌝ }
-{
-    FieldRow {
-        label,
-        least: bytes,
-        most: bytes,
-        kind,
-    }
-}
-
-// A row of the field table: "<=60" means 1 to 60.
-fn up_to(label: usize, bytes: usize, kind: Kind) -> FieldRow
-    ensures { λ r. ⌜ r ≡ row label (upTo bytes) kind ⌝ }
-{
-    FieldRow {
-        label,
-        least: 1,
-        most: bytes,
-        kind,
-    }
-}
-
-// The row of a row label in the field table; no length fits a label that has no row.
-fn field_row_of(want: usize) -> FieldRow
-    ensures { λ r. ⌜ r ≡ fieldRowIn fieldTable want ⌝ }
-{
-    match want {
-        102 => up_to(102, 60, Kind::Alnum),
-        103 => up_to(103, 60, Kind::Alnum),
-        132 => up_to(132, 60, Kind::Alnum),
-        3000 => up_to(3000, 10, Kind::Alnum),
-        3100 => up_to(3100, 15, Kind::Alnum),
-        3101 => up_to(3101, 28, Kind::Alnum),
-        3102 => up_to(3102, 28, Kind::Alnum),
-        3103 => exactly(3103, 8, Kind::Rule020),
-        3104 => up_to(3104, 15, Kind::Alnum),
-        3105 => up_to(3105, 12, Kind::Alnum),
-        3106 => up_to(3106, 30, Kind::Alnum),
-        3107 => up_to(3107, 28, Kind::Alnum),
-        3108 => exactly(3108, 1, Kind::Rule116),
-        3110 => exactly(3110, 1, Kind::Rule112),
-        3622 => up_to(3622, VAR, Kind::Float),
-        3623 => up_to(3623, VAR, Kind::Float),
-        3628 => up_to(3628, 60, Kind::Alnum),
-        6200 => exactly(6200, 8, Kind::Rule008),
-        6201 => exactly(6201, 6, Kind::Rule090),
-        6205 => up_to(6205, 60, Kind::Alnum),
-        6220 => up_to(6220, 60, Kind::Alnum),
-        6221 => up_to(6221, 60, Kind::Alnum),
-        6226 => up_to(6226, 4, Kind::Num),
-        6227 => up_to(6227, 60, Kind::Alnum),
-        6228 => up_to(6228, 60, Kind::Alnum),
-        6302 => up_to(6302, 60, Kind::Alnum),
-        6303 => up_to(6303, 60, Kind::Alnum),
-        6304 => up_to(6304, 60, Kind::Alnum),
-        6305 => up_to(6305, 60, Kind::Alnum),
-        6330 => up_to(6330, 60, Kind::Alnum),
-        6331 => up_to(6331, 60, Kind::Alnum),
-        8000 => exactly(8000, 4, Kind::Alnum),
-        8100 => exactly(8100, 5, Kind::Num),
-        8315 => exactly(8315, 8, Kind::Alnum),
-        8316 => exactly(8316, 8, Kind::Alnum),
-        8402 => up_to(8402, 6, Kind::Alnum),
-        8410 => up_to(8410, 20, Kind::Alnum),
-        8411 => up_to(8411, 60, Kind::Alnum),
-        8418 => exactly(8418, 1, Kind::Alnum),
-        8420 => up_to(8420, VAR, Kind::Float),
-        8421 => up_to(8421, 60, Kind::Alnum),
-        8428 => up_to(8428, 8, Kind::Alnum),
-        8429 => exactly(8429, 2, Kind::Num),
-        8430 => up_to(8430, 60, Kind::Alnum),
-        8431 => up_to(8431, 60, Kind::Alnum),
-        8432 => exactly(8432, 8, Kind::Rule008),
-        8437 => up_to(8437, 60, Kind::Alnum),
-        8438 => up_to(8438, 60, Kind::Alnum),
-        8439 => exactly(8439, 6, Kind::Rule090),
-        8460 => up_to(8460, 60, Kind::Alnum),
-        8461 => up_to(8461, VAR, Kind::Float),
-        8462 => up_to(8462, VAR, Kind::Float),
-        8470 => up_to(8470, 60, Kind::Alnum),
-        8480 => up_to(8480, 60, Kind::Alnum),
-        8990 => up_to(8990, 60, Kind::Alnum),
-        9206 => exactly(9206, 1, Kind::Charset),
-        9218 => exactly(9218, 5, Kind::Version),
-        _ => FieldRow {
-            label: 0,
-            least: 1,
-            most: 0,
-            kind: Kind::Alnum,
-        },
-    }
-}
-
-// The row of a label in the field table.
-pub fn field_row(label: usize) -> FieldRow
-    ensures { λ r. ⌜ r ≡ fieldRow label ⌝ }
-{
-    field_row_of(tables::row_label(label))
 }
 
 // Byte i of a content, 0 behind its end.
@@ -382,35 +277,40 @@ pub fn is_0210(c: &[u8]) -> bool
     same_bytes(c, b"02.10")
 }
 
-// The test of a kind.
-fn of_kind(kind: Kind, c: &[u8]) -> bool
-    ensures { λ r. ⌜ r ≡ ofKind kind (now (c .entry)) ⌝ }
+// The test of a kind, by the kind's number.
+fn of_kind(kind: u16, c: &[u8]) -> bool
+    ensures { λ r. ⌜ r ≡ ofKind (kindOf kind) (now (c .entry)) ⌝ }
 {
     match kind {
-        Kind::Alnum => true,
-        Kind::Num => is_num(c),
-        Kind::Float => is_float(c),
-        Kind::Rule020 => is_rule020(c),
-        Kind::Rule008 => is_rule008(c),
-        Kind::Rule090 => is_rule090(c),
-        Kind::Rule112 => is_rule112(c),
-        Kind::Rule116 => is_rule116(c),
-        Kind::Charset => is_charset(c),
-        Kind::Version => is_version(c),
+        fields::ALNUM => true,
+        fields::NUM => is_num(c),
+        fields::FLOAT => is_float(c),
+        fields::RULE020 => is_rule020(c),
+        fields::RULE008 => is_rule008(c),
+        fields::RULE090 => is_rule090(c),
+        fields::RULE112 => is_rule112(c),
+        fields::RULE116 => is_rule116(c),
+        fields::CHARSET => is_charset(c),
+        _ => is_version(c),
     }
 }
 
-// The content has the length and passes the test that the field table asks of the label.
+// The content has the length and passes the test that a row of the field table asks, by the row's code.
+pub fn fits_field(field: u16, content: &[u8]) -> bool
+    ensures { λ r. ⌜ r ≡ fitsField field (now (content .entry)) ⌝ }
+{
+    if content.len() < fields::least_of(field) {
+        return false;
+    }
+    if fields::most_of(field) < content.len() {
+        return false;
+    }
+    of_kind(fields::kind_of(field), content)
+}
+
+// The content fits the label's row.
 pub fn fits_label(label: usize, content: &[u8]) -> bool
     ensures { λ r. ⌜ r ≡ fitsLabel label (now (content .entry)) ⌝ }
 {
-    let x = field_row(label);
-    if content.len() < x.least {
-        return false;
-    }
-    if x.most < content.len() {
-        return false;
-    }
-    let kind = x.kind;
-    of_kind(kind, content)
+    fits_field(fields::field_code(label), content)
 }

@@ -15,9 +15,8 @@ use Rattle.meaning.specs.declared.SetType.{SetType}
 use Rattle.meaning.specs.declared.SetType.the-variants.{T6300, T6301, T6302, T6310, T6311}
 use Rattle.meaning.specs.Tables.{rows6300, rows6301, rows6302, rows6310, rows6311, table, rowLabel, findIn, find}
 use Rattle.meaning.proofs.Bools.{and-left, and-right}
-use Rattle.tables.specs.declared.Found.{Found}
-use Rattle.tables.specs.declared.Found.the-variants.{At, Nothing}
-use Rattle.tables.specs.LookUp.{findFrom, justRow}
+use Rattle.fields.proofs.Arms.{NoneOf, none-beside}
+use Rattle.tables.specs.LookUp.{Found, At, Nothing, findFrom, justRow}
 
 -- ---- the look-up with the number is the meaning's, without it
 
@@ -36,17 +35,7 @@ pub find-is : (rs : List Row) (l : ℕ) → find rs l ≡ justRow (findFrom rs (
 unfolding find
 find-is rs l = find-in-is rs (rowLabel l) 0
 
--- ---- the last arm of a `match` on a label
-
--- what that arm knows, beside A: the label is none of those of the arms before it
-abbrev pub NoneOf : Type 0 → ℕ → List ℕ → Type 0
-NoneOf A l [] = A
-NoneOf A l (k ∷ ks) = NoneOf (A × (l ≡ k → ⊥)) l ks
-
--- A itself
-pub none-beside : (A : Type 0) (l : ℕ) (ks : List ℕ) → NoneOf A l ks → A
-none-beside A l [] h = h
-none-beside A l (k ∷ ks) h = none-beside (A × (l ≡ k → ⊥)) l ks h .0
+-- ---- a label that is not in the table
 
 -- the labels of rows
 abbrev pub labelsOf : List Row → List ℕ

@@ -1,3 +1,4 @@
 -- The definitions that the contracts of this crate cite beside the meaning.
 -- Assumes nothing.
 pub mod LookUp
+pub mod Codes

@@ -6,8 +6,11 @@ use mathlib.Core.Option.{Option, none, some}
 use Prim.Native.Nat.{ℕ, _+_}
 use lib.Dec.{eqb}
 use Rattle.meaning.specs.declared.Row.{Row}
-use Rattle.tables.specs.declared.Found.{Found}
-use Rattle.tables.specs.declared.Found.the-variants.{At, Nothing}
+
+-- what looking a label up finds: how many rows stand before the label's row, and the row; or the label is not in the set's table
+pub data Found : Type 0 where
+  At : ℕ → Row → Found
+  Nothing : Found
 
 -- the first row of a label with its number, where the first row's number is i
 unfoldable pub findFrom : List Row → ℕ → ℕ → Found

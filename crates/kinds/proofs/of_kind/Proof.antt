@@ -1,129 +1,92 @@
--- `of_kind` is the test that `ofKind` names.
+-- `of_kind` is the test that `ofKind` names: an arm knows the kind's number, the last arm that it is none of the nine.
 -- Assumes nothing.
+use mathlib.Core.Path.{sym, ap}
 use borrow.Author.Needs.{needs}
 use Rattle.meaning.specs.Kinds.{isAlnum, ofKind}
+use Rattle.fields.specs.Codes.{kindOf}
+use Rattle.fields.proofs.CodeLaws.{kind-last}
 use Rattle.kinds.proofs.of_kind.Statement.{statement}
 use Rattle.kinds.proofs.of_kind.Tie as tie
-
-enum-told : tie.Need-enum-told
-enum-told c = search needs
-
-enum-told-2 : tie.Need-enum-told-2
-enum-told-2 c = search needs
 
 is-num-requires : tie.Need-is-num-requires
 is-num-requires c κs = search needs
 
-enum-told-3 : tie.Need-enum-told-3
-enum-told-3 c = search needs
-
 is-float-requires : tie.Need-is-float-requires
 is-float-requires c κs = search needs
-
-enum-told-4 : tie.Need-enum-told-4
-enum-told-4 c = search needs
 
 is-rule020-requires : tie.Need-is-rule020-requires
 is-rule020-requires c κs = search needs
 
-enum-told-5 : tie.Need-enum-told-5
-enum-told-5 c = search needs
-
 is-rule008-requires : tie.Need-is-rule008-requires
 is-rule008-requires c κs = search needs
-
-enum-told-6 : tie.Need-enum-told-6
-enum-told-6 c = search needs
 
 is-rule090-requires : tie.Need-is-rule090-requires
 is-rule090-requires c κs = search needs
 
-enum-told-7 : tie.Need-enum-told-7
-enum-told-7 c = search needs
-
 is-rule112-requires : tie.Need-is-rule112-requires
 is-rule112-requires c κs = search needs
-
-enum-told-8 : tie.Need-enum-told-8
-enum-told-8 c = search needs
 
 is-rule116-requires : tie.Need-is-rule116-requires
 is-rule116-requires c κs = search needs
 
-enum-told-9 : tie.Need-enum-told-9
-enum-told-9 c = search needs
-
 is-charset-requires : tie.Need-is-charset-requires
 is-charset-requires c κs = search needs
-
-enum-told-10 : tie.Need-enum-told-10
-enum-told-10 c = search needs
 
 is-version-requires : tie.Need-is-version-requires
 is-version-requires c κs = search needs
 
 returns : tie.Need-returns
-unfolding ofKind isAlnum
-returns c = rw (c .enum-told .given .1)
+unfolding ofKind isAlnum kindOf
+returns c = rw (c .match .keys1)
 
 returns-2 : tie.Need-returns-2
-unfolding ofKind
-returns-2 c = rw (c .before .enum-told2 .given .1) (c .is-num .ensures)
+unfolding ofKind kindOf
+returns-2 c = rw (c .before .match .keys2) (c .is-num .ensures)
 
 returns-3 : tie.Need-returns-3
-unfolding ofKind
-returns-3 c = rw (c .before .enum-told3 .given .1) (c .is-float .ensures)
+unfolding ofKind kindOf
+returns-3 c = rw (c .before .match .keys3) (c .is-float .ensures)
 
 returns-4 : tie.Need-returns-4
-unfolding ofKind
-returns-4 c = rw (c .before .enum-told4 .given .1) (c .is-rule020 .ensures)
+unfolding ofKind kindOf
+returns-4 c = rw (c .before .match .keys4) (c .is-rule020 .ensures)
 
 returns-5 : tie.Need-returns-5
-unfolding ofKind
-returns-5 c = rw (c .before .enum-told5 .given .1) (c .is-rule008 .ensures)
+unfolding ofKind kindOf
+returns-5 c = rw (c .before .match .keys5) (c .is-rule008 .ensures)
 
 returns-6 : tie.Need-returns-6
-unfolding ofKind
-returns-6 c = rw (c .before .enum-told6 .given .1) (c .is-rule090 .ensures)
+unfolding ofKind kindOf
+returns-6 c = rw (c .before .match .keys6) (c .is-rule090 .ensures)
 
 returns-7 : tie.Need-returns-7
-unfolding ofKind
-returns-7 c = rw (c .before .enum-told7 .given .1) (c .is-rule112 .ensures)
+unfolding ofKind kindOf
+returns-7 c = rw (c .before .match .keys7) (c .is-rule112 .ensures)
 
 returns-8 : tie.Need-returns-8
-unfolding ofKind
-returns-8 c = rw (c .before .enum-told8 .given .1) (c .is-rule116 .ensures)
+unfolding ofKind kindOf
+returns-8 c = rw (c .before .match .keys8) (c .is-rule116 .ensures)
 
 returns-9 : tie.Need-returns-9
-unfolding ofKind
-returns-9 c = rw (c .before .enum-told9 .given .1) (c .is-charset .ensures)
+unfolding ofKind kindOf
+returns-9 c = rw (c .before .match .keys9) (c .is-charset .ensures)
 
 returns-10 : tie.Need-returns-10
 unfolding ofKind
-returns-10 c = rw (c .before .enum-told10 .given .1) (c .is-version .ensures)
+returns-10 c = rw (kind-last _ _ (c .before .match .rest)) (c .is-version .ensures)
 
 pub of-kind-spec : {M : Type 1} → statement M
 of-kind-spec =
     tie.close
     (tie.spec
-    enum-told
-    enum-told-2
     is-num-requires
-    enum-told-3
     is-float-requires
-    enum-told-4
     is-rule020-requires
-    enum-told-5
     is-rule008-requires
-    enum-told-6
     is-rule090-requires
-    enum-told-7
     is-rule112-requires
-    enum-told-8
     is-rule116-requires
-    enum-told-9
     is-charset-requires
-    enum-told-10
     is-version-requires
     returns
     returns-2

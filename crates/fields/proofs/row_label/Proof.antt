@@ -3,8 +3,8 @@
 use borrow.Author.Needs.{needs}
 use borrow.Author.Tests.{le-leb, lt-leb}
 use Rattle.meaning.specs.Tables.{rowLabel}
-use Rattle.tables.proofs.row_label.Statement.{statement}
-use Rattle.tables.proofs.row_label.Tie as tie
+use Rattle.fields.proofs.row_label.Statement.{statement}
+use Rattle.fields.proofs.row_label.Tie as tie
 
 returns : tie.Need-returns
 unfolding rowLabel

@@ -2,8 +2,8 @@
 -- Assumes nothing.
 use mathlib.Core.Path.{refl}
 use Rattle.meaning.specs.Tables.{rows6302}
-use Rattle.tables.proofs.rows_6302.Statement.{statement}
-use Rattle.tables.proofs.rows_6302.Tie as tie
+use Rattle.rows.proofs.rows_6302.Statement.{statement}
+use Rattle.rows.proofs.rows_6302.Tie as tie
 
 returns : tie.Need-returns
 unfolding rows6302

@@ -2,8 +2,8 @@
 -- Assumes nothing.
 use mathlib.Core.Path.{refl}
 use Rattle.meaning.specs.Tables.{rows6300}
-use Rattle.tables.proofs.rows_6300.Statement.{statement}
-use Rattle.tables.proofs.rows_6300.Tie as tie
+use Rattle.rows.proofs.rows_6300.Statement.{statement}
+use Rattle.rows.proofs.rows_6300.Tie as tie
 
 returns : tie.Need-returns
 unfolding rows6300

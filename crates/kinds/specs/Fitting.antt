@@ -1,0 +1,13 @@
+-- Whether a content fits a row of the field table, by the row's code.
+-- Assumes nothing: these are definitions. For the code of a label's row it is `FieldTable.fitsLabel` (`fits-code` in proofs/Laws).
+use mathlib.Core.Bool.{Bool, _&&_}
+use mathlib.Core.List.{List}
+use Prim.Native.Nat.{ℕ}
+use lib.Dec.{leb}
+use lib.ListN.{length}
+use Rattle.meaning.specs.Kinds.{ofKind}
+use Rattle.fields.specs.Codes.{kindOf, leastIn, mostIn, kindIn}
+
+-- the content has the length and is of the kind that the code tells
+unfoldable pub fitsField : ℕ → List ℕ → Bool
+fitsField code c = (leb (leastIn code) (length c) && leb (length c) (mostIn code)) && ofKind (kindOf (kindIn code)) c
