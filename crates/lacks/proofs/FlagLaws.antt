@@ -16,9 +16,7 @@ use Rattle.meaning.specs.Refusals.{Spot, start}
 use Rattle.meaning.specs.Tables.{table}
 use Rattle.meaning.specs.Groups as G
 use Rattle.meaning.specs.Groups.{first}
-use Rattle.tables.specs.declared.Found.{Found}
-use Rattle.tables.specs.declared.Found.the-variants.{At, Nothing}
-use Rattle.tables.specs.LookUp.{findFrom}
+use Rattle.tables.specs.LookUp.{Found, At, Nothing, findFrom}
 use Rattle.tables.proofs.Laws.{found-row, found-below, found-here}
 use Rattle.lacks.specs.Lacks.{rowCount, noFlags, flag, flagged, State, begin}
 

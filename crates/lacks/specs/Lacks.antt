@@ -13,9 +13,7 @@ use Rattle.meaning.specs.Refusals.{refusal, missing}
 use Rattle.meaning.specs.Tables.{table, rowLabel}
 use Rattle.meaning.specs.Groups.{noHeader}
 use Rattle.meaning.specs.Answers.{noRefusal}
-use Rattle.tables.specs.declared.Found.{Found}
-use Rattle.tables.specs.declared.Found.the-variants.{At, Nothing as NoRow}
-use Rattle.tables.specs.LookUp.{findFrom}
+use Rattle.tables.specs.LookUp.{Found, At, Nothing as NoRow, findFrom}
 use Rattle.lacks.specs.declared.Group.{Group}
 
 -- the first of two refusals; number 0 is none

@@ -193,7 +193,7 @@ fn lack_name(members: &[bool; ROWS], name: usize, place: usize) -> Refusal
 fn lack_under(members: &[bool; ROWS], header: usize, place: usize) -> Refusal
     ensures { λ r. ⌜ r ≡ lackUnder (rowLabel header) (flagged rows6310 (now (members .entry))) header place ⌝ }
 {
-    let row = tables::row_label(header);
+    let row = fields::row_label(header);
     if row == 8410 {
         return lack_8410(members, place);
     }

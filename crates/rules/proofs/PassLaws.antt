@@ -19,7 +19,7 @@ use Rattle.meaning.specs.Groups as G
 use Rattle.meaning.specs.Reading.{inSet}
 use Rattle.meaning.proofs.Bools.{Every}
 use Rattle.meaning.proofs.LineLaws.{Sound, size-line, content-line, drop-line}
-use Rattle.tables.specs.declared.Found.{Found}
+use Rattle.tables.specs.LookUp.{Found}
 use Rattle.lines.specs.declared.Line.the-variants.{Read}
 use Rattle.lines.specs.Line.{lineAt}
 use Rattle.lines.proofs.Bridge.{read-line, read-back}

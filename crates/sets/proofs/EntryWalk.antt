@@ -27,9 +27,7 @@ use Rattle.meaning.specs.Index.{headerLine, entriesFrom, indexOf}
 use Rattle.meaning.proofs.Bools.{Every}
 use Rattle.meaning.proofs.LineLaws.{Sound}
 use Rattle.meaning.proofs.SetLaws.{accepted}
-use Rattle.tables.specs.declared.Found.{Found}
-use Rattle.tables.specs.declared.Found.the-variants.{At, Nothing}
-use Rattle.tables.specs.LookUp.{findFrom, justRow}
+use Rattle.tables.specs.LookUp.{Found, At, Nothing, findFrom, justRow}
 use Rattle.tables.proofs.Laws.{find-is}
 use Rattle.lines.specs.declared.Line.the-variants.{Read, Refused}
 use Rattle.lines.specs.Line.{lineAt}

@@ -5,7 +5,6 @@ ghost use Rattle.sets.specs.Walking.{begin, counted, closedMark, markAt,
 use lines::Line;
 use meaning::Entry;
 use meaning::SetType;
-use tables::Found;
 
 // Where a walk stands: the offset of the next line, the lines before it, the open header's label (0: none), and the lines before the header's line.
 pub struct Walk {
@@ -65,28 +64,28 @@ fn closed() -> Mark
 fn mark_at(kind: SetType, walk: Walk, label: usize) -> Mark
     ensures { λ r. ⌜ r ≡ markAt kind walk label ⌝ }
 {
-    match tables::find_row(kind, label) {
-        Found::Nothing => closed(),
-        Found::At(_, row) => {
-            if row.under == 0 {
-                return Mark {
-                    under: 0,
-                    header: label,
-                    line: walk.lines,
-                };
-            }
-            if steps::belongs_to(row, walk.header, label) {
-                let under = one_more(walk.line);
-                let header = steps::header_after(label, walk.header);
-                return Mark {
-                    under,
-                    header,
-                    line: walk.line,
-                };
-            }
-            closed()
-        }
+    let code = tables::find_row(kind, label);
+    if code == tables::NOTHING {
+        return closed();
     }
+    let row_under = tables::under_of(code);
+    if row_under == 0 {
+        return Mark {
+            under: 0,
+            header: label,
+            line: walk.lines,
+        };
+    }
+    if steps::belongs_to(row_under, walk.header, label) {
+        let under = one_more(walk.line);
+        let header = steps::header_after(label, walk.header);
+        return Mark {
+            under,
+            header,
+            line: walk.line,
+        };
+    }
+    closed()
 }
 
 // The entry of the line at the walk and the walk behind it; where no line is read, an entry of zeros and the same walk.

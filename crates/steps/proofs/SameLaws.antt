@@ -23,9 +23,7 @@ use Rattle.meaning.specs.Groups.{Role, unknown, strayed, atSetLevel, member, be
 use Rattle.meaning.specs.Missing.{lacking, among, openLacking, stays, groupsLacking}
 use Rattle.meaning.specs.Rules.{Profile, roleIn, fits, current, contentFaults, contentRules, lineRules, rulesFrom}
 use Rattle.meaning.specs.Answers.{noRefusal}
-use Rattle.tables.specs.declared.Found.{Found}
-use Rattle.tables.specs.declared.Found.the-variants.{At, Nothing}
-use Rattle.tables.specs.LookUp.{findFrom, justRow}
+use Rattle.tables.specs.LookUp.{Found, At, Nothing, findFrom, justRow}
 use Rattle.tables.proofs.Laws.{find-is, found-row, few-rows}
 use Rattle.lacks.specs.Lacks.{orElse, rowCount, State, noFlags, flag, flagged, openLack, firstLack, lackAll, requiredLabels, setLack, finish}
 use Rattle.lacks.proofs.FirstLaws.{firstOf, Real, first-append, real-append, real-ask, or-assoc, or-none, or-bad}

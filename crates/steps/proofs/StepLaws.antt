@@ -13,12 +13,17 @@ use Rattle.meaning.specs.declared.Row.{Row}
 use Rattle.meaning.specs.declared.SetType.{SetType}
 use Rattle.meaning.specs.Refusals.{notInSet}
 use Rattle.meaning.specs.Tables.{isPairLabel}
-use Rattle.tables.specs.declared.Found.{Found}
-use Rattle.tables.specs.declared.Found.the-variants.{At, Nothing}
+use Rattle.meaning.specs.FieldTable.{fieldRow, fitsLabel}
+use Rattle.fields.specs.Codes.{fieldCode}
+use Rattle.kinds.specs.Fitting.{fitsField}
+use Rattle.kinds.proofs.Laws.{fits-code}
+use Rattle.tables.specs.LookUp.{Found, At, Nothing}
+use Rattle.tables.specs.Codes.{numberIn}
+use Rattle.tables.proofs.CodeLaws.{Coded}
 use Rattle.lacks.specs.declared.Group.{Group}
 use Rattle.lacks.specs.Lacks.{State, noFlags, firstLack}
 use Rattle.steps.specs.declared.Step.{Step}
-use Rattle.steps.specs.Steps.{placeNo, labelNo, contentNo, lineNo, nextState, staysIn, lackThen, openedGroup, joinedGroup, Stepped}
+use Rattle.steps.specs.Steps.{rowOf, placeNo, labelNo, contentNo, lineNo, nextState, staysIn, lackThen, openedGroup, joinedGroup, Stepped}
 
 -- ---- names and their odd labels
 
@@ -29,6 +34,16 @@ behind-name h l p = go (eqb h (l - 1)) refl
     go : (b : Bool) → eqb h (l - 1) ≡ b → eqb (h + 1) l ≡ b
     go true e = let q : h ≡ l - 1 = eqb-true h (l - 1) e in eq-eqb (h + 1) l (omega arith)
     go false e = ne-eqb (h + 1) l (λ q. eqb-false h (l - 1) e (omega arith))
+
+-- ---- what the code of a label's row tells
+
+-- the row of a label, by the number that its code has
+pub row-at : {kind : SetType} {l c i : ℕ} (h : Coded kind l c) → i ≡ numberIn c → rowOf kind l ≡ At i (h .row)
+row-at h e = h .is ∙ ap (λ (k : ℕ). At k (h .row)) (sym e)
+
+-- what the code answers of a content is what the label asks
+pub content-fits : (field l : ℕ) (c : List ℕ) (b : Bool) → field ≡ fieldCode (fieldRow l) → b ≡ fitsField field c → fitsLabel l c ≡ b
+content-fits field l c b e q = sym (fits-code l c) ∙ (ap (λ (k : ℕ). fitsField k c) (sym e) ∙ sym q)
 
 -- ---- one line
 

@@ -14,9 +14,7 @@ use Rattle.meaning.specs.Kinds.{is0210}
 use Rattle.meaning.specs.FieldTable.{fitsLabel}
 use Rattle.meaning.specs.Tables.{table, rowLabel, isPairLabel, setLevel}
 use Rattle.meaning.specs.Groups.{belongs, noHeader}
-use Rattle.tables.specs.declared.Found.{Found}
-use Rattle.tables.specs.declared.Found.the-variants.{At, Nothing as NoRow}
-use Rattle.tables.specs.LookUp.{findFrom}
+use Rattle.tables.specs.LookUp.{Found, At, Nothing as NoRow, findFrom}
 use Rattle.lacks.specs.declared.Group.{Group}
 use Rattle.lacks.specs.Lacks.{State, noFlags, firstLack, stateOf}
 use Rattle.steps.specs.declared.Step.{Step}

@@ -5,15 +5,16 @@ ghost use mathlib.Core.Bool.{true, cond};
 ghost use Prim.Native.Nat.{_<_};
 ghost use lib.ListN.{set};
 ghost use Rattle.meaning.specs.Tables.{isPairLabel};
+ghost use Rattle.meaning.specs.declared.Row.{Row};
+ghost use Rattle.meaning.specs.FieldTable.{fieldRow};
 ghost use Rattle.meaning.specs.Groups.{belongs};
+ghost use Rattle.fields.specs.Codes.{fieldCode};
 ghost use Rattle.lacks.specs.Lacks.{rowCount, noFlags, stateOf};
 ghost use Rattle.steps.specs.Steps.{rowOf, againNo, placeNo, versionNo, contentNo, openedGroup, joinedGroup, Stepped};
 use lacks::Group;
 use lacks::ROWS;
 use meaning::Refusal;
-use meaning::Row;
 use meaning::SetType;
-use tables::Found;
 
 // A line's refusal by its number (0: none), and what is open behind it.
 pub struct Step {
@@ -36,12 +37,12 @@ fn again_no(many: bool, seen: bool) -> usize
     0
 }
 
-// The row's label belongs to the open header: an odd label right behind its name, any other member under the header that its row names.
-pub fn belongs_to(row: Row, header: usize, label: usize) -> bool
-    ensures { λ r. ⌜ r ≡ belongs row header label ⌝ }
+// A label whose row stands under this one belongs to the open header: an odd label right behind its name, any other member under the header that its row names.
+pub fn belongs_to(under: usize, header: usize, label: usize) -> bool
+    ensures { λ b. ⌜ ((r : Row) → r .under ≡ under → b ≡ belongs r header label) ⌝ }
 {
-    if row.under != 6330 {
-        return row.under as usize == header;
+    if under != 6330 {
+        return under == header;
     }
     if label < 1 {
         return false;
@@ -49,23 +50,24 @@ pub fn belongs_to(row: Row, header: usize, label: usize) -> bool
     header == label - 1
 }
 
-// 12 and 13 of a line whose row has this number, or 0.
+// 12 and 13 of a line whose row has this number, stands under this label and repeats or not, or 0.
 fn place_no(
     i: usize,
-    row: Row,
+    under: usize,
+    many: bool,
     header: usize,
     members: &[bool; ROWS],
     top: &[bool; ROWS],
     label: usize,
 ) -> usize
     requires { ⌜ i < rowCount ⌝ }
-    ensures { λ r. ⌜ r ≡ placeNo i row header (now (members .entry)) (now (top .entry)) label ⌝ }
+    ensures { λ n. ⌜ ((r : Row) → r .under ≡ under → r .many ≡ many → n ≡ placeNo i r header (now (members .entry)) (now (top .entry)) label) ⌝ }
 {
-    if row.under == 0 {
-        return again_no(row.many, lacks::has(top, i));
+    if under == 0 {
+        return again_no(many, lacks::has(top, i));
     }
-    if belongs_to(row, header, label) {
-        return again_no(row.many, lacks::has(members, i));
+    if belongs_to(under, header, label) {
+        return again_no(many, lacks::has(members, i));
     }
     Refusal::STRAY
 }
@@ -83,11 +85,11 @@ fn version_no(label: usize, content: &[u8]) -> usize
     Refusal::OTHER_VERSION
 }
 
-// 14, BadContent, and 15, or 0.
-fn content_no(label: usize, content: &[u8]) -> usize
-    ensures { λ r. ⌜ r ≡ contentNo label (now (content .entry)) ⌝ }
+// 14, BadContent, and 15, or 0, of a label with this field.
+fn content_no(field: u16, label: usize, content: &[u8]) -> usize
+    ensures { λ n. ⌜ (field ≡ fieldCode (fieldRow label) → n ≡ contentNo label (now (content .entry))) ⌝ }
 {
-    if kinds::fits_label(label, content) {
+    if kinds::fits_field(field, content) {
         return version_no(label, content);
     }
     Refusal::BAD_CONTENT
@@ -165,19 +167,22 @@ pub fn step_at(
 ) -> Step
     ensures { λ r. ⌜ Stepped (rowOf kind label) kind (stateOf group (now (members .entry)) (now (top .entry))) (group .lack) at label (now (content .entry)) r (now (members .exit)) (now (top .exit)) ⌝ }
 {
-    let found = tables::find_row(kind, label);
-    let Found::At(i, row) = found else {
+    let code = tables::find_row(kind, label);
+    if code == tables::NOTHING {
         return refused_step(Refusal::NOT_IN_SET, group);
-    };
-    let misplaced = place_no(i, row, group.header, members, top, label);
+    }
+    let i = tables::number_of(code);
+    let under = tables::under_of(code);
+    let many = tables::many_of(code);
+    let misplaced = place_no(i, under, many, group.header, members, top, label);
     if misplaced != 0 {
         return refused_step(misplaced, group);
     }
-    let unfit = content_no(label, content);
+    let unfit = content_no(tables::field_of(code), label, content);
     if unfit != 0 {
         return refused_step(unfit, group);
     }
-    if row.under == 0 {
+    if under == 0 {
         let group = opened(kind, at, label, i, group, members, top);
         return Step { no: 0, group };
     }

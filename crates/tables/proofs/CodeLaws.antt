@@ -1,6 +1,6 @@
 -- A code says whether a row is found, and gives back the row's number, its header, whether it repeats, and the code of its field.
 -- Assumes nothing.
-use mathlib.Core.Path.{_≡_, refl, ap, _∙_}
+use mathlib.Core.Path.{_≡_, refl, sym, ap, _∙_}
 use mathlib.Core.Bool.{Bool, true, false}
 use Prim.Native.Nat.{ℕ, _*_, _/_, _%_, _<_}
 use native.Mathlib.Omega.{arith}
@@ -16,65 +16,64 @@ use Rattle.tables.proofs.Laws.{found-row, row-below}
 
 -- ---- a code and its parts
 
-module _ (number under : ℕ) (n : number < 256) where
-  row-field : (many : Bool) (field : ℕ) → field < 65536 → fieldIn (rowCode number under (occurrence many) field) ≡ field
+module _ (number under : ℕ) (n : number < numbers) where
+  row-field : (many : Bool) (field : ℕ) → field < fields → fieldIn (rowCode number under (occurrence many) field) ≡ field
   row-field many field f = omega arith
 
-  row-number : (many : Bool) (field : ℕ) → field < 65536 → numberIn (rowCode number under (occurrence many) field) ≡ number
+  row-number : (many : Bool) (field : ℕ) → field < fields → numberIn (rowCode number under (occurrence many) field) ≡ number
   row-number many field f = omega arith
 
-  row-under : (many : Bool) (field : ℕ) → field < 65536 → underIn (rowCode number under (occurrence many) field) ≡ under
+  row-under : (many : Bool) (field : ℕ) → field < fields → underIn (rowCode number under (occurrence many) field) ≡ under
   row-under true field f = omega arith
   row-under false field f = omega arith
 
-  row-many : (many : Bool) (field : ℕ) → field < 65536 → manyIn (rowCode number under (occurrence many) field) ≡ many
+  row-many : (many : Bool) (field : ℕ) → field < fields → manyIn (rowCode number under (occurrence many) field) ≡ many
   row-many true field f = let e : rowCode number under 1 field / (fields * numbers) % occurrences ≡ 1 = omega arith in rw e
   row-many false field f = let e : rowCode number under 0 field / (fields * numbers) % occurrences ≡ 0 = omega arith in rw e
 
--- ---- whether a row is found
+-- ---- what is found, by its code
 
 -- 0 is the code of nothing
-pub code-none : (o : Found) → code o ≡ 0 → o ≡ Nothing
+none-coded : (o : Found) → code o ≡ 0 → o ≡ Nothing
 unfolding code
-code-none Nothing e = refl
-code-none (At i r) e = absurd (omega (arith, code-some _ (row-small (r .label))))
+none-coded Nothing e = refl
+none-coded (At i r) e = absurd (omega (arith, code-some _ (row-small (r .label))))
 
--- where the code is not 0 there is a row, with its number
-pub record Hit (o : Found) : Type 0 where
-  pub number : ℕ
+-- what a code that is not 0 tells of a label's row
+pub record Coded (kind : SetType) (l c : ℕ) : Type 0 where
   pub row : Row
-  pub is : o ≡ At number row
+  pub is : findFrom (table kind) (rowLabel l) 0 ≡ At (numberIn c) row
+  pub under-so : row .under ≡ underIn c
+  pub many-so : row .many ≡ manyIn c
+  pub field-so : fieldIn c ≡ fieldCode (fieldRow l)
+  pub below : numberIn c < 57
 
-pub code-hit : (o : Found) → (code o ≡ 0 → ⊥) → Hit o
-unfolding code
-code-hit Nothing n = absurd (n refl)
-code-hit (At i r) n = record { number = i; row = r; is = refl }
+module _ (kind : SetType) (l c : ℕ) (e : c ≡ code (findFrom (table kind) (rowLabel l) 0)) where
+  pub code-nothing : c ≡ 0 → findFrom (table kind) (rowLabel l) 0 ≡ Nothing
+  code-nothing z = none-coded (findFrom (table kind) (rowLabel l) 0) (sym e ∙ z)
 
--- ---- the code of a row that is found
-
-module _ (kind : SetType) (l i : ℕ) (r : Row) (e : findFrom (table kind) (rowLabel l) 0 ≡ At i r) where
-  -- its number is small enough
-  few : i < 256
-  few = omega (arith, row-below kind (rowLabel l) i r e)
-
-  -- and so is the code of its field
-  small : fieldCode (fieldRowIn fieldTable (r .label)) < 65536
-  small = code-fits _ (row-small (r .label))
-
-  pub found-number : numberIn (code (findFrom (table kind) (rowLabel l) 0)) ≡ i
-  unfolding code
-  found-number = rw e (row-number i (r .under) few (r .many) _ small)
-
-  pub found-under : underIn (code (findFrom (table kind) (rowLabel l) 0)) ≡ r .under
-  unfolding code
-  found-under = rw e (row-under i (r .under) few (r .many) _ small)
-
-  pub found-many : manyIn (code (findFrom (table kind) (rowLabel l) 0)) ≡ r .many
-  unfolding code
-  found-many = rw e (row-many i (r .under) few (r .many) _ small)
-
-  -- the code of the field is that of the label
-  pub found-field : fieldIn (code (findFrom (table kind) (rowLabel l) 0)) ≡ fieldCode (fieldRow l)
+  row-coded : (i : ℕ) (r : Row) → findFrom (table kind) (rowLabel l) 0 ≡ At i r → Coded kind l c
   unfolding code fieldRow
-  found-field =
-      rw e (row-field i (r .under) few (r .many) _ small) ∙ ap (λ (k : ℕ). fieldCode (fieldRowIn fieldTable k)) (found-row (table kind) (rowLabel l) i r e)
+  row-coded i r q =
+      let below : i < 57 = row-below kind (rowLabel l) i r q in
+      let few : i < numbers = omega arith in
+      let small : fieldCode (fieldRowIn fieldTable (r .label)) < fields = code-fits _ (row-small (r .label)) in
+      let w : c ≡ rowCode i (r .under) (occurrence (r .many)) (fieldCode (fieldRowIn fieldTable (r .label))) = e ∙ ap code q in
+      let n : numberIn c ≡ i = rw w (row-number i (r .under) few (r .many) _ small) in
+      record {
+        row = r;
+        is = q ∙ ap (λ (k : ℕ). At k r) (sym n);
+        under-so = sym (rw w (row-under i (r .under) few (r .many) _ small));
+        many-so = sym (rw w (row-many i (r .under) few (r .many) _ small));
+        field-so =
+            rw w (row-field i (r .under) few (r .many) _ small) ∙ ap (λ (k : ℕ). fieldCode (fieldRowIn fieldTable k)) (found-row (table kind) (rowLabel l) i r q);
+        below = omega arith;
+      }
+
+  pub coded : (c ≡ 0 → ⊥) → Coded kind l c
+  unfolding code
+  coded n = go (findFrom (table kind) (rowLabel l) 0) refl
+    where
+      go : (o : Found) → findFrom (table kind) (rowLabel l) 0 ≡ o → Coded kind l c
+      go Nothing q = absurd (n (e ∙ ap code q))
+      go (At i r) q = row-coded i r q

@@ -15,7 +15,7 @@ again-no-requires c κs = search needs
 
 returns : tie.Need-returns
 unfolding placeNo
-returns c = rw (c .before .before .if1 .taken, ← c .before .has .ensures) (c .again-no .ensures)
+returns c = λ r e m. rw (e, m, c .before .before .if1 .taken, ← c .before .has .ensures) (c .again-no .ensures)
 
 belongs-to-requires : tie.Need-belongs-to-requires
 belongs-to-requires c κs = search needs
@@ -28,11 +28,11 @@ again-no-requires-2 c κs = search needs
 
 returns-2 : tie.Need-returns-2
 unfolding placeNo
-returns-2 c = rw (ne-eqb _ _ (c .before .before .before .before .if1 .left), sym (c .before .before .before .belongs-to .ensures) ∙ c .before .before .if2 .taken, ← c .before .has2 .ensures) (c .again-no2 .ensures)
+returns-2 c = λ r e m. rw (sym (c .before .before .before .belongs-to .ensures r e) ∙ c .before .before .if2 .taken, e, m, ne-eqb _ _ (c .before .before .before .before .if1 .left), ← c .before .has2 .ensures) (c .again-no2 .ensures)
 
 returns-3 : tie.Need-returns-3
 unfolding placeNo
-returns-3 c = rw (ne-eqb _ _ (c .before .before .if1 .left), sym (c .before .belongs-to .ensures) ∙ c .if2 .left)
+returns-3 c = λ r e m. rw (sym (c .before .belongs-to .ensures r e) ∙ c .if2 .left, e, m, ne-eqb _ _ (c .before .before .if1 .left))
 
 pub place-no-spec : {M : Type 1} → statement M
 place-no-spec =
