@@ -1,4 +1,4 @@
--- The index as it is written: what each `return` of the planning functions has to show, the loop turn by turn, and that both make what `indexCall` says: `fills`.
+-- The index as it is written: the loop turn by turn, and that the plan and the loop make what `indexCall` says: `fills`.
 -- Assumes nothing.
 use mathlib.Core.Path.{_≡_, refl, sym, ap, _∙_}
 use mathlib.Core.Bool.{Bool, true, false, true≢false}
@@ -9,20 +9,16 @@ use native.Mathlib.Numerals.{add-one}
 use lib.Dec.{leb}
 use lib.ListN.{length, take, drop, set, length-set, take-append-drop}
 use lib.Seq.{take-suc-set, drop-set-lt}
-use borrow.Author.Tests.{le-leb, lt-leb, leb-true}
+use borrow.Author.Tests.{leb-true}
 use Rattle.meaning.specs.declared.Entry.{Entry}
 use Rattle.meaning.specs.declared.Refusal.{Refusal}
-use Rattle.meaning.specs.declared.Shape.{Shape}
-use Rattle.meaning.specs.declared.Judged.{Judged}
-use Rattle.meaning.specs.declared.Judged.the-variants.{Accepted, Refused as RefusedSet}
-use Rattle.meaning.specs.declared.Made.the-variants.{Done}
 use Rattle.meaning.specs.declared.Known.{Known}
 use Rattle.meaning.specs.declared.Known.the-variants.{Of, Nothing}
 use Rattle.meaning.specs.declared.SetType.{SetType}
 use Rattle.meaning.specs.declared.SetType.the-variants.{T6300, T6301, T6302, T6310, T6311}
 use Rattle.meaning.specs.Limits.{typeOf, typeNumber}
 use Rattle.meaning.specs.Field.{Field}
-use Rattle.meaning.specs.Refusals.{Reply, refused, done, refusal, unknownSet, noRoom, withRoom}
+use Rattle.meaning.specs.Refusals.{Reply, refused, done, refusal, noRoom, withRoom}
 use Rattle.meaning.specs.Pieces.{Parsed}
 use Rattle.meaning.specs.Groups.{first}
 use Rattle.meaning.specs.Rules.{profile, isKnown}
@@ -36,37 +32,10 @@ use Rattle.sets.specs.declared.Walk.{Walk}
 use Rattle.sets.specs.declared.Next.{Next}
 use Rattle.sets.specs.Walking.{begin, nextEntry, entriesOf}
 use Rattle.sets.proofs.EntryWalk.{entries-are}
-use Rattle.gdt.specs.declared.Plan.{Plan}
-use Rattle.gdt.specs.Replies.{madeReply}
-use Rattle.gdt.specs.Filling.{noEntries, typedEntries, allEntries, planIndex, walkAfter, stored}
-
--- ---- the plan, return by return
-
-module _ (x : Shape) (room : ℕ) where
-  -- a type that is none of the five
-  pub plan-unknown : typeOf (x .kind) ≡ Nothing → noEntries (refusal unknownSet 0 0) ≡ allEntries x room
-  unfolding allEntries
-  plan-unknown e = rw e
-
-  -- more lines than there is room for
-  pub plan-no-room : (kind : SetType) → typeOf (x .kind) ≡ Of kind → room < x .lines → noEntries (refusal noRoom (x .lines) 0) ≡ allEntries x room
-  unfolding allEntries
-  plan-no-room kind e h = rw (e, lt-leb (x .lines) room h)
-
-  -- an entry for each line
-  pub plan-all : (kind : SetType) → typeOf (x .kind) ≡ Of kind → x .lines ≤ room → (w : Walk) → w ≡ begin
-      → record { count = x .lines; kind = kind; walk = w; reply = madeReply (Done (x .lines)) } ≡ allEntries x room
-  unfolding allEntries
-  plan-all kind e h w b = rw (e, le-leb (x .lines) room h, b)
-
--- a set that is refused, and one that is accepted
-pub plan-refused : (j : Judged) (room : ℕ) (r : Refusal) → j ≡ RefusedSet r → noEntries r ≡ planIndex j room
-unfolding planIndex
-plan-refused j room r e = rw e
-
-pub plan-accepted : (j : Judged) (room : ℕ) (x : Shape) → j ≡ Accepted x → allEntries x room ≡ planIndex j room
-unfolding planIndex
-plan-accepted j room x e = rw e
+use Rattle.replies.specs.declared.Plan.{Plan}
+use Rattle.replies.specs.Replies.{madeReply}
+use Rattle.replies.specs.Plans.{noEntries, typedEntries, allEntries, planIndex}
+use Rattle.gdt.specs.Filling.{walkAfter, stored}
 
 -- ---- the loop, turn by turn
 
@@ -139,7 +108,7 @@ module _ (s : List ℕ) (kind : SetType) where
 pub record Fills (s : List ℕ) (d : List Entry) (p : Plan) : Type 0 where
   pub within : p .count ≤ length d
   pub answers : p .reply ≡ madeReply (indexCall s d .answer)
-  pub leaves : stored s (p .kind) (p .walk) (p .count) d ≡ indexCall s d .buffer
+  pub leaves : stored s (p .kind) begin (p .count) d ≡ indexCall s d .buffer
 
 -- each type is named by its own number
 type-back : (t : SetType) → typeOf (typeNumber t) ≡ Of t

@@ -57,22 +57,27 @@ use Rattle.meaning.proofs.SetType as K
 use Rattle.meaning.proofs.SetType.Laws as K′
 use Rattle.sets.specs.declared.Walk.{Walk}
 use Rattle.sets.specs.declared.Next.{Next}
-use Rattle.sets.specs.Walking.{nextEntry}
+use Rattle.sets.specs.Walking.{begin, nextEntry}
 use Rattle.sets.proofs.Walk as L
 use Rattle.sets.proofs.Walk.Laws as L′
 use Rattle.sets.proofs.Next as N
 use Rattle.sets.proofs.Next.Laws as N′
+use Rattle.sets.proofs.start as start-fn
+use Rattle.sets.proofs.start.Symbol as start-def
+use Rattle.sets.proofs.start.Symbol.{name as #start}
+use Rattle.sets.proofs.start.Met as start-thm
 use Rattle.sets.proofs.next_entry as next-fn
 use Rattle.sets.proofs.next_entry.Symbol as next-def
 use Rattle.sets.proofs.next_entry.Symbol.{name as #next-entry}
 use Rattle.sets.proofs.next_entry.Met as next-thm
-use Rattle.gdt.specs.declared.Plan.{Plan}
-use Rattle.gdt.specs.Filling.{planIndex, walkAfter, stored}
+use Rattle.replies.specs.declared.Plan.{Plan}
+use Rattle.replies.specs.Plans.{planIndex}
+use Rattle.replies.proofs.Plan as P
+use Rattle.replies.proofs.Plan.Laws as P′
+use Rattle.replies.proofs.MadeReply as R
+use Rattle.replies.proofs.MadeReply.Laws as R′
+use Rattle.gdt.specs.Filling.{walkAfter, stored}
 use Rattle.gdt.proofs.FillingLaws.{walk-none, stored-none, walk-next, stored-next, length-stored, Fills, fills}
-use Rattle.gdt.proofs.Plan as P
-use Rattle.gdt.proofs.Plan.Laws as P′
-use Rattle.gdt.proofs.MadeReply as R
-use Rattle.gdt.proofs.MadeReply.Laws as R′
 use Rattle.gdt.proofs.plan_index as plan-fn
 use Rattle.gdt.proofs.plan_index.Symbol as plan-def
 use Rattle.gdt.proofs.plan_index.Symbol.{name as #plan-index}
@@ -146,6 +151,10 @@ only-next : (r : Next) (v : Val) → Is N.the-row r (v ∷ []) → v ≡ next-va
 unfolding head
 only-next r v is = ap head (LL.tells N.the-type N′.the-laws r (v ∷ []) is)
 
+only-walk : (w : Walk) (v : Val) → Is L.the-row w (v ∷ []) → v ≡ walk-val w
+unfolding head
+only-walk w v is = ap head (LL.tells L.the-type L′.the-laws w (v ∷ []) is)
+
 only-plan : (p : Plan) (v : Val) → Is P.the-row p (v ∷ []) → v ≡ plan-val p
 unfolding head
 only-plan p v is = ap head (LL.tells P.the-type P′.the-laws p (v ∷ []) is)
@@ -153,20 +162,23 @@ only-plan p v is = ap head (LL.tells P.the-type P′.the-laws p (v ∷ []) is)
 plan-fits : (p : Plan) (v : Val) → Is P.the-row p (v ∷ []) → PlanFits p
 plan-fits p v is = subst (λ (u : Val). Is P.the-row p (u ∷ [])) (only-plan p v is) is
 
--- a plan's type, walk and answer fit where the plan does
+walk-fits : (w : Walk) (v : Val) → Is L.the-row w (v ∷ []) → WalkFits w
+walk-fits w v is = subst (λ (u : Val). Is L.the-row w (u ∷ [])) (only-walk w v is) is
+
+-- a plan's type and answer fit where the plan does
 kind-fits : (p : Plan) → PlanFits p → Is K.the-row (p .kind) (kind-val p ∷ [])
 kind-fits p h = LL.owed P.the-type P′.the-laws p (plan-val p ∷ []) h .1 .0
 
-start-fits : (p : Plan) → PlanFits p → WalkFits (p .walk)
-start-fits p h = LL.owed P.the-type P′.the-laws p (plan-val p ∷ []) h .1 .1 .0
-
 reply-fits : (p : Plan) → PlanFits p → Is R.the-row (p .reply) (reply-val p ∷ [])
-reply-fits p h = LL.owed P.the-type P′.the-laws p (plan-val p ∷ []) h .1 .1 .1 .0
+reply-fits p h = LL.owed P.the-type P′.the-laws p (plan-val p ∷ []) h .1 .1 .0
 
--- ---- the contracts of the two callees
+-- ---- the contracts of the three callees
 
 abbrev Planning : {M : Type 1} (𝓤 : URA M) (H : Heap 𝓤) (A : Atoms 𝓤) (mem : Memory → SProp 𝓤) (run : Routine → Fun 𝓤) → Contract 𝓤
 Planning 𝓤 H A mem run = tripleOf 𝓤 H A plan-fn.signature (plan-fn.spec 𝓤 H A mem run)
+
+abbrev Starting : {M : Type 1} (𝓤 : URA M) (H : Heap 𝓤) (A : Atoms 𝓤) (mem : Memory → SProp 𝓤) (run : Routine → Fun 𝓤) → Contract 𝓤
+Starting 𝓤 H A mem run = tripleOf 𝓤 H A start-fn.signature (start-fn.spec 𝓤 H A mem run)
 
 abbrev Stepping : {M : Type 1} (𝓤 : URA M) (H : Heap 𝓤) (A : Atoms 𝓤) (mem : Memory → SProp 𝓤) (run : Routine → Fun 𝓤) → Contract 𝓤
 Stepping 𝓤 H A mem run = tripleOf 𝓤 H A next-fn.signature (next-fn.spec 𝓤 H A mem run)
@@ -208,13 +220,13 @@ module _ {M : Type 1} (𝓤 : URA M) (H : Heap 𝓤) (A : Atoms 𝓤) (W : Given
 
   -- `out` and the walk after i turns
   abbrev out-after : Plan → ℕ → List Entry
-  out-after p i = stored s (p .kind) (p .walk) i d
+  out-after p i = stored s (p .kind) begin i d
 
   abbrev walk-after : Plan → ℕ → Walk
-  walk-after p i = walkAfter s (p .kind) (p .walk) i
+  walk-after p i = walkAfter s (p .kind) begin i
 
   length-after : (p : Plan) (i : ℕ) → length (out-after p i) ≡ length d
-  length-after p i = length-stored s (p .kind) (p .walk) i d
+  length-after p i = length-stored s (p .kind) begin i d
 
   -- ---- what `plan_index` takes and tells
 
@@ -235,6 +247,17 @@ module _ {M : Type 1} (𝓤 : URA M) (H : Heap 𝓤) (A : Atoms 𝓤) (W : Given
 
   said-plan : (p : Plan) → ent 𝓤 (ensured 𝓤 H A plan-fn.ended (plan-fn.clauses 𝓤 H A mem run) (κ, tt) (lent, (length d, tt)) tt p) (fact 𝓤 (Planned p))
   said-plan p = exE 𝓤 _ (λ ws. snd∗ 𝓤 (sem 𝓤 H A (lasts plan-fn.ended (κ, tt) (lent, (length d, tt)) ws)) (fact 𝓤 (Planned p)))
+
+  -- ---- what `start` takes, which is nothing, and tells
+
+  abbrev to-start : Starting 𝓤 H A mem run .Ghost
+  to-start = ((tt, tt, tt, tt, tt), tt)
+
+  goes-start : ent 𝓤 (sem 𝓤 H A ftrue) (Starting 𝓤 H A mem run .pre to-start)
+  goes-start = qed W (‵ ftrue ∷ []) ∵ nothing ! $ join ! $ frame ! $ done !
+
+  said-start : (w : Walk) → ent 𝓤 (ensured 𝓤 H A start-fn.ended (start-fn.clauses 𝓤 H A mem run) tt tt tt w) (fact 𝓤 (w ≡ begin))
+  said-start w = exE 𝓤 _ (λ ws. snd∗ 𝓤 (sem 𝓤 H A (lasts start-fn.ended tt tt ws)) (fact 𝓤 (w ≡ begin)))
 
   -- ---- what `next_entry` takes and tells
 
@@ -272,7 +295,7 @@ module _ {M : Type 1} (𝓤 : URA M) (H : Heap 𝓤) (A : Atoms 𝓤) (W : Given
       nothing ! $ move ! (1 ∷ 0 ∷ []) $ fjoin ! $ move ! (1 ∷ 0 ∷ []) $ fjoin ! $
       owned ! R.the-row (Is R.the-row) (LL.makes R.the-type R′.the-plain 𝓤 H A) (p .reply) _ (reply-fits p h) $ move ! (1 ∷ 0 ∷ []) $ done !
 
-  module _ (𝓣 : Tables 𝓤 H) (known-plan : Triple 𝓤 (𝓣 .C #plan-index) (Planning 𝓤 H A mem run)) (known-next : Triple 𝓤 (𝓣 .C #next-entry) (Stepping 𝓤 H A mem run)) where
+  module _ (𝓣 : Tables 𝓤 H) (known-plan : Triple 𝓤 (𝓣 .C #plan-index) (Planning 𝓤 H A mem run)) (known-start : Triple 𝓤 (𝓣 .C #start) (Starting 𝓤 H A mem run)) (known-next : Triple 𝓤 (𝓣 .C #next-entry) (Stepping 𝓤 H A mem run)) where
     -- ---- behind the call of `plan_index`
     -- The locals stand at: l₀ the result, l₁ set, l₂ out, l₃ plan, l₄ walk, l₅ i, l₆ next, l₇ out's length, l₈ the loop's test, l₉ and l₁₀ the offset and the place of out[i].
     module _ (p : Plan) (e : Planned p) (h : PlanFits p) (l₀ l₁ l₂ l₃ l₄ l₅ l₆ l₇ l₈ l₉ l₁₀ : ℕ) where
@@ -358,14 +381,14 @@ module _ {M : Type 1} (𝓤 : URA M) (H : Heap 𝓤) (A : Atoms 𝓤) (W : Given
           (from ! (stop !)) (store ! 17 refl (tt, record { fits = up less })) $
           forget ! 7 refl $ forget ! 9 refl $ forget ! 11 refl $ forget ! 15 refl $ move ! (4 ∷ 5 ∷ []) $ drop ! $ drop ! $
           -- back at the loop's head, with i + 1
-          rewrite ! 0 (λ (l : List Entry). ‵ (Obs l)) (stored-next s (p .kind) (p .walk) (i .0) d r said) refl $
-          rewrite ! 1 (λ (l : List Entry). ‵ (Bor l)) (stored-next s (p .kind) (p .walk) (i .0) d r said) refl $
-          rewrite ! 17 (λ (w : Walk). ‵ (fat fullShare L′.mir l₄ 0 (walk-val w))) (walk-next s (p .kind) (p .walk) (i .0) r said) refl $
-          again ! Nearer At i (i .0 + 1, (add-one-le (small less), subst WalkFits (walk-next s (p .kind) (p .walk) (i .0) r said) (parts .1 .0)))
+          rewrite ! 0 (λ (l : List Entry). ‵ (Obs l)) (stored-next s (p .kind) begin (i .0) d r said) refl $
+          rewrite ! 1 (λ (l : List Entry). ‵ (Bor l)) (stored-next s (p .kind) begin (i .0) d r said) refl $
+          rewrite ! 17 (λ (w : Walk). ‵ (fat fullShare L′.mir l₄ 0 (walk-val w))) (walk-next s (p .kind) begin (i .0) r said) refl $
+          again ! Nearer At i (i .0 + 1, (add-one-le (small less), subst WalkFits (walk-next s (p .kind) begin (i .0) r said) (parts .1 .0)))
           (add-one-dec (p .count) (i .0) (small less))))))))
           -- the loop is over: the result is plan.reply, and the locals end
           (λ over. jumps ! $ exec ! (𝓣 .C) (𝓣 .Λ) En body.t-6 (atRet En Post) $
-          assigns ! (of-opd ! (load ! (from ! (fld ! refl (stop !))) (look-in ! 19 (sub ! 3 refl (whole !))))) (from ! (stop !))
+          assigns ! (of-opd ! (load ! (from ! (fld ! refl (stop !))) (look-in ! 19 (sub ! 2 refl (whole !))))) (from ! (stop !))
           (init ! 25 refl (LL.lawful R.the-type R′.the-laws 𝓤 H A W .typed (p .reply) _ (reply-fits p h) .0)) $
           returns ! (look ! 25 refl) $
           forget ! 9 refl $ forget ! 11 refl $ forget ! 15 refl $ forget ! 17 refl $ forget ! 19 refl $ forget ! 21 refl $ forget ! 23 refl $ forget ! 25 refl $
@@ -389,16 +412,23 @@ module _ {M : Type 1} (𝓤 : URA M) (H : Heap 𝓤) (A : Atoms 𝓤) (W : Given
           up : Holds (ltb (i .0) (p .count)) → i .0 + 1 < 2 ^ 64
           up less = omega (arith, room .0, small less, within)
 
-      -- once `plan_index` has answered: walk = plan.walk, i = 0, then the loop
+      -- once `plan_index` has answered: walk = start(), i = 0, then the loop
       begins : Sq W (Around d (‵ (froom word l₅ 0)) (‵ (froom L′.mir l₄ 0))) (runs (𝓣 .C) (𝓣 .Λ) En body.t-3 (atRet En Post))
       begins =
-          assigns ! (of-opd ! (load ! (from ! (fld ! refl (stop !))) (look-in ! 19 (sub ! 2 refl (whole !))))) (from ! (stop !))
-          (init ! 17 refl (LL.lawful L.the-type L′.the-laws 𝓤 H A W .typed (p .walk) _ (start-fits p h) .0)) $
+          nothing ! $ use1 W (raw (Starting 𝓤 H A mem run .pre to-start)) goes-start $
+          calls-at ! (fmOf 𝓤 H (W .laws) 𝓣) (Starting 𝓤 H A mem run) known-start to-start (no-more !) (λ v.
+          use1 W (later (some (λ (w : Walk). (‵ ftrue ⊛ ‵ (L.the-row .own w (v ∷ [])))
+          ⊛ raw (ensured 𝓤 H A start-fn.ended (start-fn.clauses 𝓤 H A mem run) tt tt tt w)))) (id⊢ 𝓤 _) $ await ! tt $ pick ! (λ w.
+          split ! $ move ! (1 ∷ []) $ use1 W (raw (fact 𝓤 (w ≡ begin))) (said-start w) $ heard ! (w ≡ begin) (λ said. split ! $
+          move ! (1 ∷ []) $ peeks ! L.the-row (Is L.the-row) (shows 𝓤 H A L.the-row) w (v ∷ []) (λ is.
+          let fits : WalkFits begin = subst WalkFits said (walk-fits w v is) in
+          -- [what w owns; true; obs; the borrow; ..]
+          land ! (from ! (stop !)) (init ! 19 refl (LL.lawful L.the-type L′.the-laws 𝓤 H A W .typed w _ is .0)) $ drop ! $ drop ! $
           assigns ! (of-opd ! (lit ! tt)) (from ! (stop !)) (init ! 15 refl (tt, record { fits = lit< tt })) $
-          rewrite ! 0 (λ (l : List Entry). ‵ (Obs l)) (stored-none s (p .kind) (p .walk) d) refl $
-          rewrite ! 1 (λ (l : List Entry). ‵ (Bor l)) (stored-none s (p .kind) (p .walk) d) refl $
-          rewrite ! 17 (λ (w : Walk). ‵ (fat fullShare L′.mir l₄ 0 (walk-val w))) (walk-none s (p .kind) (p .walk)) refl $
-          first ! $ blocks ! $ loops ! 𝓣 Nearer Nearer-wf At turns (0, (zero-le, subst WalkFits (walk-none s (p .kind) (p .walk)) (start-fits p h)))
+          rewrite ! 0 (λ (l : List Entry). ‵ (Obs l)) (stored-none s (p .kind) begin d) refl $
+          rewrite ! 1 (λ (l : List Entry). ‵ (Bor l)) (stored-none s (p .kind) begin d) refl $
+          rewrite ! 17 (λ (u : Val). ‵ (fat fullShare L′.mir l₄ 0 u)) (only-walk w v is ∙ ap walk-val (said ∙ walk-none s (p .kind) begin)) refl $
+          first ! $ blocks ! $ loops ! 𝓣 Nearer Nearer-wf At turns (0, (zero-le, subst WalkFits (walk-none s (p .kind) begin) fits))))))
 
     -- ---- from entry to the answer of `plan_index`
     walk : ent 𝓤 (onEntry 𝓤 H A index.signature (κ, (κ′, tt)) (q, (q′, tt)) args vals) (WpFn 𝓤 H (𝓣 .C) (𝓣 .Λ) code.function (set-val ∷ out-val ∷ []) Post)
@@ -436,14 +466,14 @@ module _ {M : Type 1} (𝓤 : URA M) (H : Heap 𝓤) (A : Atoms 𝓤) (W : Given
 -- ---- the walk is the contract
 
 module _ {M : Type 1} (𝓤 : URA M) (H : Heap 𝓤) (A : Atoms 𝓤) (W : Given 𝓤 H A) (mem : Memory → SProp 𝓤) (run : Routine → Fun 𝓤) (𝓣 : Tables 𝓤 H)
-    (known-plan : Triple 𝓤 (𝓣 .C #plan-index) (Planning 𝓤 H A mem run)) (known-next : Triple 𝓤 (𝓣 .C #next-entry) (Stepping 𝓤 H A mem run)) where
+    (known-plan : Triple 𝓤 (𝓣 .C #plan-index) (Planning 𝓤 H A mem run)) (known-start : Triple 𝓤 (𝓣 .C #start) (Starting 𝓤 H A mem run)) (known-next : Triple 𝓤 (𝓣 .C #next-entry) (Stepping 𝓤 H A mem run)) where
   index-walks : Walks 𝓤 H A index.ended stayed (WpFn 𝓤 H (𝓣 .C) (𝓣 .Λ) code.function) (index.clauses 𝓤 H A mem run)
   index-walks =
       walked 𝓤 H A index.ended stayed (index.clauses 𝓤 H A mem run) (WpFn 𝓤 H (𝓣 .C) (𝓣 .Λ) code.function)
       (λ κs. (slice-vals, (slice-vals, tt))) (λ κs. (shr-slice-tells (named 0) (κs .0) u8, (mut-slice-tells (named 1) (κs .1 .0) E.the-row, tt)))
       (λ κs qs bounds a g are. via 𝓤 _ (fst∗ 𝓤 _ (emp 𝓤))
       (walk 𝓤 H A W mem run (κs .0) (κs .1 .0) (qs .0) (qs .1 .0) (a .1 .0 .ptr .0) (a .1 .0 .ptr .1) (a .1 .0 .name) (a .1 .0 .now) (a .0)
-      (are .1 .0 .0 .1) (are .0 .0 .1 .0) 𝓣 known-plan known-next))
+      (are .1 .0 .0 .1) (are .0 .0 .1 .0) 𝓣 known-plan known-start known-next))
 
   index-meets : Meets 𝓤 H A index.signature (WpFn 𝓤 H (𝓣 .C) (𝓣 .Λ) code.function) (index.spec 𝓤 H A mem run)
   index-meets =
@@ -458,4 +488,5 @@ gdt-index-spec 𝓤 H 𝓜 𝓖 𝓡 =
     (tables 𝓤 H 𝓜 𝓡 code.env .C) (tables 𝓤 H 𝓜 𝓡 code.env .Λ) #gdt-index code.function (code.unfolded 𝓤 H 𝓜 𝓡)
     (index-meets 𝓤 H (𝓖 .A) (givenOf 𝓤 H 𝓜 𝓖) (𝓜 .mem) (𝓡 .run) (tablesOf 𝓤 H 𝓜 (tables 𝓤 H 𝓜 𝓡 code.env))
     (cited 𝓤 H (Planning 𝓤 H (𝓖 .A) (𝓜 .mem) (𝓡 .run)) 𝓜 𝓡 code.env #plan-index plan-def.routine code.calls-gdt·plan-index (plan-thm.met 𝓤 H 𝓜 𝓖 𝓡))
+    (cited 𝓤 H (Starting 𝓤 H (𝓖 .A) (𝓜 .mem) (𝓡 .run)) 𝓜 𝓡 code.env #start start-def.routine code.calls-sets·start (start-thm.met 𝓤 H 𝓜 𝓖 𝓡))
     (cited 𝓤 H (Stepping 𝓤 H (𝓖 .A) (𝓜 .mem) (𝓡 .run)) 𝓜 𝓡 code.env #next-entry next-def.routine code.calls-sets·next-entry (next-thm.met 𝓤 H 𝓜 𝓖 𝓡)))

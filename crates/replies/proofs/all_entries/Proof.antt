@@ -2,9 +2,9 @@
 -- Assumes nothing.
 use mathlib.Core.Path.{sym, _∙_}
 use borrow.Author.Needs.{needs}
-use Rattle.gdt.proofs.FillingLaws.{plan-unknown, plan-no-room, plan-all}
-use Rattle.gdt.proofs.all_entries.Statement.{statement}
-use Rattle.gdt.proofs.all_entries.Tie as tie
+use Rattle.replies.proofs.PlanLaws.{plan-unknown, plan-no-room, plan-all}
+use Rattle.replies.proofs.all_entries.Statement.{statement}
+use Rattle.replies.proofs.all_entries.Tie as tie
 
 of-requires : tie.Need-of-requires
 of-requires c κs = search needs
@@ -25,18 +25,13 @@ no-entries-requires-2 : tie.Need-no-entries-requires-2
 no-entries-requires-2 c κs = search needs
 
 returns-2 : tie.Need-returns-2
-returns-2 c =
-    c .no-entries2 .ensures
-    ∙ plan-no-room _ _ _ (sym (c .before .before .before .before .before .before .of .ensures) ∙ c .before .before .before .before .kind .given .1) (c .before .if1 .taken)
+returns-2 c = c .no-entries2 .ensures ∙ plan-no-room _ _ _ (sym (c .before .before .before .before .before .before .of .ensures) ∙ c .before .before .before .before .kind .given .1) (c .before .if1 .taken)
 
-start-requires : tie.Need-start-requires
-start-requires c κs = search needs
+made-reply-requires : tie.Need-made-reply-requires
+made-reply-requires c κs = search needs
 
 returns-3 : tie.Need-returns-3
-returns-3 c =
-    plan-all _ _ _
-    (sym (c .before .before .before .before .before .before .of .ensures) ∙ c .before .before .before .before .kind .given .1)
-    (c .before .if1 .left) _ (c .start .ensures)
+returns-3 c = plan-all _ _ _ (sym (c .before .before .before .before .before .before .of .ensures) ∙ c .before .before .before .before .kind .given .1) (c .before .if1 .left) _ (c .made-reply .ensures)
 
 pub all-entries-spec : {M : Type 1} → statement M
 all-entries-spec =
@@ -49,5 +44,5 @@ all-entries-spec =
     returns
     no-entries-requires-2
     returns-2
-    start-requires
+    made-reply-requires
     returns-3)

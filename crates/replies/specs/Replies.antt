@@ -7,9 +7,9 @@ use Rattle.meaning.specs.declared.Judged.{Judged}
 use Rattle.meaning.specs.declared.Made.{Made}
 use Rattle.meaning.specs.declared.Viewed.{Viewed}
 use Rattle.meaning.specs.Answers.{judgedRefusal, judgedShape, madeRefusal, madeCount, viewedRefusal, viewedFlag, viewedPart}
-use Rattle.gdt.specs.declared.JudgedReply.{JudgedReply}
-use Rattle.gdt.specs.declared.MadeReply.{MadeReply}
-use Rattle.gdt.specs.declared.ViewedReply.{ViewedReply}
+use Rattle.replies.specs.declared.JudgedReply.{JudgedReply}
+use Rattle.replies.specs.declared.MadeReply.{MadeReply}
+use Rattle.replies.specs.declared.ViewedReply.{ViewedReply}
 
 -- the refusal's number, place and label, 0 where there is none; the set's length, lines and type, 0 where it is refused
 abbrev pub judgedReply : Judged → JudgedReply

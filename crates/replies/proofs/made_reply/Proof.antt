@@ -2,9 +2,9 @@
 -- Assumes nothing.
 use mathlib.Core.Path.{sym, ap}
 use borrow.Author.Needs.{needs}
-use Rattle.gdt.specs.Replies.{madeReply}
-use Rattle.gdt.proofs.made_reply.Statement.{statement}
-use Rattle.gdt.proofs.made_reply.Tie as tie
+use Rattle.replies.specs.Replies.{madeReply}
+use Rattle.replies.proofs.made_reply.Statement.{statement}
+use Rattle.replies.proofs.made_reply.Tie as tie
 
 enum-known-made : tie.Need-enum-known-made
 enum-known-made c = search needs
