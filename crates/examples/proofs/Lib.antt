@@ -1,1 +1,3 @@
 pub mod RowExamples
+pub mod FieldExamples
+pub mod LongSets

@@ -1,5 +1,5 @@
 -- The open points that docs/DECISIONS.md decides, each with inputs that show the decision, and the order of the rules where two apply: a table and a theorem for each part.
--- Assumes nothing. B1 to B44 are the names in docs/DECISIONS.md; contents alone (B25 to B27) are in FieldExamples.
+-- Assumes nothing. B1 to B44 are the names in docs/DECISIONS.md; contents alone (B25 to B27) are in FieldExamples and sets of 512 lines in LongSets, both in crate `examples`.
 use mathlib.Core.Path.{_≡_, refl}
 use mathlib.Core.List.{List, [], _∷_, _++_}
 use Prim.Native.Nat.{ℕ}
@@ -29,9 +29,7 @@ lines =
     -- B1: only bytes four to seven of the next line count
     example (judging (p ++ text "xyz8000")) (accepted 51 4 6300)
     ∷ example (judging (p ++ text "013800")) (refusedBy 3 51 0)
-    -- B2: 512 lines, then nothing, another set, anything else
-    ∷ example (judging (b (replicate 507 (line 6220 "x")))) (accepted 5135 512 6310)
-    ∷ example (judging (b (replicate 507 (line 6220 "x")) ++ text "xyz8000")) (accepted 5135 512 6310)
+    -- B2: 512 lines, then what is no set; then nothing, and another set: LongSets
     ∷ example (judging (b (replicate 507 (line 6220 "x")) ++ text "x")) (refusedBy 7 5135 0)
     -- B3: all lines before 8; the set may end early
     ∷ example (judging (text "014810000051\r\n0993000")) (refusedBy 3 14 0)

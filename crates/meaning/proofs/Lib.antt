@@ -19,4 +19,3 @@ pub mod CallLaws
 pub mod NumberLaws
 pub mod Decided
 pub mod TableLaws
-pub mod FieldExamples

@@ -1,0 +1,24 @@
+-- Sets of 512 lines, the most that a set can have (B2 of docs/DECISIONS.md): a table and a theorem.
+-- Assumes nothing. They stand apart from the other open points, in crate `meaning`, since a set of 512 lines takes long to compute.
+use mathlib.Core.Path.{_≡_, refl}
+use mathlib.Core.List.{List, [], _∷_, _++_}
+use Prim.Native.Nat.{ℕ}
+use lib.ListN.{replicate}
+use Rattle.meaning.specs.Computes.{computes}
+use Rattle.meaning.proofs.Asking.{text, line, setOf, judging, accepted, refusedBy, answer, Example, example, asked, expected}
+
+-- 512 lines, 5,135 bytes
+full : List ℕ
+full = setOf (line 8000 "6310" ∷ line 9218 "02.10" ∷ line 3000 "7" ∷ line 8402 "EKG01" ∷ replicate 507 (line 6220 "x"))
+
+longest : List Example
+unfolding full
+longest =
+    -- then nothing, another set, anything else
+    example (judging full) (accepted 5135 512 6310)
+    ∷ example (judging (full ++ text "xyz8000")) (accepted 5135 512 6310)
+    ∷ example (judging (full ++ text "x")) (refusedBy 7 5135 0) ∷ []
+
+longest-decided : asked longest ≡ expected longest
+unfolding computes answer longest full
+longest-decided = refl
