@@ -1,5 +1,6 @@
 """rows.py: the five set tables and the field table of GDT 2.1, row by row, as the generator of cases builds sets from them.
 Assumes the documents' tables as the rules paper reads them; 6330 stands for the even labels to 6398, 6331 for the odd ones to 6399."""
+import functools
 
 # ---- The set tables: labels at set level; those with ! are required, those with + repeat, all others are single and optional -------
 
@@ -26,13 +27,15 @@ NAMES = range(6330, 6400, 2)
 NEEDS = {8420: 8421, 8461: 8421, 8462: 8421, 8438: 8437}
 
 
+@functools.lru_cache(None)
 def marked(table, mark):
     """The labels of a table that have this mark."""
-    return [int(word[:4]) for word in table.split() if word.endswith(mark)]
+    return tuple(int(word[:4]) for word in table.split() if word.endswith(mark))
 
 
+@functools.lru_cache(None)
 def labels(table):
-    return [int(word[:4]) for word in table.split()]
+    return tuple(int(word[:4]) for word in table.split())
 
 
 MEMBER_OF = {member: header for header, table in GROUPS.items() for member in labels(table)}
