@@ -283,10 +283,10 @@ static void case_view(void)
         bool inside = viewed.flag <= 1 && viewed.at <= from->length && viewed.length <= from->length - viewed.at;
         const uint8_t *part = inside ? from->at + viewed.at : from->at;
         size_t length = inside ? viewed.length : 0;
+        bool same = inside && copies(&set, &sheet, line, part, length, length) && copies(&set, &sheet, line, part, length, length / 2);
         expect_done(viewed.place, viewed.label);
         printf("ok %s ", viewed.flag == 1 ? "sheet" : "set");
         print_hex(part, length);
-        bool same = inside && copies(&set, &sheet, line, part, length, length) && copies(&set, &sheet, line, part, length, length / 2);
         printf("%s\n", same ? "" : " changed");
     }
     take_back(&set);

@@ -1,0 +1,79 @@
+"""tables.py [--write]: prints what bench/measure.py measures as the tables of docs/BENCH.md; --write puts them there, between its two marks.
+Assumes that the document has the two marks once each."""
+import os
+import platform
+import statistics
+import sys
+
+import measure
+
+DOCUMENT = os.path.join(measure.ROOT, "docs", "BENCH.md")
+START, END = "<!-- the tables, by bench/run --write -->\n", "<!-- the end of the tables -->\n"
+NAMES = {"view_copy": "view, copied", measure.FLOOR: "byte sum"}
+REFUSED = "refused"
+
+
+def table(head, found):
+    return ["| %s |" % " | ".join(map(str, row)) for row in [head, ["---"] * len(head), *found]] + [""]
+
+
+def made_on():
+    kind = platform.machine()
+    if kind == "x86_64":
+        return ["Made on a machine of the kind x86_64: nothing is emulated.", ""]
+    return ["Made on a machine of the kind %s: the programs are x86-64 code and were **emulated**. The counts are exact all the same; the times are the emulator's." % kind, ""]
+
+
+def spread(ratios):
+    low, middle, high = statistics.quantiles(ratios, n=4, method="inclusive")
+    return "%.2f (%.2f to %.2f)" % (middle, low, high)
+
+
+def load_table(counts, times):
+    found = []
+    for load, calls in counts.items():
+        for call, inputs in calls.items():
+            total = [sum(numbers) for numbers in zip(*inputs)]
+            found.append((load, NAMES.get(call, call), total[1], total[2], "%.2f" % measure.ratio(inputs), spread(times[load][call])))
+    return table(("Load", "Call", "Proved, instructions", "Second, instructions", "Ratio", "Ratio of times: median (quartiles)"), found)
+
+
+def refused_table(refused):
+    """A row for each number: the ratio of each call that answers it, the worst one of a call in bold."""
+    calls = {call: {count.no: measure.ratio([count]) for count in inputs} for call, inputs in refused.items() if call != measure.FLOOR}
+    found = []
+    for no in sorted({no for ratios in calls.values() for no in ratios}):
+        cells = [("**%.2f**" if ratios[no] == max(ratios.values()) else "%.2f") % ratios[no] if no in ratios else "" for ratios in calls.values()]
+        found.append([no, *cells])
+    return table(("Number", *(NAMES.get(call, call) for call in calls)), found)
+
+
+def stack_table(stacks, bounds):
+    found = []
+    for call, bound in bounds.items():
+        most = stacks[call]
+        found.append((NAMES.get(call, call), most.made, most.longest, most.bytes, int(bound[measure.STACK]), "%s: %s" % (most.case, most.answer[:24])))
+    return table(("Call", "Times called", "Longest case, bytes", "Stack, bytes", "At most", "One of the deepest cases, and its answer"), found)
+
+
+def main(words):
+    if words not in ([], ["--write"]):
+        print(__doc__, file=sys.stderr)
+        return 2
+    loads = measure.build()
+    counts, stacks = measure.counts(loads), measure.stacks()
+    times = measure.times(loads)
+    lines = made_on() + load_table(counts, times)
+    lines += ["Ratios for each refusal number by itself:", ""] + refused_table(counts[REFUSED])
+    lines += ["Stack over the stored streams of cases:", ""] + stack_table(stacks, measure.bounds())
+    text = "".join(line + "\n" for line in lines)
+    print(text, end="")
+    if words:
+        with open(DOCUMENT) as file:
+            before, rest = file.read().split(START)
+        with open(DOCUMENT, "w") as file:
+            file.write(before + START + text + END + rest.split(END)[1])
+    return 0
+
+
+sys.exit(main(sys.argv[1:]))
