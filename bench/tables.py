@@ -11,6 +11,8 @@ DOCUMENT = os.path.join(measure.ROOT, "docs", "BENCH.md")
 START, END = "<!-- the tables, by bench/run --write -->\n", "<!-- the end of the tables -->\n"
 NAMES = {"view_copy": "view, copied", measure.FLOOR: "byte sum"}
 REFUSED = "refused"
+MACHINE = platform.machine()
+EMULATED = MACHINE != "x86_64"
 
 
 def table(head, found):
@@ -18,10 +20,8 @@ def table(head, found):
 
 
 def made_on():
-    kind = platform.machine()
-    if kind == "x86_64":
-        return ["Made on a machine of the kind x86_64: nothing is emulated.", ""]
-    return ["Made on a machine of the kind %s: the programs are x86-64 code and were **emulated**. The counts are exact all the same; the times are the emulator's." % kind, ""]
+    how = "**emulated**: the counts are exact all the same, the times are the emulator's" if EMULATED else "not emulated"
+    return ["Made on a machine of the kind %s; the programs are x86-64 code and were %s." % (MACHINE, how), ""]
 
 
 def spread(ratios):
@@ -35,7 +35,8 @@ def load_table(counts, times):
         for call, inputs in calls.items():
             total = [sum(numbers) for numbers in zip(*inputs)]
             found.append((load, NAMES.get(call, call), total[1], total[2], "%.2f" % measure.ratio(inputs), spread(times[load][call])))
-    return table(("Load", "Call", "Proved, instructions", "Second, instructions", "Ratio", "Ratio of times: median (quartiles)"), found)
+    timed = "Ratio of times%s: median (quartiles)" % (", emulated" if EMULATED else "")
+    return table(("Load", "Call", "Proved, instructions", "Second, instructions", "Ratio", timed), found)
 
 
 def refused_table(refused):
