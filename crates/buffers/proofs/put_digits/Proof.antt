@@ -11,16 +11,22 @@ use Rattle.buffers.proofs.put_digits.Statement.{statement}
 use Rattle.buffers.proofs.put_digits.Tie as tie
 
 abbrev Inv-loop : tie.InvT-loop
-Inv-loop s₀ at k n i₀ left₀ s i left = (i ≤ k) × ((over at (digits i left) s ≡ over at (digits k n) s₀) × (length s ≡ length s₀))
+Inv-loop s₀ at k n i₀ left₀ s i left = (i ≤ k) × ((left ≤ n) × ((over at (digits i left) s ≡ over at (digits k n) s₀) × (length s ≡ length s₀)))
 
 abbrev μ-loop : tie.MeasureT-loop
 μ-loop s₀ at k n i₀ left₀ s i left = i
 
 loop-holds : tie.Need-loop-holds Inv-loop μ-loop
-loop-holds c = (omega arith, (refl, refl))
+loop-holds c = (omega arith, (omega arith, (refl, refl)))
 
 sub-i : tie.Need-sub-i Inv-loop μ-loop
 sub-i c = omega arith
+
+mul-s : tie.Need-mul-s Inv-loop μ-loop
+mul-s c = omega (arith, c .before .before .fits)
+
+sub-s : tie.Need-sub-s Inv-loop μ-loop
+sub-s c = omega arith
 
 cast-s : tie.Need-cast-s Inv-loop μ-loop
 cast-s c = omega arith
@@ -41,7 +47,7 @@ loop-again : tie.Need-loop-again Inv-loop μ-loop
 loop-again c =
     let a = c .before .before .args in
     let l = c .before .loop in
-    (omega arith, (digit-turn (l .s) (a .at) (l .i) (l .left) (omega arith) (omega arith) ∙ l .inv .1 .0, simp length-set (l .inv .1 .1)))
+    (omega arith, (omega arith, (digit-turn (l .s) (a .at) (l .i) (l .left) (omega arith) (omega arith) ∙ l .inv .1 .1 .0, simp length-set (l .inv .1 .1 .1))))
 
 same-length : tie.Need-same-length Inv-loop μ-loop
 same-length c = omega arith
@@ -51,7 +57,7 @@ returns c =
     let a = c .before .before .args in
     let l = c .before .loop in
     let e : l .i ≡ 0 = omega arith in
-    sym (digits-none (l .s) (a .at) (l .left)) ∙ (rw e at (l .inv .1 .0))
+    sym (digits-none (l .s) (a .at) (l .left)) ∙ (rw e at (l .inv .1 .1 .0))
 
 pub put-digits-spec : {M : Type 1} → statement M
 put-digits-spec =
@@ -61,6 +67,8 @@ put-digits-spec =
     μ-loop
     loop-holds
     sub-i
+    mul-s
+    sub-s
     cast-s
     add-s
     add-s-2

@@ -1,4 +1,4 @@
--- `copy_front` meets its contract. Assumes nothing.
+-- `copy_bytes`: a turn is a byte more. Assumes nothing.
 use mathlib.Core.Path.{_≡_, refl}
 use mathlib.Core.List.{_++_}
 use Prim.Native.Nat.{_≤_, _-_}
@@ -6,8 +6,8 @@ use native.Mathlib.Omega.{arith}
 use lib.ListN.{length, drop, take, length-set}
 use lib.Seq.{take-length}
 use Rattle.buffers.proofs.PutLaws.{copy-turn}
-use Rattle.buffers.proofs.copy_front.Statement.{statement}
-use Rattle.buffers.proofs.copy_front.Tie as tie
+use Rattle.buffers.proofs.copy_bytes.Statement.{statement}
+use Rattle.buffers.proofs.copy_bytes.Tie as tie
 
 abbrev Inv-loop : tie.InvT-loop
 Inv-loop dst₀ src i₀ dst i = (i ≤ length src) × ((dst ≡ take i src ++ drop i dst₀) × (length dst ≡ length dst₀))
@@ -44,5 +44,5 @@ returns c =
     let e : c .before .loop .i ≡ length (c .before .before .args .src .now) = omega arith in
     (rw (e, take-length) at (c .before .loop .inv .1 .0))
 
-pub copy-front-spec : {M : Type 1} → statement M
-copy-front-spec = tie.close (tie.spec Inv-loop μ-loop loop-holds shared-slice-read-dst slice-write-dst add-i loop-less loop-again same-length returns)
+pub copy-bytes-spec : {M : Type 1} → statement M
+copy-bytes-spec = tie.close (tie.spec Inv-loop μ-loop loop-holds shared-slice-read-dst slice-write-dst add-i loop-less loop-again same-length returns)
