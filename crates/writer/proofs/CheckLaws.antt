@@ -12,13 +12,14 @@ use lib.Seq.{drop-drop}
 use borrow.Author.Tests.{leb-true, leb-false, le-leb, lt-leb}
 use Rattle.meaning.specs.declared.Refusal.{Refusal}
 use Rattle.meaning.specs.Limits.{maxEntries}
+use Rattle.meaning.specs.Digits.{digitZero, digit, allDigits}
 use Rattle.meaning.specs.Field.{Field, isNil}
 use Rattle.meaning.specs.Refusals.{Fault, atLine, atByte, ask, behind, Reply, refused, done, refusal, badByte, tooManyLines, badList}
 use Rattle.meaning.specs.Pieces.{Parsed, parsed, andBefore, pieceThen, pieces}
 use Rattle.meaning.specs.Lines.{leastByte, lowBytes}
 use Rattle.meaning.specs.Entries.{entryLead, twoBytesAt, entryLabel, entryWidth, entryContent, entryField, entryWhole, maxLabel, entryFaults, entryForm, entryOk, listSize}
-use Rattle.meaning.proofs.Bools.{nil-is, and-left}
-use Rattle.meaning.proofs.FaultLaws.{ask-none, refused-done, done-same}
+use Rattle.meaning.proofs.Bools.{nil-is, and-left, and-right}
+use Rattle.meaning.proofs.FaultLaws.{ask-none, High, lows-none, refused-done, done-same}
 use Rattle.meaning.proofs.PieceLaws.{piece-back}
 use Rattle.lines.specs.Line.{firstLow}
 use Rattle.lines.proofs.Laws.{byte-then}
@@ -26,6 +27,8 @@ use Rattle.entries.specs.declared.Head.{Head}
 use Rattle.entries.specs.declared.Head.the-variants.{Whole, Cut}
 use Rattle.entries.specs.Head.{entryAt}
 use Rattle.entries.proofs.HeadLaws.{headOf, entry-is, whole-back}
+use Rattle.writer.specs.declared.Item.{Item}
+use Rattle.writer.specs.declared.Item.the-variants.{Read}
 use Rattle.writer.specs.declared.Checked.{Checked}
 use Rattle.writer.specs.declared.Checked.the-variants.{Done, Refused}
 use Rattle.writer.specs.Writing.{byHead, contentOf, checkContent, checkEntry, afterEntry, checkFrom}
@@ -33,28 +36,24 @@ use Rattle.lists.proofs.PartLaws.{one-more, none-left}
 
 -- ---- one entry, as the code takes it
 
-module _ (l : List ℕ) (at label n : ℕ) where
-  pub label-over : maxLabel < label → Refused (refusal badList at 0) ≡ checkContent l at label n
-  unfolding checkContent
-  label-over h = rw (lt-leb label maxLabel h)
-
-  module _ (h : label ≤ maxLabel) (low : ℕ) (e : low ≡ firstLow l (at + entryLead) n) where
-    pub content-low : low < at + entryLead + n → Refused (refusal badByte low 0) ≡ checkContent l at label n
-    unfolding checkContent
-    content-low g = rw (le-leb label maxLabel h, ← e, lt-leb (at + entryLead + n) low g)
-
-    pub content-clean : at + entryLead + n ≤ low → Done n ≡ checkContent l at label n
-    unfolding checkContent
-    content-clean g = rw (le-leb label maxLabel h, ← e, le-leb (at + entryLead + n) low g)
-
 module _ (l : List ℕ) (at : ℕ) where
-  pub entry-cut : entryAt l at ≡ Cut → Refused (refusal badList at 0) ≡ checkEntry l at
+  pub entry-cut : entryAt l at ≡ Cut → Item.Refused (refusal badList at 0) ≡ checkEntry l at
   unfolding checkEntry
   entry-cut e = rw e
 
-  pub entry-whole : {label n : ℕ} → entryAt l at ≡ Whole label n → checkContent l at label n ≡ checkEntry l at
-  unfolding checkEntry
-  entry-whole e = rw e
+  module _ {label n : ℕ} (e : entryAt l at ≡ Whole label n) where
+    pub label-over : maxLabel < label → Item.Refused (refusal badList at 0) ≡ checkEntry l at
+    unfolding checkEntry checkContent
+    label-over h = rw (e, lt-leb label maxLabel h)
+
+    module _ (h : label ≤ maxLabel) (low : ℕ) (q : low ≡ firstLow l (at + entryLead) n) where
+      pub content-low : low < at + entryLead + n → Item.Refused (refusal badByte low 0) ≡ checkEntry l at
+      unfolding checkEntry checkContent
+      content-low g = rw (e, le-leb label maxLabel h, ← q, lt-leb (at + entryLead + n) low g)
+
+      pub content-clean : at + entryLead + n ≤ low → Read label n ≡ checkEntry l at
+      unfolding checkEntry checkContent
+      content-clean g = rw (e, le-leb label maxLabel h, ← q, le-leb (at + entryLead + n) low g)
 
 -- ---- all entries, as the code takes them
 
@@ -69,40 +68,69 @@ module _ (l : List ℕ) (at n : ℕ) where
     unfolding checkFrom
     check-full h = rw (none-left h, lt-leb (length l) at g)
 
-    pub check-bad : n < maxEntries → {r : Refusal} → checkEntry l at ≡ Refused r → checkFrom l at n (maxEntries - n) ≡ Refused r
+    pub check-bad : n < maxEntries → {r : Refusal} → checkEntry l at ≡ Item.Refused r → checkFrom l at n (maxEntries - n) ≡ Refused r
     unfolding checkFrom
     check-bad h e = rw (one-more h, lt-leb (length l) at g, e)
 
-    pub check-further : n < maxEntries → {m : ℕ} → checkEntry l at ≡ Done m
+    pub check-further : n < maxEntries → {label m : ℕ} → checkEntry l at ≡ Read label m
         → checkFrom l at n (maxEntries - n) ≡ checkFrom l (at + (entryLead + m)) (n + 1) (maxEntries - (n + 1))
     unfolding checkFrom
     check-further h e = rw (one-more h, lt-leb (length l) at g, e)
 
--- an entry that is checked lies within the list
-pub checked-within : (l : List ℕ) (at : ℕ) {m : ℕ} → checkEntry l at ≡ Done m → at + (entryLead + m) ≤ length l
+-- the head of an entry that is checked
+pub checked-head : (l : List ℕ) (at : ℕ) {label m : ℕ} → checkEntry l at ≡ Read label m → entryAt l at ≡ Whole label m
 unfolding checkEntry checkContent
-checked-within l at {m} e = go (entryAt l at) refl e
+checked-head l at {label} {m} e = go (entryAt l at) e
   where
-    by : (label n : ℕ) (a b : Bool) (r q : Refusal) → entryAt l at ≡ Whole label n → cond a (cond b (Done n) (Refused r)) (Refused q) ≡ Done m → at + (entryLead + m) ≤ length l
-    by label n true true r q w h = let z : n ≡ m = cc in subst (λ (x : ℕ). at + (entryLead + x) ≤ length l) z (whole-back l at w .within)
-    by label n true false r q w h = let z : _≡_ {A = ℕ} 0 1 = cc in absurd (omega arith)
-    by label n false b r q w h = let z : _≡_ {A = ℕ} 0 1 = cc in absurd (omega arith)
+    by : (k n : ℕ) (a b : Bool) (r q : Refusal) → cond a (cond b (Read k n) (Item.Refused r)) (Item.Refused q) ≡ Read label m → Whole k n ≡ Whole label m
+    by k n true true r q h = cc
+    by k n true false r q h = let z : _≡_ {A = ℕ} 0 1 = cc in absurd (omega arith)
+    by k n false b r q h = let z : _≡_ {A = ℕ} 0 1 = cc in absurd (omega arith)
 
-    go : (h : Head) → entryAt l at ≡ h → byHead h (Refused (refusal badList at 0)) (λ label n. checkContent l at label n) ≡ Done m → at + (entryLead + m) ≤ length l
-    go Cut w h = let z : _≡_ {A = ℕ} 0 1 = cc in absurd (omega arith)
-    go (Whole label n) w h =
-        by label n (leb label maxLabel) (leb (at + entryLead + n) (firstLow l (at + entryLead) n)) (refusal badByte (firstLow l (at + entryLead) n) 0) (refusal badList at 0) w h
+    go : (h : Head) → byHead h (Item.Refused (refusal badList at 0)) (λ label n. checkContent l at label n) ≡ Read label m → h ≡ Whole label m
+    go Cut h = let z : _≡_ {A = ℕ} 0 1 = cc in absurd (omega arith)
+    go (Whole k n) h =
+        by k n (leb k maxLabel) (leb (at + entryLead + n) (firstLow l (at + entryLead) n)) (refusal badByte (firstLow l (at + entryLead) n) 0) (refusal badList at 0) h
+
+-- it lies within the list
+pub checked-within : (l : List ℕ) (at : ℕ) {label m : ℕ} → checkEntry l at ≡ Read label m → at + (entryLead + m) ≤ length l
+checked-within l at e = whole-back l at (checked-head l at e) .within
+
+-- the entries that a check counts, where it is done
+abbrev pub Counts : ℕ → Checked → Type 0
+Counts n (Done m) = n ≤ m
+Counts n (Refused r) = Unit
+
+-- a check counts on from the entries before it
+pub check-counts : (l : List ℕ) (k at n : ℕ) → Counts n (checkFrom l at n k)
+unfolding checkFrom
+check-counts l zero at n = go (leb (length l) at)
+  where
+    go : (b : Bool) → Counts n (cond b (Done n) (Refused (refusal tooManyLines at 0)))
+    go true = omega arith
+    go false = tt
+check-counts l (suc k) at n = go (leb (length l) at) (checkEntry l at) (λ m. check-counts l k (at + (entryLead + m)) (n + 1))
+  where
+    fewer : (x : Checked) → Counts (n + 1) x → Counts n x
+    fewer (Done m) h = omega arith
+    fewer (Refused r) h = tt
+
+    go : (b : Bool) (x : Item) → ((m : ℕ) → Counts (n + 1) (checkFrom l (at + (entryLead + m)) (n + 1) k))
+        → Counts n (cond b (Done n) (afterEntry x (λ m. checkFrom l (at + (entryLead + m)) (n + 1) k)))
+    go true x h = omega arith
+    go false (Read label m) h = fewer (checkFrom l (at + (entryLead + m)) (n + 1) k) (h m)
+    go false (Item.Refused r) h = tt
 
 -- ---- what the walk means
 
 -- the entry at an offset whose bytes have these faults: "the first fault in this order is the answer"
-abbrev judgedEntry : ℕ → List Fault → Checked → Checked
+abbrev judgedEntry : ℕ → List Fault → Item → Item
 judgedEntry at [] c = c
-judgedEntry at (x ∷ xs) c = Refused (refusal (x .no) (at + behind entryLead (x .spot)) (x .label))
+judgedEntry at (x ∷ xs) c = Item.Refused (refusal (x .no) (at + behind entryLead (x .spot)) (x .label))
 
 -- the first byte under 20h of a part of a content is the first fault of that part, which stands at offset a, behind i bytes of the content
-low-is : (l : List ℕ) (k a at i : ℕ) (c : Checked) → a ≡ at + (entryLead + i) → a + k ≤ length l
-    → cond (leb (a + k) (firstLow l a k)) c (Refused (refusal badByte (firstLow l a k) 0)) ≡ judgedEntry at (lowBytes 0 i (take k (drop a l))) c
+low-is : (l : List ℕ) (k a at i : ℕ) (c : Item) → a ≡ at + (entryLead + i) → a + k ≤ length l
+    → cond (leb (a + k) (firstLow l a k)) c (Item.Refused (refusal badByte (firstLow l a k) 0)) ≡ judgedEntry at (lowBytes 0 i (take k (drop a l))) c
 unfolding firstLow
 low-is l zero a at i c e h = rw (add-zero a, le-leb a a (omega arith))
 low-is l (suc k) a at i c e h =
@@ -115,34 +143,50 @@ low-is l (suc k) a at i c e h =
     rest : List Fault
     rest = lowBytes 0 (suc i) (take k (drop (a + 1) l))
 
-    go : (b : Bool) → cond (leb ((a + 1) + k) low) c (Refused (refusal badByte low 0)) ≡ judgedEntry at rest c
-        → cond (leb ((a + 1) + k) (cond b low a)) c (Refused (refusal badByte (cond b low a) 0)) ≡ judgedEntry at (ask b (atByte badByte 0 i) ++ rest) c
+    go : (b : Bool) → cond (leb ((a + 1) + k) low) c (Item.Refused (refusal badByte low 0)) ≡ judgedEntry at rest c
+        → cond (leb ((a + 1) + k) (cond b low a)) c (Item.Refused (refusal badByte (cond b low a) 0)) ≡ judgedEntry at (ask b (atByte badByte 0 i) ++ rest) c
     go true ih = ih
     go false ih = rw (lt-leb ((a + 1) + k) a (omega arith), e)
 
--- The entry at an offset: the length of its content where the bytes from there on have no fault, else the refusal of their first fault.
-check-is : (l : List ℕ) (at : ℕ) → checkEntry l at ≡ judgedEntry at (entryFaults (drop at l)) (Done (twoBytesAt (drop at l) 0))
+-- The entry at an offset: its label and the length of its content where the bytes from there on have no fault, else the refusal of their first fault.
+check-is : (l : List ℕ) (at : ℕ) → checkEntry l at ≡ judgedEntry at (entryFaults (drop at l)) (Read (entryLabel (drop at l)) (twoBytesAt (drop at l) 0))
 unfolding checkEntry checkContent entryFaults
 check-is l at = rw (entry-is l at) (go (entryWhole (drop at l)) refl)
   where
-    d : List ℕ
-    d = drop at l
-
     n : ℕ
     n = twoBytesAt (drop at l) 0
 
+    found : Item
+    found = Read (entryLabel (drop at l)) (twoBytesAt (drop at l) 0)
+
     labelled : (b : Bool) → at + entryLead + n ≤ length l
-        → cond b (cond (leb (at + entryLead + n) (firstLow l (at + entryLead) n)) (Done n) (Refused (refusal badByte (firstLow l (at + entryLead) n) 0)))
-        (Refused (refusal badList at 0))
-        ≡ judgedEntry at (ask b (atLine badList 0 0) ++ lowBytes 0 0 (entryContent (drop at l))) (Done n)
-    labelled true h = rw (drop-drop entryLead at l) (low-is l n (at + entryLead) at 0 (Done n) refl h)
+        → cond b (cond (leb (at + entryLead + n) (firstLow l (at + entryLead) n)) found (Item.Refused (refusal badByte (firstLow l (at + entryLead) n) 0)))
+        (Item.Refused (refusal badList at 0))
+        ≡ judgedEntry at (ask b (atLine badList 0 0) ++ lowBytes 0 0 (entryContent (drop at l))) found
+    labelled true h = rw (drop-drop entryLead at l) (low-is l n (at + entryLead) at 0 found refl h)
     labelled false h = rw (add-zero at)
 
     go : (b : Bool) → entryWhole (drop at l) ≡ b
-        → byHead (headOf b (drop at l)) (Refused (refusal badList at 0)) (λ label m. checkContent l at label m)
-        ≡ judgedEntry at (ask (b && leb (entryLabel (drop at l)) maxLabel) (atLine badList 0 0) ++ lowBytes 0 0 (entryContent (drop at l))) (Done n)
+        → byHead (headOf b (drop at l)) (Item.Refused (refusal badList at 0)) (λ label m. checkContent l at label m)
+        ≡ judgedEntry at (ask (b && leb (entryLabel (drop at l)) maxLabel) (atLine badList 0 0) ++ lowBytes 0 0 (entryContent (drop at l))) found
     go true e = labelled (leb (entryLabel (drop at l)) maxLabel) (omega (arith, whole-back l at (entry-is l at ∙ ap (λ (b : Bool). headOf b (drop at l)) e) .within))
     go false e = rw (add-zero at)
+
+digits-high : (c : List ℕ) → allDigits c ≡ true → High c
+digits-high [] e = tt
+digits-high (b ∷ c) e =
+    let d : digit b ≡ true = and-left (digit b) (allDigits c) e in
+    (omega (arith, leb-true digitZero b (and-left (leb digitZero b) _ d)), digits-high c (and-right (digit b) (allDigits c) e))
+
+-- an entry whose content is digits keeps 6
+pub digits-kept : (l : List ℕ) (at : ℕ) {label m : ℕ} → entryAt l at ≡ Whole label m → label ≤ maxLabel → allDigits (contentOf l at m) ≡ true → checkEntry l at ≡ Read label m
+unfolding entryFaults
+digits-kept l at {label} {m} e h q =
+    let w = whole-back l at e in
+    let k : leb (entryLabel (drop at l)) maxLabel ≡ true = le-leb (entryLabel (drop at l)) maxLabel (omega (arith, w .kind-so)) in
+    let c : lowBytes 0 0 (entryContent (drop at l)) ≡ [] = lows-none 0 0 (entryContent (drop at l)) (digits-high (entryContent (drop at l)) (ap allDigits (sym (w .content-so)) ∙ q)) in
+    let n : twoBytesAt (drop at l) 0 ≡ m = omega (arith, w .width-so) in
+    check-is l at ∙ (rw (w .whole, k, c) (ap₂ Read (sym (w .kind-so)) n))
 
 -- what the check tells of the pieces, with n entries before them
 abbrev pub summary : ℕ → Reply Parsed → Checked
@@ -159,7 +203,7 @@ entry-then : (l : List ℕ) (at n : ℕ) (k : ℕ → List ℕ → Reply Parsed)
     → afterEntry (checkEntry l at) f ≡ summary n (pieceThen entryForm (entryFaults (drop at l)) at (drop at l) k)
 entry-then l at n k f h = rw (check-is l at) (go (entryFaults (drop at l)))
   where
-    go : (xs : List Fault) → afterEntry (judgedEntry at xs (Done (twoBytesAt (drop at l) 0))) f ≡ summary n (pieceThen entryForm xs at (drop at l) k)
+    go : (xs : List Fault) → afterEntry (judgedEntry at xs (Read (entryLabel (drop at l)) (twoBytesAt (drop at l) 0))) f ≡ summary n (pieceThen entryForm xs at (drop at l) k)
     go [] =
         let w : ℕ = entryWidth (drop at l) in
         h (twoBytesAt (drop at l) 0)

@@ -1,37 +1,43 @@
--- 8, 9 and 11 to 16 over a list's entries: what each `return` of the pass has to show, and what the walk finds: the first fault of the rules of `meaning`.
+-- 8, 9 and 11 to 16 over a list's entries: one entry of the walk, that line 1 and line 2 are never refused, and what the walk finds: the first fault of the rules of `meaning`.
 -- Assumes nothing.
 use mathlib.Core.Path.{_≡_, refl, sym, ap, ap₂, _∙_, subst}
-use mathlib.Core.Bool.{Bool, true, false, cond}
+use mathlib.Core.Bool.{Bool, true, false, cond, _&&_}
 use mathlib.Core.List.{List, [], _∷_, _++_, cons≢nil}
-use Prim.Native.Nat.{ℕ, zero, suc, _+_, _-_, _≤_, _<_}
+use Prim.Native.Nat.{ℕ, zero, suc, _+_, _-_}
 use native.Mathlib.Numerals.{add-one}
 use native.Mathlib.Omega.{arith}
 use lib.Dec.{eqb}
-use lib.ListN.{length, take, drop}
+use lib.ListN.{length, set, take, drop}
 use borrow.Author.Tests.{eqb-true, eq-eqb, ne-eqb}
 use Rattle.meaning.specs.declared.Refusal.{Refusal}
 use Rattle.meaning.specs.declared.Known.{Known}
 use Rattle.meaning.specs.declared.Known.the-variants.{Of, Nothing}
 use Rattle.meaning.specs.declared.SetType.{SetType}
+use Rattle.meaning.specs.declared.SetType.the-variants.{T6300, T6301, T6302, T6310, T6311}
+use Rattle.meaning.specs.Limits.{typeOf}
+use Rattle.meaning.specs.Digits.{number, allDigits}
 use Rattle.meaning.specs.Field.{Field, field}
-use Rattle.meaning.specs.Refusals.{start, refusal, noStart, unknownSet, badList}
+use Rattle.meaning.specs.Refusals.{start, refusal, noStart, unknownSet}
 use Rattle.meaning.specs.Entries.{entryLead, listSize}
-use Rattle.meaning.specs.Tables.{table}
+use Rattle.meaning.specs.Kinds.{isAlnum, ofKind}
+use Rattle.meaning.specs.FieldTable.{fieldTable, fieldRowIn, fieldRow, hasLength, fitsRow, fitsLabel}
+use Rattle.meaning.specs.Tables.{rows6300, rows6301, rows6302, rows6310, rows6311, table, rowLabel}
 use Rattle.meaning.specs.Groups as G
-use Rattle.meaning.specs.Rules.{profile, typeNamed, labelIs, isKnown, typeKnown, startFaults, ruleFaults}
+use Rattle.meaning.specs.Rules.{profile, typeDigits, typeNamed, labelIs, isKnown, typeKnown, startFaults, ruleFaults}
 use Rattle.meaning.specs.Lists.{inList}
 use Rattle.meaning.specs.Answers.{noRefusal}
-use Rattle.entries.specs.declared.Head.the-variants.{Whole, Cut}
+use Rattle.meaning.proofs.Bools.{and-left, and-right}
+use Rattle.tables.specs.LookUp.{findFrom}
+use Rattle.entries.specs.declared.Head.the-variants.{Whole}
 use Rattle.entries.specs.Head.{entryAt}
-use Rattle.lacks.specs.Lacks.{State, begin, finish, stateOf}
+use Rattle.lacks.specs.Lacks.{orElse, State, noFlags, begin, lackUnder, groupLack, openLack, firstLack, stateOf}
 use Rattle.lacks.proofs.FirstLaws.{firstOf, Real, real-append}
 use Rattle.lacks.proofs.FlagLaws.{Same, begin-same}
 use Rattle.steps.specs.declared.Step.{Step}
-use Rattle.steps.specs.Steps.{rowOf, Stepped}
+use Rattle.steps.specs.Steps.{rowOf, againNo, placeNo, labelNo, versionNo, contentNo, lineNo, nextState, staysIn, Stepped}
 use Rattle.steps.proofs.SameLaws.{whole, pass-line, pass-finish}
 use Rattle.rules.proofs.JudgeLaws.{middle, real-middle, ofType, starts, real-starts, whole-found}
-use Rattle.lists.proofs.PartLaws.{one-more, none-left}
-use Rattle.writer.specs.Writing.{stepThen, entriesPass, setPass, byKnown, firstEntry, judgeEntries}
+use Rattle.writer.specs.Writing.{stepThen, entriesPass, row8000, started, byKnown, firstEntry, judgeEntries}
 use Rattle.writer.proofs.CheckLaws.{Reads}
 
 -- ---- one line, as the code takes it
@@ -44,90 +50,77 @@ module _ (kind : SetType) (st : State) (lack : Refusal) (at l : ℕ) (c : List �
   pub step-on : r .no ≡ 0 → stepThen kind st lack at l c F ≡ F (stateOf (r .group) members top) (r .group .lack)
   step-on g = rw (← e .number, g) (ap₂ F (sym (e .state g)) (sym (e .lack-so g)))
 
--- ---- the entries behind the first: no more, a head that is cut, an entry that is refused, an entry more
+-- ---- an entry behind the first: it is refused, or the pass goes on
 
-module _ (l : List ℕ) (kind : SetType) (at : ℕ) (st : State) (lack : Refusal) (k n : ℕ) where
-  pub pass-end : n ≤ k → entriesPass l kind at st lack (n - k) ≡ finish kind st lack
+module _ (l : List ℕ) (kind : SetType) (at : ℕ) (st : State) (lack : Refusal) (label m : ℕ) (q : entryAt l at ≡ Whole label m) (w : ℕ) (v : w ≡ m) (r : Step) (members top : List Bool)
+    (e : Stepped (rowOf kind label) kind st lack at label (take w (drop (at + entryLead) l)) r members top) where
+  abbrev rest : ℕ → State → Refusal → Refusal
+  rest n st′ lack′ = entriesPass l kind (at + (entryLead + m)) st′ lack′ n
+
+  here : (n : ℕ) → entriesPass l kind at st lack (suc n) ≡ stepThen kind st lack at label (take w (drop (at + entryLead) l)) (rest n)
   unfolding entriesPass
-  pass-end h = rw (none-left h)
+  here n = rw (q, v)
 
-  module _ (h : k < n) where
-    pub pass-cut : entryAt l at ≡ Cut → entriesPass l kind at st lack (n - k) ≡ refusal badList at 0
-    unfolding entriesPass
-    pass-cut q = rw (one-more h, q)
+  pub pass-bad : (r .no ≡ 0 → ⊥) → (n : ℕ) → entriesPass l kind at st lack (suc n) ≡ refusal (r .no) at label
+  pass-bad g n = here n ∙ step-bad kind st lack at label (take w (drop (at + entryLead) l)) r members top e (rest n) g
 
-    module _ (label m : ℕ) (q : entryAt l at ≡ Whole label m) (w : ℕ) (v : w ≡ m) (r : Step) (members top : List Bool)
-        (e : Stepped (rowOf kind label) kind st lack at label (take w (drop (at + entryLead) l)) r members top) where
-      abbrev rest : State → Refusal → Refusal
-      rest st′ lack′ = entriesPass l kind (at + (entryLead + m)) st′ lack′ (n - (k + 1))
-
-      here : entriesPass l kind at st lack (n - k) ≡ stepThen kind st lack at label (take w (drop (at + entryLead) l)) rest
-      unfolding entriesPass
-      here = rw (one-more h, q, v)
-
-      pub pass-bad : (r .no ≡ 0 → ⊥) → entriesPass l kind at st lack (n - k) ≡ refusal (r .no) at label
-      pass-bad g = here ∙ step-bad kind st lack at label (take w (drop (at + entryLead) l)) r members top e rest g
-
-      pub pass-on : r .no ≡ 0 → (end : ℕ) → end ≡ at + (entryLead + m)
-          → entriesPass l kind at st lack (n - k) ≡ entriesPass l kind end (stateOf (r .group) members top) (r .group .lack) (n - (k + 1))
-      pass-on g end x =
-          here ∙ (step-on kind st lack at label (take w (drop (at + entryLead) l)) r members top e rest g
-          ∙ ap (λ (y : ℕ). entriesPass l kind y (stateOf (r .group) members top) (r .group .lack) (n - (k + 1))) (sym x))
+  pub pass-on : r .no ≡ 0 → (n : ℕ) → entriesPass l kind at st lack (suc n) ≡ entriesPass l kind (at + (entryLead + m)) (stateOf (r .group) members top) (r .group .lack) n
+  pass-on g n = here n ∙ step-on kind st lack at label (take w (drop (at + entryLead) l)) r members top e (rest n) g
 
 -- ---- line 1 and line 2
 
-module _ (l : List ℕ) (kind : SetType) (m n : ℕ) (sum : List ℕ) (lack : Refusal) (z : lack ≡ noRefusal) (w : ℕ) (v : w ≡ m) (r₁ : Step) (members₁ top₁ : List Bool)
-    (e₁ : Stepped (rowOf kind 8000) kind begin lack 0 8000 (take w (drop entryLead l)) r₁ members₁ top₁) where
-  abbrev behind : State → Refusal → Refusal
-  behind st lack = stepThen kind st lack 0 8100 sum (λ st′ lack′. entriesPass l kind (entryLead + m) st′ lack′ (n - 1))
+-- a content that names a type
+pub record FourDigits (c : List ℕ) : Type 0 where
+  pub four : length c ≡ typeDigits
+  pub all-digits : allDigits c ≡ true
 
-  set-here : setPass l kind m n sum ≡ stepThen kind begin lack 0 8000 (take w (drop entryLead l)) behind
-  unfolding setPass
-  set-here = rw (z, v)
+pub type-digits : (c : List ℕ) {kind : SetType} → typeNamed c ≡ Of kind → FourDigits c
+unfolding typeNamed
+type-digits c {kind} e = go (eqb (length c) typeDigits && allDigits c) refl e
+  where
+    go : (b : Bool) → eqb (length c) typeDigits && allDigits c ≡ b → cond b (typeOf (number c)) Nothing ≡ Of kind → FourDigits c
+    go true q h = record { four = eqb-true (length c) typeDigits (and-left (eqb (length c) typeDigits) _ q); all-digits = and-right (eqb (length c) typeDigits) _ q }
+    go false q h = let z : _≡_ {A = ℕ} 0 1 = cc in absurd (omega arith)
 
-  pub first-bad : (r₁ .no ≡ 0 → ⊥) → refusal (r₁ .no) 0 8000 ≡ setPass l kind m n sum
-  first-bad g = sym (set-here ∙ step-bad kind begin lack 0 8000 (take w (drop entryLead l)) r₁ members₁ top₁ e₁ behind g)
+type-fits : (c : List ℕ) → length c ≡ typeDigits → fitsLabel 8000 c ≡ true
+unfolding fitsLabel fitsRow fieldRow fieldRowIn fieldTable rowLabel hasLength ofKind isAlnum
+type-fits c e = rw e
 
-  module _ (g₁ : r₁ .no ≡ 0) (r₂ : Step) (members₂ top₂ : List Bool)
-      (e₂ : Stepped (rowOf kind 8100) kind (stateOf (r₁ .group) members₁ top₁) (r₁ .group .lack) 0 8100 sum r₂ members₂ top₂) where
-    set-second : setPass l kind m n sum ≡ behind (stateOf (r₁ .group) members₁ top₁) (r₁ .group .lack)
-    set-second = set-here ∙ step-on kind begin lack 0 8000 (take w (drop entryLead l)) r₁ members₁ top₁ e₁ behind g₁
+-- behind line 1
+abbrev begun : State
+begun = record { header = 8000; place = 0; members = noFlags; top = set noFlags row8000 true }
 
-    abbrev others : State → Refusal → Refusal
-    others st′ lack′ = entriesPass l kind (entryLead + m) st′ lack′ (n - 1)
+line-1 : (kind : SetType) (c : List ℕ) (F : State → Refusal → Refusal) → fitsLabel 8000 c ≡ true → stepThen kind begin noRefusal 0 8000 c F ≡ F begun noRefusal
+unfolding table rows6300 rows6301 rows6302 rows6310 rows6311 findFrom rowLabel lineNo labelNo placeNo againNo contentNo versionNo nextState staysIn orElse openLack firstLack
+line-1 T6300 c F e = rw e
+line-1 T6301 c F e = rw e
+line-1 T6302 c F e = rw e
+line-1 T6310 c F e = rw e
+line-1 T6311 c F e = rw e
 
-    pub second-bad : (r₂ .no ≡ 0 → ⊥) → refusal (r₂ .no) 0 8100 ≡ setPass l kind m n sum
-    second-bad g = sym (set-second ∙ step-bad kind (stateOf (r₁ .group) members₁ top₁) (r₁ .group .lack) 0 8100 sum r₂ members₂ top₂ e₂ others g)
-
-    pub second-on : r₂ .no ≡ 0 → entriesPass l kind (entryLead + m) (stateOf (r₂ .group) members₂ top₂) (r₂ .group .lack) (n - 1) ≡ setPass l kind m n sum
-    second-on g = sym (set-second ∙ step-on kind (stateOf (r₁ .group) members₁ top₁) (r₁ .group .lack) 0 8100 sum r₂ members₂ top₂ e₂ others g)
+line-2 : (kind : SetType) (c : List ℕ) (F : State → Refusal → Refusal) → fitsLabel 8100 c ≡ true → stepThen kind begun noRefusal 0 8100 c F ≡ F started noRefusal
+unfolding table rows6300 rows6301 rows6302 rows6310 rows6311 findFrom rowLabel lineNo labelNo placeNo againNo contentNo versionNo nextState staysIn orElse openLack firstLack groupLack lackUnder
+line-2 T6300 c F e = rw e
+line-2 T6301 c F e = rw e
+line-2 T6302 c F e = rw e
+line-2 T6310 c F e = rw e
+line-2 T6311 c F e = rw e
 
 -- ---- 8 and 9
 
-module _ (l : List ℕ) (label m n : ℕ) (sum : List ℕ) where
-  pub first-other : (label ≡ 8000 → ⊥) → refusal noStart 0 0 ≡ firstEntry l label m n sum
+module _ (l : List ℕ) (label m n : ℕ) where
+  pub first-other : (label ≡ 8000 → ⊥) → firstEntry l label m n ≡ refusal noStart 0 0
   unfolding firstEntry
   first-other h = rw (ne-eqb label 8000 h)
 
   module _ (h : label ≡ 8000) (w : ℕ) (v : w ≡ m) where
-    first-so : firstEntry l label m n sum ≡ byKnown (typeNamed (take w (drop entryLead l))) (refusal unknownSet 0 0) (λ kind. setPass l kind m n sum)
+    pub first-unknown : typeNamed (take w (drop entryLead l)) ≡ Nothing → firstEntry l label m n ≡ refusal unknownSet 0 0
     unfolding firstEntry
-    first-so = rw (eq-eqb label 8000 h, v)
+    first-unknown e = rw (eq-eqb label 8000 h, ← v, e)
 
-    pub first-unknown : typeNamed (take w (drop entryLead l)) ≡ Nothing → refusal unknownSet 0 0 ≡ firstEntry l label m n sum
-    first-unknown e = sym (first-so ∙ ap (λ (k : Known). byKnown k (refusal unknownSet 0 0) (λ kind. setPass l kind m n sum)) e)
-
-    pub first-known : {kind : SetType} → typeNamed (take w (drop entryLead l)) ≡ Of kind → setPass l kind m n sum ≡ firstEntry l label m n sum
-    first-known e = sym (first-so ∙ ap (λ (k : Known). byKnown k (refusal unknownSet 0 0) (λ kind. setPass l kind m n sum)) e)
-
-module _ (l : List ℕ) (n : ℕ) (sum : List ℕ) where
-  pub judge-cut : entryAt l 0 ≡ Cut → refusal badList 0 0 ≡ judgeEntries l n sum
-  unfolding judgeEntries
-  judge-cut e = rw e
-
-  pub judge-whole : {label m : ℕ} → entryAt l 0 ≡ Whole label m → firstEntry l label m n sum ≡ judgeEntries l n sum
-  unfolding judgeEntries
-  judge-whole e = rw e
+    pub first-known : {kind : SetType} → typeNamed (take w (drop entryLead l)) ≡ Of kind → firstEntry l label m n ≡ entriesPass l kind (entryLead + m) started noRefusal (n - 1)
+    unfolding firstEntry
+    first-known e = rw (eq-eqb label 8000 h, ← v, e)
 
 -- ---- what the pass finds
 
@@ -159,39 +152,43 @@ module _ (l : List ℕ) (kind : SetType) (es : List Field) where
       ∙ ap (λ (k : ℕ). whole kind (inList es) ms′ k fs lack′) (sym (add-one (suc j)))))
 
 -- all lines: line 1, line 2, and the others
-set-found : (l : List ℕ) (kind : SetType) (c : List ℕ) (fs : List Field) (sum : List ℕ) → Reads l 0 (field 8000 c ∷ fs)
-    → setPass l kind (length c) (suc (length fs)) sum ≡ firstOf (inList (field 8000 c ∷ fs)) (middle (ofType kind) (field 8000 c ∷ field 8100 sum ∷ fs))
-unfolding setPass
-set-found l kind c fs sum rd =
+set-found : (l : List ℕ) (kind : SetType) (c : List ℕ) (fs : List Field) (sum : List ℕ) → Reads l 0 (field 8000 c ∷ fs) → fitsLabel 8000 c ≡ true → fitsLabel 8100 sum ≡ true
+    → entriesPass l kind (entryLead + length c) started noRefusal (length fs)
+    ≡ firstOf (inList (field 8000 c ∷ fs)) (middle (ofType kind) (field 8000 c ∷ field 8100 sum ∷ fs))
+set-found l kind c fs sum rd g₁ g₂ =
     let es : List Field = field 8000 c ∷ fs in
     let p : entryLead + length c ≡ inList es 2 start = omega arith in
-    let n : suc (length fs) - 1 ≡ length fs = omega arith in
     let rd′ : Reads l (entryLead + length c) fs = subst (λ (a : ℕ). Reads l a fs) (omega arith) (rd .2) in
-    rw (rd .1, n) (
+    let others : State → Refusal → Refusal = λ st lack. entriesPass l kind (entryLead + length c) st lack (length fs) in
+    let both : stepThen kind begin noRefusal 0 8000 c (λ st lack. stepThen kind st lack 0 8100 sum others) ≡ others started noRefusal =
+    line-1 kind c (λ st lack. stepThen kind st lack 0 8100 sum others) g₁ ∙ line-2 kind sum others g₂ in
+    sym both ∙ (
     pass-line kind (inList es) (field 8000 c) (field 8100 sum ∷ fs) 0 0 begin G.first noRefusal (begin-same kind (inList es) refl) refl
-    (λ st lack. stepThen kind st lack 0 8100 sum (λ st′ lack′. entriesPass l kind (entryLead + length c) st′ lack′ (length fs)))
-    (λ st ms lack sm. pass-line kind (inList es) (field 8100 sum) fs 0 (0 + 1) st ms lack sm refl (λ st′ lack′. entriesPass l kind (entryLead + length c) st′ lack′ (length fs))
+    (λ st lack. stepThen kind st lack 0 8100 sum others)
+    (λ st ms lack sm. pass-line kind (inList es) (field 8100 sum) fs 0 (0 + 1) st ms lack sm refl others
     (λ st′ ms′ lack′ sm′. later-found l kind es fs (entryLead + length c) 1 st′ ms′ lack′ rd′ p refl sm′))
     ∙ whole-found kind (inList es) (field 8000 c ∷ field 8100 sum ∷ fs))
 
 -- "then 8, 9, and 11 to 16": the first fault of the entries, with the sum put in behind the first
-pub entries-found : (l : List ℕ) (f : Field) (fs : List Field) (sum : List ℕ) → Reads l 0 (f ∷ fs)
-    → judgeEntries l (length (f ∷ fs)) sum ≡ firstOf (inList (f ∷ fs)) (ruleFaults (f ∷ field 8100 sum ∷ fs))
+pub entries-found : (l : List ℕ) (f : Field) (fs : List Field) (sum : List ℕ) → Reads l 0 (f ∷ fs) → fitsLabel 8100 sum ≡ true
+    → judgeEntries l (length (f ∷ fs)) ≡ firstOf (inList (f ∷ fs)) (ruleFaults (f ∷ field 8100 sum ∷ fs))
 unfolding judgeEntries firstEntry ruleFaults startFaults profile
-entries-found l f fs sum rd = rw (rd .0, rd .1) (go (eqb (f .label) 8000) refl (typeNamed (f .content)) refl)
+entries-found l f fs sum rd g = rw (rd .0, rd .1) (go (eqb (f .label) 8000) refl (typeNamed (f .content)) refl)
   where
     all : List Field
     all = f ∷ field 8100 sum ∷ fs
 
     go : (a : Bool) → eqb (f .label) 8000 ≡ a → (k : Known) → typeNamed (f .content) ≡ k
-        → cond a (byKnown k (refusal unknownSet 0 0) (λ kind. setPass l kind (length (f .content)) (suc (length fs)) sum)) (refusal noStart 0 0)
+        → cond a (byKnown k (refusal unknownSet 0 0) (λ kind. entriesPass l kind (entryLead + length (f .content)) started noRefusal (suc (length fs) - 1))) (refusal noStart 0 0)
         ≡ firstOf (inList (f ∷ fs)) (starts a (isKnown k) true ++ middle (record { setType = k }) all)
     go false e k q = refl
     go true e Nothing q = refl
     go true e (Of kind) q =
         let x : field 8000 (f .content) ≡ f = λ i. record { label = sym (eqb-true (f .label) 8000 e) i; content = f .content } in
-        subst (λ (y : Field). setPass l kind (length (y .content)) (suc (length fs)) sum ≡ firstOf (inList (y ∷ fs)) (middle (ofType kind) (y ∷ field 8100 sum ∷ fs))) x
-        (set-found l kind (f .content) fs sum (subst (λ (y : Field). Reads l 0 (y ∷ fs)) (sym x) rd))
+        let n : suc (length fs) - 1 ≡ length fs = omega arith in
+        rw n (subst (λ (y : Field). entriesPass l kind (entryLead + length (y .content)) started noRefusal (length fs)
+        ≡ firstOf (inList (y ∷ fs)) (middle (ofType kind) (y ∷ field 8100 sum ∷ fs))) x
+        (set-found l kind (f .content) fs sum (subst (λ (y : Field). Reads l 0 (y ∷ fs)) (sym x) rd) (type-fits (f .content) (type-digits (f .content) q .four)) g))
 
 -- its number says whether there is one
 pub rules-real : (fs : List Field) → Real (ruleFaults fs)

@@ -1,3 +1,4 @@
 pub mod CheckLaws
 pub mod EntryPass
+pub mod OnceLaws
 pub mod WriteLaws

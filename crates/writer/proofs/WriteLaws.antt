@@ -3,13 +3,15 @@
 use mathlib.Core.Path.{_≡_, refl, sym, ap, ap₂, _∙_, subst}
 use mathlib.Core.Bool.{Bool, true, false, cond, _&&_}
 use mathlib.Core.List.{List, [], _∷_, _++_, append-assoc, append-nil}
-use Prim.Native.Nat.{ℕ, _+_, _-_, _*_, _≤_, _<_}
+use Prim.Native.Nat.{ℕ, suc, _+_, _-_, _*_, _≤_, _<_}
 use native.Mathlib.Omega.{arith}
 use lib.Dec.{leb, eqb}
-use lib.ListN.{length, take, drop, replicate, length-append, drop-of-length-le}
+use lib.ListN.{length, set, take, drop, replicate, length-append}
+use lib.Seq.{sets-eq}
 use borrow.Author.Tests.{le-leb, lt-leb, eq-eqb, ne-eqb, eqb-true, eqb-false}
 use borrow.Rule.Slice.PartMut.{midOf, putMid}
 use Rattle.meaning.specs.declared.Refusal.{Refusal}
+use Rattle.meaning.specs.declared.Known.the-variants.{Nothing}
 use Rattle.meaning.specs.declared.Made.the-variants.{Done, Refused}
 use Rattle.meaning.specs.Limits.{maxEntries, maxSetBytes}
 use Rattle.meaning.specs.Digits.{digits}
@@ -18,20 +20,23 @@ use Rattle.meaning.specs.Refusals.{Spot, Fault, Reply, refused, done, thenTo, v
 use Rattle.meaning.specs.Pieces.{parsed, pieces}
 use Rattle.meaning.specs.Lines.{cr, lf, lineLead, lineEnd, lineSize, lineThen, size, render}
 use Rattle.meaning.specs.Entries.{entryLead, entryForm, listSize}
-use Rattle.meaning.specs.Rules.{ruleFaults}
-use Rattle.meaning.specs.Lists.{withSum, inList, setWithRoom, write}
+use Rattle.meaning.specs.FieldTable.{fitsLabel}
+use Rattle.meaning.specs.Rules.{fits, ruleFaults}
+use Rattle.meaning.specs.Lists.{sumDigits, withSum, inList, setWithRoom, write}
 use Rattle.meaning.specs.Answers.{made, bytesLeft, writeCall}
 use Rattle.meaning.proofs.DigitLaws.{length-digits}
+use Rattle.meaning.proofs.FieldLaws.{fits-sum}
 use Rattle.meaning.proofs.LineLaws.{length-line, length-render, render-split}
 use Rattle.entries.specs.declared.Head.the-variants.{Whole, Cut}
 use Rattle.entries.specs.Head.{entryAt}
 use Rattle.lacks.proofs.FirstLaws.{firstOf, Real}
 use Rattle.buffers.specs.Places.{over}
 use Rattle.buffers.proofs.LendLaws.{length-over}
+use Rattle.writer.specs.declared.Checked.{Checked}
 use Rattle.writer.specs.declared.Checked.the-variants.{Done as Counted, Refused as Unchecked}
-use Rattle.writer.specs.Writing.{contentOf, checkFrom, judgeEntries, entryLines, linesFrom}
+use Rattle.writer.specs.Writing.{contentOf, checkFrom, judgeEntries, doneUnless, ruled, judgedList, entryLines, linesFrom}
 use Rattle.lists.proofs.PartLaws.{one-more, none-left}
-use Rattle.lists.proofs.OverLaws.{over-then, over-lent, front-then-zeros}
+use Rattle.lists.proofs.OverLaws.{over-then, front-then-zeros}
 use Rattle.lists.proofs.ListLaws.{sizes}
 use Rattle.writer.proofs.CheckLaws.{Reads, check-entered, check-refused}
 use Rattle.writer.proofs.EntryPass.{entries-found, rules-real}
@@ -42,30 +47,33 @@ line-then : (f : Field) (t : List ℕ) → lineThen f [] ++ t ≡ lineThen f t
 line-then f t = sym (render-split (f ∷ []) t)
 
 -- length, label, content and end, each put behind what stands
-pub line-put : (b b₁ b₂ y₃ y₄ c : List ℕ) (l to : ℕ) → to + (length c + (lineLead + lineEnd)) ≤ length b
+pub line-put : (b b₁ b₂ b₃ b₄ c : List ℕ) (l to : ℕ) → to + (length c + (lineLead + lineEnd)) ≤ length b
     → b₁ ≡ over to (digits 3 (length c + 9)) b
     → b₂ ≡ over (to + 3) (digits 4 l) b₁
-    → y₃ ≡ c ++ drop (length c) (midOf (to + 7) (length b₂ - (to + 7)) b₂)
-    → let b₃ : List ℕ = putMid (to + 7) (length b₂ - (to + 7)) b₂ y₃ in
-    let end : ℕ = to + 7 + length c in
-    y₄ ≡ cr ∷ lf ∷ drop 2 (midOf end (length b₃ - end) b₃)
-    → putMid end (length b₃ - end) b₃ y₄ ≡ over to (lineThen (field l c) []) b
-line-put b b₁ b₂ y₃ y₄ c l to h e₁ e₂ e₃ e₄ =
-    let b₃ : List ℕ = putMid (to + 7) (length b₂ - (to + 7)) b₂ y₃ in
-    let end : ℕ = to + 7 + length c in
+    → b₃ ≡ over (to + 7) c b₂
+    → b₄ ≡ over (to + 7 + length c) (cr ∷ lf ∷ []) b₃
+    → b₄ ≡ over to (lineThen (field l c) []) b
+line-put b b₁ b₂ b₃ b₄ c l to h e₁ e₂ e₃ e₄ =
     let three : List ℕ = digits 3 (length c + 9) in
     let four : List ℕ = digits 4 l in
     let lead : List ℕ = three ++ four in
-    let crlf : List ℕ = 13 ∷ 10 ∷ [] in
+    let crlf : List ℕ = cr ∷ lf ∷ [] in
     let n₂ : length (three ++ four) ≡ 7 = refl in
     let n₃ : length (lead ++ c) ≡ 7 + length c = length-append lead c in
     let n₄ : length ((lead ++ c) ++ crlf) ≡ 7 + length c + 2 = length-append (lead ++ c) crlf ∙ omega (arith, n₃) in
     let a₂ : b₂ ≡ over to lead b = e₂ ∙ (ap (over (to + 3) four) e₁ ∙ over-then b to three four (omega (arith, n₂))) in
-    let a₃ : b₃ ≡ over to (lead ++ c) b = over-lent b₂ y₃ (to + 7) c e₃ ∙ (ap (over (to + 7) c) a₂ ∙ over-then b to lead c (omega (arith, n₃))) in
-    let q : to + length (lead ++ c) ≡ end = omega (arith, n₃) in
-    over-lent b₃ y₄ end crlf e₄
+    let a₃ : b₃ ≡ over to (lead ++ c) b = e₃ ∙ (ap (over (to + 7) c) a₂ ∙ over-then b to lead c (omega (arith, n₃))) in
+    let q : to + length (lead ++ c) ≡ to + 7 + length c = omega (arith, n₃) in
+    e₄
     ∙ (ap₂ (λ (m : ℕ) (u : List ℕ). over m crlf u) (sym q) a₃
     ∙ (over-then b to (lead ++ c) crlf (omega (arith, n₄)) ∙ ap (λ (u : List ℕ). over to u b) (append-assoc lead c crlf ∙ append-assoc three four (c ++ crlf))))
+
+-- the end of a line, byte by byte
+pub end-put : (b : List ℕ) (at : ℕ) → at + lineEnd ≤ length b → set (set b at cr) (at + 1) lf ≡ over at (cr ∷ lf ∷ []) b
+unfolding over
+end-put b at h =
+    let e : at + 1 ≡ suc at = omega arith in
+    rw e (sets-eq (cr ∷ lf ∷ []) b at h ∙ append-assoc (take at b) (cr ∷ lf ∷ []) (drop (at + 2) b))
 
 -- ---- the lines of one entry
 
@@ -194,12 +202,7 @@ totalOf l n = length l + n * 5 + 14
 
 -- the digits of its sum
 abbrev pub sumOf : List ℕ → ℕ → List ℕ
-sumOf l n = digits 5 (totalOf l n)
-
--- the digits fill their place
-pub sum-filled : (l : List ℕ) (n : ℕ) (b b′ : List ℕ) → length b ≡ 5 → b′ ≡ over 0 (sumOf l n) b → b′ ≡ sumOf l n
-unfolding over
-sum-filled l n b b′ h e = e ∙ (ap (λ (u : List ℕ). sumOf l n ++ u) (drop-of-length-le b {i = 0 + length (sumOf l n)} (omega (arith, h))) ∙ append-nil (sumOf l n))
+sumOf l n = digits sumDigits (totalOf l n)
 
 -- where a fault is found it is the answer, else what follows
 by-first : {A : Type 0} (pl : ℕ → Spot → ℕ) (xs : List Fault) (d : A) (k : A → Reply (List ℕ)) → Real xs
@@ -212,8 +215,11 @@ pub record Answers (l : List ℕ) (n : ℕ) : Type 0 where
   pub few : n ≤ maxEntries
   pub need : length (linesFrom l (sumOf l n) 0 0 n) ≡ totalOf l n
   pub answer : (room : ℕ) → write l room
-      ≡ cond (eqb (judgeEntries l n (sumOf l n) .no) 0)
-      (withRoom (leb (totalOf l n) room && leb (totalOf l n) maxSetBytes) (totalOf l n) (linesFrom l (sumOf l n) 0 0 n)) (refused (judgeEntries l n (sumOf l n)))
+      ≡ cond (eqb (judgeEntries l n .no) 0) (withRoom (leb (totalOf l n) room && leb (totalOf l n) maxSetBytes) (totalOf l n) (linesFrom l (sumOf l n) 0 0 n)) (refused (judgeEntries l n))
+
+sum-fits : (total : ℕ) → fitsLabel 8100 (digits sumDigits total) ≡ true
+unfolding fits
+sum-fits total = fits-sum (record { setType = Nothing }) total
 
 not-nil : (l : List ℕ) → 0 < length l → isNil l ≡ false
 not-nil [] h = absurd (omega arith)
@@ -232,7 +238,7 @@ module _ (l : List ℕ) (n : ℕ) (some : 0 < length l) where
       let put-in : withSum es ≡ all = ap (λ (x : ℕ). f ∷ field 8100 (digits 5 x) ∷ fs) total in
       let sized : size all ≡ totalOf l n = omega (arith, total, length-digits 5 (totalOf l n)) in
       let lines : linesFrom l sum 0 0 n ≡ render all [] = ap (linesFrom l sum 0 0) c ∙ all-lines l sum f fs rd in
-      let found : judgeEntries l n sum ≡ firstOf (inList es) (ruleFaults all) = ap (λ (x : ℕ). judgeEntries l x sum) c ∙ entries-found l f fs sum rd in
+      let found : judgeEntries l n ≡ firstOf (inList es) (ruleFaults all) = ap (judgeEntries l) c ∙ entries-found l f fs sum rd (sum-fits (totalOf l n)) in
       record {
         few = few;
         need = ap length lines ∙ (length-render all [] ∙ omega (arith, sized));
@@ -242,51 +248,62 @@ module _ (l : List ℕ) (n : ℕ) (some : 0 < length l) where
             (ap₂ (λ (m : ℕ) (u : List ℕ). withRoom (leb m room && leb m maxSetBytes) m u) sized (sym lines)));
       }
 
-  pub answers-are : checkFrom l 0 0 maxEntries ≡ Counted n → Answers l n
+  answers-are : checkFrom l 0 0 maxEntries ≡ Counted n → Answers l n
   answers-are e = let x = check-entered l n e in answers-of (x .entries) (x .left) (x .scanned) (x .count) (x .reads) (x .whole) (x .few)
 
+-- a list that is not refused
+list-done : (x : Checked) (f : ℕ → Refusal) {n : ℕ} → ruled x f ≡ Counted n → (x ≡ Counted n) × (f n .no ≡ 0)
+unfolding doneUnless
+list-done (Counted m) f {n} e = go (eqb (f m .no) 0) refl e
+  where
+    go : (b : Bool) → eqb (f m .no) 0 ≡ b → cond b (Counted m) (Unchecked (f m)) ≡ Counted n → (Counted m ≡ Counted n) × (f n .no ≡ 0)
+    go true q h = let z : m ≡ n = cc in (h, ap (λ (k : ℕ). f k .no) (sym z) ∙ eqb-true (f m .no) 0 q)
+    go false q h = let z : _≡_ {A = ℕ} 0 1 = cc in absurd (omega arith)
+list-done (Unchecked r) f e = let z : _≡_ {A = ℕ} 0 1 = cc in absurd (omega arith)
+
+module _ (l : List ℕ) (n : ℕ) (some : 0 < length l) (e : judgedList l ≡ Counted n) where
+  not-refused : (checkFrom l 0 0 maxEntries ≡ Counted n) × (judgeEntries l n .no ≡ 0)
+  unfolding judgedList
+  not-refused = list-done (checkFrom l 0 0 maxEntries) (λ n. judgeEntries l n) e
+
+  answers : Answers l n
+  answers = answers-are l n some (not-refused .0)
+
+  pub few-entries : n ≤ maxEntries
+  few-entries = answers .few
+
   -- the lines have as many bytes as is told
-  pub set-fits : checkFrom l 0 0 maxEntries ≡ Counted n → (sum : List ℕ) → sum ≡ sumOf l n → {room : ℕ} → totalOf l n ≤ room → length (linesFrom l sum 0 0 n) ≤ room
-  set-fits e sum s h = omega (arith, answers-are e .need, ap (λ (u : List ℕ). length (linesFrom l u 0 0 n)) s)
+  pub set-fits : {room : ℕ} → totalOf l n ≤ room → length (linesFrom l (sumOf l n) 0 0 n) ≤ room
+  set-fits h = omega (arith, answers .need)
 
-  module _ (e : checkFrom l 0 0 maxEntries ≡ Counted n) (b sum : List ℕ) (s : sum ≡ sumOf l n) (r : Refusal) (j : r ≡ judgeEntries l n sum) where
-    judged-so : r ≡ judgeEntries l n (sumOf l n)
-    judged-so = j ∙ ap (judgeEntries l n) s
+  module _ (b : List ℕ) where
+    by-room : write l (length b) ≡ withRoom (leb (totalOf l n) (length b) && leb (totalOf l n) maxSetBytes) (totalOf l n) (linesFrom l (sumOf l n) 0 0 n)
+    by-room = answers .answer (length b) ∙ rw (not-refused .1)
 
-    -- 8, 9, 11 to 16
-    pub answer-ruled : (r .no ≡ 0 → ⊥) → (Refused r ≡ writeCall l b .answer) × (b ≡ writeCall l b .buffer)
-    answer-ruled h =
-        let q : refused r ≡ write l (length b) = sym (answers-are e .answer (length b) ∙ rw (← judged-so, ne-eqb (r .no) 0 h)) in
+    -- 22: "over the buffer"
+    pub answer-full : length b < totalOf l n → (Refused (refusal noRoom (totalOf l n) 0) ≡ writeCall l b .answer) × (b ≡ writeCall l b .buffer)
+    answer-full g =
+        let q : refused (refusal noRoom (totalOf l n) 0) ≡ write l (length b) = sym (by-room ∙ rw (lt-leb (totalOf l n) (length b) g)) in
         (ap made q, ap (λ (x : Reply (List ℕ)). bytesLeft x b) q)
 
-    module _ (h : r .no ≡ 0) where
-      by-room : write l (length b) ≡ withRoom (leb (totalOf l n) (length b) && leb (totalOf l n) maxSetBytes) (totalOf l n) (linesFrom l (sumOf l n) 0 0 n)
-      by-room = answers-are e .answer (length b) ∙ rw (← judged-so, h)
-
-      -- 22: "over the buffer"
-      pub answer-full : length b < totalOf l n → (Refused (refusal noRoom (totalOf l n) 0) ≡ writeCall l b .answer) × (b ≡ writeCall l b .buffer)
-      answer-full g =
-          let q : refused (refusal noRoom (totalOf l n) 0) ≡ write l (length b) = sym (by-room ∙ rw (lt-leb (totalOf l n) (length b) g)) in
+    module _ (g : totalOf l n ≤ length b) where
+      -- 22: "or over 99,999"
+      pub answer-long : maxSetBytes < totalOf l n → (Refused (refusal noRoom (totalOf l n) 0) ≡ writeCall l b .answer) × (b ≡ writeCall l b .buffer)
+      answer-long m =
+          let q : refused (refusal noRoom (totalOf l n) 0) ≡ write l (length b) = sym (by-room ∙ rw (le-leb (totalOf l n) (length b) g, lt-leb (totalOf l n) maxSetBytes m)) in
           (ap made q, ap (λ (x : Reply (List ℕ)). bytesLeft x b) q)
 
-      module _ (g : totalOf l n ≤ length b) where
-        -- 22: "or over 99,999"
-        pub answer-long : maxSetBytes < totalOf l n → (Refused (refusal noRoom (totalOf l n) 0) ≡ writeCall l b .answer) × (b ≡ writeCall l b .buffer)
-        answer-long m =
-            let q : refused (refusal noRoom (totalOf l n) 0) ≡ write l (length b) = sym (by-room ∙ rw (le-leb (totalOf l n) (length b) g, lt-leb (totalOf l n) maxSetBytes m)) in
-            (ap made q, ap (λ (x : Reply (List ℕ)). bytesLeft x b) q)
-
-        -- the set at the front, and zeros behind it
-        pub answer-set : totalOf l n ≤ maxSetBytes → (b′ y : List ℕ) → b′ ≡ over 0 (linesFrom l sum 0 0 n) b
-            → y ≡ replicate (length (midOf (totalOf l n) (length b′ - totalOf l n) b′)) 0
-            → (Done (totalOf l n) ≡ writeCall l b .answer) × (putMid (totalOf l n) (length b′ - totalOf l n) b′ y ≡ writeCall l b .buffer)
-        answer-set m b′ y p z =
-            let x : List ℕ = linesFrom l (sumOf l n) 0 0 n in
-            let q : done x ≡ write l (length b) = sym (by-room ∙ rw (le-leb (totalOf l n) (length b) g, le-leb (totalOf l n) maxSetBytes m)) in
-            let need : totalOf l n ≡ length x = sym (answers-are e .need) in (
-              ap Done need ∙ ap made q,
-              front-then-zeros b b′ y x (totalOf l n) (p ∙ ap (λ (u : List ℕ). over 0 (linesFrom l u 0 0 n) b) s) need z ∙ ap (λ (u : Reply (List ℕ)). bytesLeft u b) q,
-            )
+      -- the set at the front, and zeros behind it
+      pub answer-set : totalOf l n ≤ maxSetBytes → (b′ y : List ℕ) → b′ ≡ over 0 (linesFrom l (sumOf l n) 0 0 n) b
+          → y ≡ replicate (length (midOf (totalOf l n) (length b′ - totalOf l n) b′)) 0
+          → (Done (totalOf l n) ≡ writeCall l b .answer) × (putMid (totalOf l n) (length b′ - totalOf l n) b′ y ≡ writeCall l b .buffer)
+      answer-set m b′ y p z =
+          let x : List ℕ = linesFrom l (sumOf l n) 0 0 n in
+          let q : done x ≡ write l (length b) = sym (by-room ∙ rw (le-leb (totalOf l n) (length b) g, le-leb (totalOf l n) maxSetBytes m)) in
+          let need : totalOf l n ≡ length x = sym (answers .need) in (
+            ap Done need ∙ ap made q,
+            front-then-zeros b b′ y x (totalOf l n) p need z ∙ ap (λ (u : Reply (List ℕ)). bytesLeft u b) q,
+          )
 
 -- 1
 pub answer-empty : (l b : List ℕ) → length l ≡ 0 → (Refused (refusal empty 0 0) ≡ writeCall l b .answer) × (b ≡ writeCall l b .buffer)
@@ -295,8 +312,22 @@ answer-empty [] b h = (refl, refl)
 answer-empty (x ∷ l) b h = absurd (omega arith)
 
 -- 7, 21, 6
-pub answer-unchecked : (l b : List ℕ) (r : Refusal) → 0 < length l → checkFrom l 0 0 maxEntries ≡ Unchecked r → (Refused r ≡ writeCall l b .answer) × (b ≡ writeCall l b .buffer)
+unchecked-so : (l : List ℕ) (room : ℕ) (r : Refusal) → 0 < length l → checkFrom l 0 0 maxEntries ≡ Unchecked r → write l room ≡ refused r
 unfolding write
-answer-unchecked l b r h e =
-    let q : refused r ≡ write l (length b) = sym (rw (not-nil l h, check-refused l r e)) in
+unchecked-so l room r h e = rw (not-nil l h, check-refused l r e)
+
+-- and 8, 9, 11 to 16
+pub answer-refused : (l b : List ℕ) (r : Refusal) → 0 < length l → judgedList l ≡ Unchecked r → (Refused r ≡ writeCall l b .answer) × (b ≡ writeCall l b .buffer)
+unfolding judgedList doneUnless
+answer-refused l b r h e =
+    let q : refused r ≡ write l (length b) = sym (go (checkFrom l 0 0 maxEntries) refl e) in
     (ap made q, ap (λ (x : Reply (List ℕ)). bytesLeft x b) q)
+  where
+    judged : (n : ℕ) (c : Bool) → checkFrom l 0 0 maxEntries ≡ Counted n → eqb (judgeEntries l n .no) 0 ≡ c
+        → cond c (Counted n) (Unchecked (judgeEntries l n)) ≡ Unchecked r → write l (length b) ≡ refused r
+    judged n true x q g = let z : _≡_ {A = ℕ} 0 1 = cc in absurd (omega arith)
+    judged n false x q g = let z : judgeEntries l n ≡ r = cc in answers-are l n h x .answer (length b) ∙ (rw q (ap refused z))
+
+    go : (x : Checked) → checkFrom l 0 0 maxEntries ≡ x → ruled x (λ n. judgeEntries l n) ≡ Unchecked r → write l (length b) ≡ refused r
+    go (Unchecked q) x g = let z : q ≡ r = cc in unchecked-so l (length b) q h x ∙ ap refused z
+    go (Counted n) x g = judged n (eqb (judgeEntries l n .no) 0) x refl g

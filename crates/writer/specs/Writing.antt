@@ -1,14 +1,16 @@
 -- The walks of `write` over a list's bytes, entry by entry: offsets and flags in the place of fields and labels.
--- Assumes nothing: these are definitions. What they mean is in proofs/CheckLaws (7, 21, 6), proofs/EntryPass (8, 9, 11 to 16) and proofs/WriteLaws (the lines).
-use mathlib.Core.Bool.{cond}
+-- Assumes nothing: these are definitions. What they mean is in proofs/CheckLaws (7, 21, 6), proofs/EntryPass (8, 9, 11 to 16), proofs/OnceLaws (both in one loop) and
+-- proofs/WriteLaws (the lines).
+use mathlib.Core.Bool.{true, cond}
 use mathlib.Core.List.{List, [], _++_}
 use Prim.Native.Nat.{ℕ, zero, suc, _+_, _-_}
 use lib.Dec.{leb, eqb}
-use lib.ListN.{length, take, drop}
+use lib.ListN.{length, set, take, drop}
 use Rattle.meaning.specs.declared.Refusal.{Refusal}
 use Rattle.meaning.specs.declared.Known.{Known}
 use Rattle.meaning.specs.declared.Known.the-variants.{Of, Nothing}
 use Rattle.meaning.specs.declared.SetType.{SetType}
+use Rattle.meaning.specs.Limits.{maxEntries}
 use Rattle.meaning.specs.Field.{field}
 use Rattle.meaning.specs.Refusals.{refusal, badByte, tooManyLines, noStart, unknownSet, badList}
 use Rattle.meaning.specs.Lines.{lineThen}
@@ -19,8 +21,10 @@ use Rattle.lines.specs.Line.{firstLow}
 use Rattle.entries.specs.declared.Head.{Head}
 use Rattle.entries.specs.declared.Head.the-variants.{Whole, Cut}
 use Rattle.entries.specs.Head.{entryAt}
-use Rattle.lacks.specs.Lacks.{State, begin, finish}
+use Rattle.lacks.specs.Lacks.{State, noFlags, finish}
 use Rattle.steps.specs.Steps.{rowOf, lineNo, nextState, staysIn, lackThen}
+use Rattle.writer.specs.declared.Item.{Item}
+use Rattle.writer.specs.declared.Item.the-variants.{Read}
 use Rattle.writer.specs.declared.Checked.{Checked}
 use Rattle.writer.specs.declared.Checked.the-variants.{Done, Refused}
 
@@ -36,18 +40,18 @@ contentOf l at n = take n (drop (at + entryLead) l)
 -- ---- 7, 21, 6
 
 -- the entry at an offset, which is not cut: the rest of 21, then 6
-unfoldable pub checkContent : List ℕ → ℕ → ℕ → ℕ → Checked
+unfoldable pub checkContent : List ℕ → ℕ → ℕ → ℕ → Item
 checkContent l at label n =
     let low = firstLow l (at + entryLead) n in
-    cond (leb label maxLabel) (cond (leb (at + entryLead + n) low) (Done n) (Refused (refusal badByte low 0))) (Refused (refusal badList at 0))
+    cond (leb label maxLabel) (cond (leb (at + entryLead + n) low) (Read label n) (Item.Refused (refusal badByte low 0))) (Item.Refused (refusal badList at 0))
 
-unfoldable pub checkEntry : List ℕ → ℕ → Checked
-checkEntry l at = byHead (entryAt l at) (Refused (refusal badList at 0)) (λ label n. checkContent l at label n)
+unfoldable pub checkEntry : List ℕ → ℕ → Item
+checkEntry l at = byHead (entryAt l at) (Item.Refused (refusal badList at 0)) (λ label n. checkContent l at label n)
 
 -- what follows an entry that is checked, by the length of its content; else its refusal
-abbrev pub afterEntry : Checked → (ℕ → Checked) → Checked
-afterEntry (Done n) f = f n
-afterEntry (Refused r) f = Refused r
+abbrev pub afterEntry : Item → (ℕ → Checked) → Checked
+afterEntry (Read label n) f = f n
+afterEntry (Item.Refused r) f = Refused r
 
 -- the entries from an offset on, with n before them; 7 where more than k start
 unfoldable pub checkFrom : List ℕ → ℕ → ℕ → ℕ → Checked
@@ -69,22 +73,50 @@ entriesPass l kind at st lack (suc n) =
     byHead (entryAt l at) (refusal badList at 0) (λ label m.
     stepThen kind st lack at label (contentOf l at m) (λ st′ lack′. entriesPass l kind (at + (entryLead + m)) st′ lack′ n))
 
--- 11 to 16 of n entries, the first of which is 8000 with a content of m bytes; behind it stands line 2
-unfoldable pub setPass : List ℕ → SetType → ℕ → ℕ → List ℕ → Refusal
-setPass l kind m n sum =
-    stepThen kind begin noRefusal 0 8000 (contentOf l 0 m) (λ st lack.
-    stepThen kind st lack 0 8100 sum (λ st′ lack′. entriesPass l kind (entryLead + m) st′ lack′ (n - 1)))
+-- the rows of 8000 and 8100 in every table
+abbrev pub row8000 : ℕ
+row8000 = 0
+
+abbrev pub row8100 : ℕ
+row8100 = 1
+
+-- behind line 1 and line 2, which are never refused by 11 to 15
+abbrev pub started : State
+started = record { header = 8100; place = 0; members = noFlags; top = set (set noFlags row8000 true) row8100 true }
 
 abbrev pub byKnown : Known → Refusal → (SetType → Refusal) → Refusal
 byKnown (Of kind) r f = f kind
 byKnown Nothing r f = r
 
-unfoldable pub firstEntry : List ℕ → ℕ → ℕ → ℕ → List ℕ → Refusal
-firstEntry l label m n sum =
-    cond (eqb label 8000) (byKnown (typeNamed (contentOf l 0 m)) (refusal unknownSet 0 0) (λ kind. setPass l kind m n sum)) (refusal noStart 0 0)
+-- the n entries of a list whose first has this label and a content of m bytes
+unfoldable pub firstEntry : List ℕ → ℕ → ℕ → ℕ → Refusal
+firstEntry l label m n =
+    cond (eqb label 8000)
+    (byKnown (typeNamed (contentOf l 0 m)) (refusal unknownSet 0 0) (λ kind. entriesPass l kind (entryLead + m) started noRefusal (n - 1)))
+    (refusal noStart 0 0)
 
-unfoldable pub judgeEntries : List ℕ → ℕ → List ℕ → Refusal
-judgeEntries l n sum = byHead (entryAt l 0) (refusal badList 0 0) (λ label m. firstEntry l label m n sum)
+unfoldable pub judgeEntries : List ℕ → ℕ → Refusal
+judgeEntries l n = byHead (entryAt l 0) (refusal badList 0 0) (λ label m. firstEntry l label m n)
+
+-- ---- the check and the rules at once
+
+-- so many entries, where nothing is refused
+unfoldable pub doneUnless : Refusal → ℕ → Checked
+doneUnless r n = cond (eqb (r .no) 0) (Done n) (Refused r)
+
+-- 7, 21 and 6 as the check found them, then the rules
+abbrev pub ruled : Checked → (ℕ → Refusal) → Checked
+ruled (Done n) f = doneUnless (f n) n
+ruled (Refused r) f = Refused r
+
+-- the refusal of a check, else r
+abbrev pub elseRefused : Checked → Refusal → Checked
+elseRefused (Done n) r = Refused r
+elseRefused (Refused q) r = Refused q
+
+-- the whole list
+unfoldable pub judgedList : List ℕ → Checked
+judgedList l = ruled (checkFrom l 0 0 maxEntries) (λ n. judgeEntries l n)
 
 -- ---- the lines
 

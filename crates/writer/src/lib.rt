@@ -6,14 +6,16 @@ ghost use Prim.Native.Nat.{_+_, _-_, _≤_, _<_};
 ghost use lib.ListN.{length, drop};
 ghost use Rattle.meaning.specs.Limits.{maxEntries};
 ghost use Rattle.meaning.specs.Field.{field};
-ghost use Rattle.meaning.specs.Refusals.{refusal};
+ghost use Rattle.meaning.specs.Digits.{digits};
 ghost use Rattle.meaning.specs.Lines.{cr, lf, lineLead, lineEnd, lineThen};
 ghost use Rattle.meaning.specs.Entries.{entryLead};
-ghost use Rattle.meaning.specs.Answers.{writeCall};
+ghost use Rattle.meaning.specs.Lists.{sumDigits, sumLine, sumField};
+ghost use Rattle.meaning.specs.Answers.{writeCall, noRefusal};
 ghost use Rattle.buffers.specs.Places.{over};
-ghost use Rattle.lacks.specs.Lacks.{stateOf};
-ghost use Rattle.writer.specs.declared.Checked.the-variants.{Done, Refused};
-ghost use Rattle.writer.specs.Writing.{checkContent, checkEntry, checkFrom, entriesPass, setPass, firstEntry, judgeEntries, entryLines, linesFrom};
+ghost use Rattle.entries.specs.declared.Head.the-variants.{Whole};
+ghost use Rattle.entries.specs.Head.{entryAt};
+ghost use Rattle.writer.specs.declared.Checked.the-variants.{Done};
+ghost use Rattle.writer.specs.Writing.{checkEntry, checkFrom, entriesPass, started, firstEntry, ruled, elseRefused, judgedList, entryLines, linesFrom};
 use entries::Head;
 use lacks::Group;
 use meaning::Known;
@@ -27,66 +29,69 @@ const ENTRIES: usize = SetType::LINES - 1;
 // The largest number that four digits write.
 const MAX_LABEL: usize = 9_999;
 
+// The rows of 8000 and 8100 in every table.
+const ROW_8000: usize = 0;
+
+const ROW_8100: usize = 1;
+
 // ---- 7, 21, 6 of each entry
 
-// What checking finds: an entry whose content is so long, or a list of so many entries; or the first refusal.
+// What reading one entry finds.
+pub enum Item {
+    // It keeps 21 and 6: its label, and the length of its content.
+    Read { label: usize, length: usize },
+    // The first of 21 and 6 that it breaks.
+    Refused(Refusal),
+}
+
+// What a list is found to be: so many entries, or the first refusal.
 pub enum Checked {
     Done(usize),
     Refused(Refusal),
 }
 
-// A refusal of an entry: "places are offsets in the list".
-fn unchecked(no: usize, place: usize) -> Checked
-    ensures { λ r. ⌜ r ≡ Refused (refusal no place 0) ⌝ }
+// The entry at an offset, by 21 and 6: "places are offsets in the list".
+fn check_entry(list: &[u8], at: usize) -> Item
+    ensures { λ r. ⌜ r ≡ checkEntry (now (list .entry)) at ⌝ }
 {
-    Checked::Refused(lacks::refused_at(no, place))
-}
-
-// The entry at an offset, which is not cut.
-fn check_content(list: &[u8], at: usize, label: usize, bytes: usize) -> Checked
-    requires { ⌜ at + (entryLead + bytes) ≤ length (now list) ⌝ }
-    ensures { λ r. ⌜ r ≡ checkContent (now (list .entry)) at label bytes ⌝ }
-{
+    // 21, BadList: "list entry cut"
+    let Head::Whole {
+        kind: label,
+        length,
+    } = entries::entry_at(list, at)
+    else {
+        return Item::Refused(lacks::refused_at(Refusal::BAD_LIST, at));
+    };
     // 21, BadList: "or label over 9999"
     if MAX_LABEL < label {
-        return unchecked(Refusal::BAD_LIST, at);
+        return Item::Refused(lacks::refused_at(Refusal::BAD_LIST, at));
     }
     // 6, BadByte: "content byte under 20h; place is that byte"
     let content = at + entries::ENTRY_LEAD;
-    let low = lines::first_low(list, content, bytes);
-    if low < content + bytes {
-        return unchecked(Refusal::BAD_BYTE, low);
+    let low = lines::first_low(list, content, length);
+    if low < content + length {
+        return Item::Refused(lacks::refused_at(Refusal::BAD_BYTE, low));
     }
-    Checked::Done(bytes)
+    Item::Read { label, length }
 }
 
-// The entry at an offset, by 21 and 6.
-fn check_entry(list: &[u8], at: usize) -> Checked
-    ensures { λ r. ⌜ r ≡ checkEntry (now (list .entry)) at ⌝ }
+// "It checks entries in order: more than 511 (7), 21, 6": the entries from an offset on, which have so many before them.
+fn check_from(list: &[u8], start: usize, before: usize) -> Checked
+    requires { ⌜ (start ≤ length (now list)) × (before ≤ maxEntries) ⌝ }
+    ensures { λ r. ⌜ r ≡ checkFrom (now (list .entry)) start before (maxEntries - before) ⌝ }
 {
-    match entries::entry_at(list, at) {
-        // 21, BadList: "list entry cut"
-        Head::Cut => unchecked(Refusal::BAD_LIST, at),
-        Head::Whole { kind, length } => check_content(list, at, kind, length),
-    }
-}
-
-// "It checks entries in order: more than 511 (7), 21, 6".
-fn check_entries(list: &[u8]) -> Checked
-    ensures { λ r. ⌜ r ≡ checkFrom (now (list .entry)) 0 0 maxEntries ⌝ }
-{
-    let mut at: usize = 0;
-    let mut n: usize = 0;
+    let mut at = start;
+    let mut n = before;
     while at < list.len() {
         // 7, TooManyLines
         if ENTRIES <= n {
-            return unchecked(Refusal::TOO_MANY_LINES, at);
+            return Checked::Refused(lacks::refused_at(Refusal::TOO_MANY_LINES, at));
         }
         match check_entry(list, at) {
-            Checked::Refused(r) => {
+            Item::Refused(r) => {
                 return Checked::Refused(r);
             }
-            Checked::Done(length) => {
+            Item::Read { label: _, length } => {
                 at += entries::ENTRY_LEAD + length;
                 n += 1;
             }
@@ -97,121 +102,108 @@ fn check_entries(list: &[u8]) -> Checked
 
 // ---- 8, 9, 11 to 16
 
-// A refusal that carries a label.
-fn refused_line(no: usize, place: usize, label: usize) -> Refusal
-    ensures { λ r. ⌜ r ≡ refusal no place label ⌝ }
+// "then 8, 9, and 11 to 16": a refusal by one of these waits until the entries from an offset on, which have so many before them, are checked.
+fn unless_unchecked(list: &[u8], from: usize, before: usize, r: Refusal) -> Checked
+    requires { ⌜ (from ≤ length (now list)) × (before ≤ maxEntries) ⌝ }
+    ensures { λ q. ⌜ q ≡ elseRefused (checkFrom (now (list .entry)) from before (maxEntries - before)) r ⌝ }
 {
-    Refusal { no, place, label }
-}
-
-// 11 to 15 of the entries behind the first, which start at an offset, then 16; n counts the first entry too.
-fn pass_entries(
-    list: &[u8],
-    kind: SetType,
-    second: usize,
-    n: usize,
-    opened: Group,
-    members: &mut [bool; lacks::ROWS],
-    top: &mut [bool; lacks::ROWS],
-) -> Refusal
-    ensures { λ r. ⌜ r ≡ entriesPass (now (list .entry)) kind second (stateOf opened (now (members .entry)) (now (top .entry))) (opened .lack) (n - 1) ⌝ }
-{
-    let mut group = opened;
-    let mut at = second;
-    let mut k: usize = 1;
-    while k < n {
-        match entries::entry_at(list, at) {
-            Head::Cut => {
-                return lacks::refused_at(Refusal::BAD_LIST, at);
-            }
-            Head::Whole {
-                kind: label,
-                length,
-            } => {
-                let from = at + entries::ENTRY_LEAD;
-                let end = from + length;
-                let step = steps::step_at(kind, at, label, &list[from..end], group, members, top);
-                let no = step.no;
-                if no != 0 {
-                    return refused_line(no, at, label);
-                }
-                group = step.group;
-                at = end;
-                k += 1;
-            }
-        }
+    match check_from(list, from, before) {
+        Checked::Refused(unchecked) => Checked::Refused(unchecked),
+        Checked::Done(_) => Checked::Refused(r),
     }
-    lacks::finish_at(kind, group, members, top)
 }
 
-// 11 to 16, where the first entry is 8000 with a content of this length: line 1, line 2 ("the writer adds it"), and the other entries.
-fn pass_set(list: &[u8], kind: SetType, bytes: usize, n: usize, sum: &[u8]) -> Refusal
-    requires { ⌜ entryLead + bytes ≤ length (now list) ⌝ }
-    ensures { λ r. ⌜ r ≡ setPass (now (list .entry)) kind bytes n (now (sum .entry)) ⌝ }
+// The entries behind the first, which start at an offset, each read once: 7, 21, 6, and 11 to 15 of each, then 16. Line 1 and line 2 ("the writer adds it") stand before
+// them, and are never refused here.
+fn pass_entries(list: &[u8], kind: SetType, second: usize) -> Checked
+    requires { ⌜ second ≤ length (now list) ⌝ }
+    ensures { λ r. ⌜ r ≡ ruled (checkFrom (now (list .entry)) second 1 (maxEntries - 1)) (λ n. entriesPass (now (list .entry)) kind second started noRefusal (n - 1)) ⌝ }
 {
     let mut members = [false; lacks::ROWS];
     let mut top = [false; lacks::ROWS];
-    let group = Group {
-        header: 0,
+    top[ROW_8000] = true;
+    top[ROW_8100] = true;
+    let mut group = Group {
+        header: 8100,
         place: 0,
         lack: lacks::nothing(),
     };
-    let end = entries::ENTRY_LEAD + bytes;
-    let first = steps::step_at(
-        kind,
-        0,
-        8000,
-        &list[entries::ENTRY_LEAD..end],
-        group,
-        &mut members,
-        &mut top,
-    );
-    if first.no != 0 {
-        return refused_line(first.no, 0, 8000);
+    let mut at = second;
+    let mut n: usize = 1;
+    while at < list.len() {
+        if ENTRIES <= n {
+            return Checked::Refused(lacks::refused_at(Refusal::TOO_MANY_LINES, at));
+        }
+        match check_entry(list, at) {
+            Item::Refused(r) => {
+                return Checked::Refused(r);
+            }
+            Item::Read { label, length } => {
+                let from = at + entries::ENTRY_LEAD;
+                let end = from + length;
+                let step = steps::step_at(
+                    kind,
+                    at,
+                    label,
+                    &list[from..end],
+                    group,
+                    &mut members,
+                    &mut top,
+                );
+                let no = step.no;
+                let place = at;
+                at = end;
+                n += 1;
+                if no != 0 {
+                    return unless_unchecked(list, at, n, Refusal { no, place, label });
+                }
+                group = step.group;
+            }
+        }
     }
-    let second = steps::step_at(kind, 0, 8100, sum, first.group, &mut members, &mut top);
-    if second.no != 0 {
-        return refused_line(second.no, 0, 8100);
+    let lack = lacks::finish_at(kind, group, &members, &top);
+    if lack.no != 0 {
+        return Checked::Refused(lack);
     }
-    pass_entries(list, kind, end, n, second.group, &mut members, &mut top)
+    Checked::Done(n)
 }
 
-// 8 to 16, where the first entry is whole.
-fn first_entry(list: &[u8], label: usize, bytes: usize, n: usize, sum: &[u8]) -> Refusal
-    requires { ⌜ entryLead + bytes ≤ length (now list) ⌝ }
-    ensures { λ r. ⌜ r ≡ firstEntry (now (list .entry)) label bytes n (now (sum .entry)) ⌝ }
+// 7, 21, 6, and 8 to 16, where the first entry is whole.
+fn first_entry(list: &[u8], label: usize, bytes: usize) -> Checked
+    requires { ⌜ entryAt (now list) 0 ≡ Whole label bytes ⌝ }
+    ensures { λ r. ⌜ r ≡ ruled (checkFrom (now (list .entry)) 0 0 maxEntries) (λ n. firstEntry (now (list .entry)) label bytes n) ⌝ }
 {
     // 8, NoStart: "line 1 is not 8000"
     if label != 8000 {
-        return lacks::refused_at(Refusal::NO_START, 0);
+        return unless_unchecked(list, 0, 0, lacks::refused_at(Refusal::NO_START, 0));
     }
     // 9, UnknownSet: "8000 names none of the five"
     let end = entries::ENTRY_LEAD + bytes;
     let Known::Of(kind) = rules::type_of(&list[entries::ENTRY_LEAD..end]) else {
-        return lacks::refused_at(Refusal::UNKNOWN_SET, 0);
+        return unless_unchecked(list, 0, 0, lacks::refused_at(Refusal::UNKNOWN_SET, 0));
     };
-    pass_set(list, kind, bytes, n, sum)
+    pass_entries(list, kind, end)
 }
 
-// "then 8, 9, and 11 to 16" of a list of n entries, to whose set these digits of the sum are added.
-fn judge_entries(list: &[u8], n: usize, sum: &[u8]) -> Refusal
-    ensures { λ r. ⌜ r ≡ judgeEntries (now (list .entry)) n (now (sum .entry)) ⌝ }
+// "It checks entries in order: more than 511 (7), 21, 6; then 8, 9, and 11 to 16".
+fn judge_entries(list: &[u8]) -> Checked
+    ensures { λ r. ⌜ r ≡ judgedList (now (list .entry)) ⌝ }
 {
     match entries::entry_at(list, 0) {
-        Head::Cut => lacks::refused_at(Refusal::BAD_LIST, 0),
-        Head::Whole { kind, length } => first_entry(list, kind, length, n, sum),
+        Head::Cut => Checked::Refused(lacks::refused_at(Refusal::BAD_LIST, 0)),
+        Head::Whole { kind, length } => first_entry(list, kind, length),
     }
 }
 
 // ---- the lines
 
-// The end of a line at the front of some bytes.
-fn put_end(out: &mut [u8])
-    requires { ⌜ 2 ≤ length (now out) ⌝ }
-    ensures { λ _. ⌜ now (out .exit) ≡ cr ∷ lf ∷ drop 2 (now (out .entry)) ⌝ }
+// The end of a line at an offset.
+fn put_end(out: &mut [u8], at: usize)
+    requires { ⌜ at + lineEnd ≤ length (now out) ⌝ }
+    ensures { λ _. ⌜ now (out .exit) ≡ over at (cr ∷ lf ∷ []) (now (out .entry)) ⌝ }
 {
-    out[0] = lines::CR;
-    out[1] = lines::LF;
+    out[at] = lines::CR;
+    out[at + 1] = lines::LF;
 }
 
 // The line of a field at an offset: "three digits (its whole length), four digits (label), content, 0Dh 0Ah".
@@ -224,29 +216,47 @@ fn put_line(label: usize, content: &[u8], out: &mut [u8], to: usize)
     buffers::put_digits(out, to + lines::LENGTH_DIGITS, lines::LABEL_DIGITS, label);
     let from = to + lines::LINE_LEAD;
     buffers::copy_front(&mut out[from..], content);
-    let end = from + content.len();
-    put_end(&mut out[end..]);
+    put_end(out, from + content.len());
+}
+
+// The line of 8100 at an offset, with the sum's five digits.
+fn put_sum(total: usize, out: &mut [u8], to: usize)
+    requires { ⌜ to + sumLine ≤ length (now out) ⌝ }
+    ensures { λ _. ⌜ now (out .exit) ≡ over to (lineThen (sumField total) []) (now (out .entry)) ⌝ }
+{
+    buffers::put_digits(out, to, lines::LENGTH_DIGITS, rules::SUM_LINE);
+    buffers::put_digits(out, to + lines::LENGTH_DIGITS, lines::LABEL_DIGITS, 8100);
+    let from = to + lines::LINE_LEAD;
+    buffers::put_digits(out, from, rules::SUM_DIGITS, total);
+    put_end(out, from + rules::SUM_DIGITS);
 }
 
 // The line of the entry that has k entries before it, at an offset; behind the first that of 8100 as well. The offset behind them.
-fn put_lines(k: usize, label: usize, content: &[u8], sum: &[u8], out: &mut [u8], to: usize) -> usize
-    requires { ⌜ to + length (entryLines k label (now content) (now sum)) ≤ length (now out) ⌝ }
-    ensures { λ r. ⌜ (r ≡ to + length (entryLines k label (now (content .entry)) (now (sum .entry))))
-        × (now (out .exit) ≡ over to (entryLines k label (now (content .entry)) (now (sum .entry))) (now (out .entry))) ⌝ }
+fn put_lines(
+    k: usize,
+    label: usize,
+    content: &[u8],
+    total: usize,
+    out: &mut [u8],
+    to: usize,
+) -> usize
+    requires { ⌜ to + length (entryLines k label (now content) (digits sumDigits total)) ≤ length (now out) ⌝ }
+    ensures { λ r. ⌜ (r ≡ to + length (entryLines k label (now (content .entry)) (digits sumDigits total)))
+        × (now (out .exit) ≡ over to (entryLines k label (now (content .entry)) (digits sumDigits total)) (now (out .entry))) ⌝ }
 {
     put_line(label, content, out, to);
     let end = to + (content.len() + lines::LINE_FRAME);
     if k != 0 {
         return end;
     }
-    put_line(8100, sum, out, end);
-    end + (sum.len() + lines::LINE_FRAME)
+    put_sum(total, out, end);
+    end + rules::SUM_LINE
 }
 
-// The lines of the n entries of a list, line after line, with that of 8100.
-fn put_set(list: &[u8], n: usize, sum: &[u8], out: &mut [u8])
-    requires { ⌜ length (linesFrom (now list) (now sum) 0 0 n) ≤ length (now out) ⌝ }
-    ensures { λ _. ⌜ now (out .exit) ≡ over 0 (linesFrom (now (list .entry)) (now (sum .entry)) 0 0 n) (now (out .entry)) ⌝ }
+// The lines of the n entries of a list, line after line, with that of 8100 for a set of `total` bytes.
+fn put_set(list: &[u8], n: usize, total: usize, out: &mut [u8])
+    requires { ⌜ length (linesFrom (now list) (digits sumDigits total) 0 0 n) ≤ length (now out) ⌝ }
+    ensures { λ _. ⌜ now (out .exit) ≡ over 0 (linesFrom (now (list .entry)) (digits sumDigits total) 0 0 n) (now (out .entry)) ⌝ }
 {
     let mut at: usize = 0;
     let mut to: usize = 0;
@@ -259,7 +269,7 @@ fn put_set(list: &[u8], n: usize, sum: &[u8], out: &mut [u8])
             Head::Whole { kind, length } => {
                 let from = at + entries::ENTRY_LEAD;
                 let end = from + length;
-                to = put_lines(k, kind, &list[from..end], sum, out, to);
+                to = put_lines(k, kind, &list[from..end], total, out, to);
                 at = end;
                 k += 1;
             }
@@ -269,26 +279,20 @@ fn put_set(list: &[u8], n: usize, sum: &[u8], out: &mut [u8])
 
 // ---- the set
 
-// The set of a list whose n entries keep 7, 21 and 6.
+// The set of a list whose n entries are not refused.
 fn write_entries(list: &[u8], n: usize, out: &mut [u8]) -> Made
-    requires { ⌜ (0 < length (now list)) × (checkFrom (now list) 0 0 maxEntries ≡ Done n) ⌝ }
+    requires { ⌜ (0 < length (now list)) × (judgedList (now list) ≡ Done n) ⌝ }
     ensures { λ r. ⌜ (r ≡ writeCall (now (list .entry)) (now (out .entry)) .answer) × (now (out .exit) ≡ writeCall (now (list .entry)) (now (out .entry)) .buffer) ⌝ }
 {
-    let total = list.len() + n * lists::LINE_LOSS + rules::SUM_LINE;
-    let mut sum = [0u8; rules::SUM_DIGITS];
-    buffers::put_digits(&mut sum, 0, rules::SUM_DIGITS, total);
-    let refusal = judge_entries(list, n, &sum);
-    if refusal.no != 0 {
-        return Made::Refused(refusal);
-    }
     // 22, NoRoom: "the new total is over the buffer or over 99,999"; "place: the need"
+    let total = list.len() + n * lists::LINE_LOSS + rules::SUM_LINE;
     if out.len() < total {
         return Made::Refused(lacks::refused_at(Refusal::NO_ROOM, total));
     }
     if SetType::SET_BYTES < total {
         return Made::Refused(lacks::refused_at(Refusal::NO_ROOM, total));
     }
-    put_set(list, n, &sum, out);
+    put_set(list, n, total, out);
     buffers::clear(&mut out[total..]);
     Made::Done(total)
 }
@@ -301,7 +305,7 @@ pub fn write(list: &[u8], out: &mut [u8]) -> Made
     if list.len() == 0 {
         return Made::Refused(lacks::refused_at(Refusal::EMPTY, 0));
     }
-    match check_entries(list) {
+    match judge_entries(list) {
         Checked::Refused(r) => Made::Refused(r),
         Checked::Done(n) => write_entries(list, n, out),
     }

@@ -1,10 +1,9 @@
 -- `judge_entries`: by the head of the first entry.
 -- Assumes nothing.
-use mathlib.Core.Path.{sym, _∙_}
-use native.Mathlib.Omega.{arith}
+use mathlib.Core.Path.{sym, ap, _∙_}
 use borrow.Author.Needs.{needs}
-use Rattle.entries.proofs.HeadLaws.{whole-back}
-use Rattle.writer.proofs.EntryPass.{judge-cut, judge-whole}
+use Rattle.writer.specs.declared.Checked.the-variants.{Refused}
+use Rattle.writer.proofs.OnceLaws.{list-cut, list-whole}
 use Rattle.writer.proofs.judge_entries.Statement.{statement}
 use Rattle.writer.proofs.judge_entries.Tie as tie
 
@@ -21,16 +20,19 @@ enum-known-kind : tie.Need-enum-known-kind
 enum-known-kind c = search needs
 
 first-entry-requires : tie.Need-first-entry-requires
-first-entry-requires c κs =
-    let b3 = c .before .before .before in
-    let b6 = b3 .before .before .before in
-    omega (arith, whole-back (b6 .args .list .now) 0 (sym (b3 .entry-at .ensures) ∙ c .before .kind .given .1) .within)
+first-entry-requires c κs = sym (c .before .before .before .entry-at .ensures) ∙ c .before .kind .given .1
 
 returns : tie.Need-returns
-returns c = c .refused-at .ensures ∙ judge-cut _ _ _ (sym (c .before .before .before .entry-at .ensures) ∙ c .before .enum-told .given .1)
+returns c =
+    let b3 = c .before .before .before in
+    let b5 = b3 .before .before in
+    ap Refused (c .refused-at .ensures) ∙ list-cut (b5 .args .list .now) (sym (b3 .entry-at .ensures) ∙ c .before .enum-told .given .1)
 
 returns-2 : tie.Need-returns-2
-returns-2 c = c .first-entry .ensures ∙ judge-whole _ _ _ (sym (c .before .before .before .before .entry-at .ensures) ∙ c .before .before .kind .given .1)
+returns-2 c =
+    let b4 = c .before .before .before .before in
+    let b6 = b4 .before .before in
+    c .first-entry .ensures ∙ list-whole (b6 .args .list .now) (sym (b4 .entry-at .ensures) ∙ c .before .before .kind .given .1)
 
 pub judge-entries-spec : {M : Type 1} → statement M
 judge-entries-spec =

@@ -1,21 +1,26 @@
 -- `put_end`: the two stores are the two bytes.
 -- Assumes nothing.
+use native.Mathlib.Omega.{arith}
 use borrow.Author.Needs.{needs}
-use Rattle.lists.proofs.ListLaws.{two-put}
+use lib.ListN.{length-set}
+use Rattle.writer.proofs.WriteLaws.{end-put}
 use Rattle.writer.proofs.put_end.Statement.{statement}
 use Rattle.writer.proofs.put_end.Tie as tie
 
 slice-write-out : tie.Need-slice-write-out
 slice-write-out c = search needs
 
+add-out : tie.Need-add-out
+add-out c = search needs
+
 slice-write-out-2 : tie.Need-slice-write-out-2
-slice-write-out-2 c = search needs
+slice-write-out-2 c = omega (arith, length-set (c .args .out .now) (c .args .at) 13)
 
 same-length : tie.Need-same-length
 same-length c = search needs
 
 returns : tie.Need-returns
-returns c = two-put (c .args .out .now) _ _ (c .pre)
+returns c = end-put (c .args .out .now) (c .args .at) (c .pre)
 
 pub put-end-spec : {M : Type 1} → statement M
-put-end-spec = tie.close (tie.spec slice-write-out slice-write-out-2 same-length returns)
+put-end-spec = tie.close (tie.spec slice-write-out add-out slice-write-out-2 same-length returns)

@@ -1,6 +1,8 @@
 -- `put_line`: four parts put one behind the other.
 -- Assumes nothing.
+use Prim.Native.Nat.{_+_}
 use borrow.Author.Needs.{needs}
+use Rattle.lists.proofs.OverLaws.{over-lent}
 use Rattle.writer.proofs.WriteLaws.{line-put}
 use Rattle.writer.proofs.put_line.Statement.{statement}
 use Rattle.writer.proofs.put_line.Tie as tie
@@ -32,17 +34,8 @@ part-copy-front-end c = search needs
 copy-front-requires : tie.Need-copy-front-requires
 copy-front-requires c κs = search needs
 
-add-end : tie.Need-add-end
-add-end c = search needs
-
-sub-put-end : tie.Need-sub-put-end
-sub-put-end c = search needs
-
-part-put-end-start : tie.Need-part-put-end-start
-part-put-end-start c = search needs
-
-part-put-end-end : tie.Need-part-put-end-end
-part-put-end-end c = search needs
+add-put-end : tie.Need-add-put-end
+add-put-end c = search needs
 
 put-end-requires : tie.Need-put-end-requires
 put-end-requires c κs = search needs
@@ -57,8 +50,7 @@ returns c =
     let b14 = b10 .before .before .before .before in
     let b18 = b14 .before .before .before .before in
     let a = b18 .args in
-    line-put (a .out .now) _ _ _ _ (a .content .now) (a .label) (a .to) (b18 .pre) (b14 .put-digits .ensures) (b10 .put-digits2 .ensures) (b6 .copy-front .ensures)
-    (c .before .before .put-end .ensures)
+    line-put (a .out .now) _ _ _ _ (a .content .now) (a .label) (a .to) (b18 .pre) (b14 .put-digits .ensures) (b10 .put-digits2 .ensures) (over-lent _ _ (a .to + 7) (a .content .now) (b6 .copy-front .ensures)) (c .before .before .put-end .ensures)
 
 pub put-line-spec : {M : Type 1} → statement M
 put-line-spec =
@@ -73,10 +65,7 @@ put-line-spec =
     part-copy-front-start
     part-copy-front-end
     copy-front-requires
-    add-end
-    sub-put-end
-    part-put-end-start
-    part-put-end-end
+    add-put-end
     put-end-requires
     same-length
     returns)

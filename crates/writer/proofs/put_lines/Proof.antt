@@ -3,27 +3,26 @@
 use native.Mathlib.Omega.{arith}
 use borrow.Author.Needs.{needs}
 use lib.ListN.{length}
+use Rattle.meaning.specs.Digits.{digits}
+use Rattle.meaning.specs.Lists.{sumDigits}
 use Rattle.writer.proofs.WriteLaws.{own-fits, second-fits, later-put, first-put}
 use Rattle.writer.proofs.put_lines.Statement.{statement}
 use Rattle.writer.proofs.put_lines.Tie as tie
 
 put-line-requires : tie.Need-put-line-requires
 put-line-requires c κs =
-    let b4 = c .before .before .before .before in
-    own-fits (b4 .args .k) (b4 .args .label) (b4 .args .content .now) (b4 .args .sum .now) (b4 .args .to) (length (b4 .args .out .now)) (b4 .pre)
+    let b3 = c .before .before .before in
+    let a = b3 .args in
+    own-fits (a .k) (a .label) (a .content .now) (digits sumDigits (a .total)) (a .to) (length (a .out .now)) (b3 .pre)
 
 add-end : tie.Need-add-end
 add-end c = search needs
 
 add-end-2 : tie.Need-add-end-2
 add-end-2 c =
-    let b7 = c .before .before .before .before .before .before .before in
-    omega (
-      arith,
-      own-fits (b7 .args .k) (b7 .args .label) (b7 .args .content .now) (b7 .args .sum .now) (b7 .args .to) (length (b7 .args .out .now)) (b7 .pre),
-      b7 .fits,
-      b7 .good,
-    )
+    let b6 = c .before .before .before .before .before .before in
+    let a = b6 .args in
+    omega (arith, own-fits (a .k) (a .label) (a .content .now) (digits sumDigits (a .total)) (a .to) (length (a .out .now)) (b6 .pre), b6 .fits, b6 .good)
 
 same-length : tie.Need-same-length
 same-length c = search needs
@@ -31,32 +30,22 @@ same-length c = search needs
 returns : tie.Need-returns
 returns c =
     let b3 = c .before .before .before in
-    let b8 = b3 .before .before .before .before .before in
-    later-put (b8 .args .k) (b8 .args .label) (b8 .args .content .now) (b8 .args .sum .now) (b8 .args .out .now) _ (b8 .args .to) (c .if1 .taken) (b3 .put-line .ensures)
+    let b7 = b3 .before .before .before .before in
+    let a = b7 .args in
+    later-put (a .k) (a .label) (a .content .now) (digits sumDigits (a .total)) (a .out .now) _ (a .to) (c .if1 .taken) (b3 .put-line .ensures)
 
-put-line-requires-2 : tie.Need-put-line-requires-2
-put-line-requires-2 c κs =
-    let b9 = c .before .before .before .before .before .before .before .before .before in
-    omega (
-      arith,
-      second-fits (b9 .args .k) (b9 .args .label) (b9 .args .content .now) (b9 .args .sum .now) (b9 .args .to) (length (b9 .args .out .now))
-          (c .before .if1 .left) (b9 .pre),
-    )
+put-sum-requires : tie.Need-put-sum-requires
+put-sum-requires c κs =
+    let b8 = c .before .before .before .before .before .before .before .before in
+    let a = b8 .args in
+    omega (arith, second-fits (a .k) (a .label) (a .content .now) (digits sumDigits (a .total)) (a .to) (length (a .out .now)) (c .before .if1 .left) (b8 .pre))
 
 add-result : tie.Need-add-result
-add-result c = search needs
-
-add-result-2 : tie.Need-add-result-2
-add-result-2 c =
+add-result c =
     let b4 = c .before .before .before .before in
-    let b12 = b4 .before .before .before .before .before .before .before .before in
-    omega (
-      arith,
-      second-fits (b12 .args .k) (b12 .args .label) (b12 .args .content .now) (b12 .args .sum .now) (b12 .args .to) (length (b12 .args .out .now))
-          (b4 .if1 .left) (b12 .pre),
-      b12 .fits,
-      b12 .good,
-    )
+    let b11 = b4 .before .before .before .before .before .before .before in
+    let a = b11 .args in
+    omega (arith, second-fits (a .k) (a .label) (a .content .now) (digits sumDigits (a .total)) (a .to) (length (a .out .now)) (b4 .if1 .left) (b11 .pre), b11 .fits, b11 .good)
 
 same-length-2 : tie.Need-same-length-2
 same-length-2 c = search needs
@@ -65,9 +54,9 @@ returns-2 : tie.Need-returns-2
 returns-2 c =
     let b4 = c .before .before .before .before in
     let b7 = b4 .before .before .before in
-    let b12 = b7 .before .before .before .before .before in
-    first-put (b12 .args .k) (b12 .args .label) (b12 .args .content .now) (b12 .args .sum .now) (b12 .args .out .now) _ _ (b12 .args .to) (b4 .if1 .left) (b12 .pre)
-    (b7 .put-line .ensures) (c .before .before .put-line2 .ensures)
+    let b11 = b7 .before .before .before .before in
+    let a = b11 .args in
+    first-put (a .k) (a .label) (a .content .now) (digits sumDigits (a .total)) (a .out .now) _ _ (a .to) (b4 .if1 .left) (b11 .pre) (b7 .put-line .ensures) (c .before .before .put-sum .ensures)
 
 pub put-lines-spec : {M : Type 1} → statement M
 put-lines-spec =
@@ -78,8 +67,7 @@ put-lines-spec =
     add-end-2
     same-length
     returns
-    put-line-requires-2
+    put-sum-requires
     add-result
-    add-result-2
     same-length-2
     returns-2)

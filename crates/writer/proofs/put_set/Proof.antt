@@ -7,34 +7,25 @@ use native.Mathlib.Omega.{arith}
 use native.Mathlib.Nat.{add-assoc}
 use borrow.Author.Needs.{needs}
 use lib.ListN.{length}
+use Rattle.meaning.specs.Digits.{digits}
+use Rattle.meaning.specs.Lists.{sumDigits}
 use Rattle.entries.proofs.HeadLaws.{whole-back}
 use Rattle.buffers.specs.Places.{over}
-use Rattle.writer.specs.Writing.{linesFrom}
 use Rattle.lists.proofs.PartLaws.{part-length}
 use Rattle.lists.proofs.OverLaws.{over-none}
+use Rattle.writer.specs.Writing.{linesFrom}
 use Rattle.writer.proofs.WriteLaws.{lines-end, lines-cut, lines-fit, put-turn}
 use Rattle.writer.proofs.put_set.Statement.{statement}
 use Rattle.writer.proofs.put_set.Tie as tie
 
 abbrev Inv-loop : tie.InvT-loop
-Inv-loop list n sum out₀ at₀ to₀ k₀ out at to k =
-    (k ≤ n) × (length out ≡ length out₀) × (to + length (linesFrom list sum at k (n - k)) ≤ length out)
-    × (over to (linesFrom list sum at k (n - k)) out ≡ over 0 (linesFrom list sum 0 0 n) out₀)
+Inv-loop list n total out₀ at₀ to₀ k₀ out at to k = (k ≤ n) × (length out ≡ length out₀) × (to + length (linesFrom list (digits sumDigits total) at k (n - k)) ≤ length out) × (over to (linesFrom list (digits sumDigits total) at k (n - k)) out ≡ over 0 (linesFrom list (digits sumDigits total) 0 0 n) out₀)
 
 abbrev μ-loop : tie.MeasureT-loop
-μ-loop list n sum out₀ at₀ to₀ k₀ out at to k = n - k
+μ-loop list n total out₀ at₀ to₀ k₀ out at to k = n - k
 
 loop-holds : tie.Need-loop-holds Inv-loop μ-loop
-loop-holds c =
-    let b3 = c .before .before .before in
-    let a = b3 .args in
-    let z : a .n - 0 ≡ a .n = omega arith in (
-      omega arith,
-      refl,
-      omega (arith, ap (λ (m : ℕ). length (linesFrom (a .list .now) (a .sum .now) 0 0 m)) z),
-      ap
-          (λ (m : ℕ). over 0 (linesFrom (a .list .now) (a .sum .now) 0 0 m) (a .out .now)) z,
-    )
+loop-holds c = let z : c .before .before .args .n - 0 ≡ c .before .before .args .n = omega arith in (omega arith, refl, omega (arith, c .before .before .pre, ap (λ (m : ℕ). length (linesFrom (c .before .before .args .list .now) (digits sumDigits (c .before .before .args .total)) 0 0 m)) z), ap (λ (m : ℕ). over 0 (linesFrom (c .before .before .args .list .now) (digits sumDigits (c .before .before .args .total)) 0 0 m) (c .before .before .args .out .now)) z)
 
 entry-at-requires : tie.Need-entry-at-requires Inv-loop μ-loop
 entry-at-requires c κs = search needs
@@ -43,18 +34,18 @@ enum-told : tie.Need-enum-told Inv-loop μ-loop
 enum-told c = search needs
 
 same-length : tie.Need-same-length Inv-loop μ-loop
-same-length c = c .before .before .before .before .loop .inv .1
+same-length c =
+    let b4 = c .before .before .before .before in
+    b4 .loop .inv .1
 
 returns : tie.Need-returns Inv-loop μ-loop
 returns c =
     let b3 = c .before .before .before in
     let b4 = b3 .before in
-    let b8 = b4 .before .before .before .before in
-    let a = b8 .args in
+    let b7 = b4 .before .before .before in
+    let a = b7 .args in
     let l = b4 .loop in
-    over-none (l .out) (l .to) ∙ (ap (λ (u : List ℕ). over (l .to) u (l .out))
-    (sym (lines-cut (a .list .now) (a .sum .now) (l .at) (l .k) (a .n) (b3 .loop-test .taken) (sym (c .before .before .entry-at .ensures) ∙ c .enum-told .given .1)))
-    ∙ l .inv .3)
+    over-none (l .out) (l .to) ∙ (ap (λ (u : List ℕ). over (l .to) u (l .out)) (sym (lines-cut (a .list .now) (digits sumDigits (a .total)) (l .at) (l .k) (a .n) (b3 .loop-test .taken) (sym (c .before .before .entry-at .ensures) ∙ c .enum-told .given .1))) ∙ l .inv .3)
 
 enum-known-kind : tie.Need-enum-known-kind Inv-loop μ-loop
 enum-known-kind c = search needs
@@ -63,36 +54,36 @@ add-from : tie.Need-add-from Inv-loop μ-loop
 add-from c =
     let b3 = c .before .before .before in
     let b5 = b3 .before .before in
-    let b9 = b5 .before .before .before .before in
-    omega (arith, whole-back (b9 .args .list .now) (b5 .loop .at) (sym (b3 .entry-at .ensures) ∙ c .before .kind .given .1) .within, b9 .good)
+    let b8 = b5 .before .before .before in
+    omega (arith, whole-back (b8 .args .list .now) (b5 .loop .at) (sym (b3 .entry-at .ensures) ∙ c .before .kind .given .1) .within, b8 .good)
 
 add-end : tie.Need-add-end Inv-loop μ-loop
 add-end c =
     let b3 = c .before .before .before in
     let b5 = b3 .before .before in
-    let b9 = b5 .before .before .before .before in
-    omega (arith, whole-back (b9 .args .list .now) (b5 .loop .at) (sym (b3 .entry-at .ensures) ∙ c .before .kind .given .1) .within, b9 .good)
+    let b8 = b5 .before .before .before in
+    omega (arith, whole-back (b8 .args .list .now) (b5 .loop .at) (sym (b3 .entry-at .ensures) ∙ c .before .kind .given .1) .within, b8 .good)
 
 sub-put-lines : tie.Need-sub-put-lines Inv-loop μ-loop
 sub-put-lines c =
     let b3 = c .before .before .before in
     let b5 = b3 .before .before in
-    let b9 = b5 .before .before .before .before in
-    omega (arith, whole-back (b9 .args .list .now) (b5 .loop .at) (sym (b3 .entry-at .ensures) ∙ c .before .kind .given .1) .within, b9 .good)
+    let b8 = b5 .before .before .before in
+    omega (arith, whole-back (b8 .args .list .now) (b5 .loop .at) (sym (b3 .entry-at .ensures) ∙ c .before .kind .given .1) .within, b8 .good)
 
 part-put-lines-start : tie.Need-part-put-lines-start Inv-loop μ-loop
 part-put-lines-start c =
     let b3 = c .before .before .before in
     let b5 = b3 .before .before in
-    let b9 = b5 .before .before .before .before in
-    omega (arith, whole-back (b9 .args .list .now) (b5 .loop .at) (sym (b3 .entry-at .ensures) ∙ c .before .kind .given .1) .within, b9 .good)
+    let b8 = b5 .before .before .before in
+    omega (arith, whole-back (b8 .args .list .now) (b5 .loop .at) (sym (b3 .entry-at .ensures) ∙ c .before .kind .given .1) .within, b8 .good)
 
 part-put-lines-end : tie.Need-part-put-lines-end Inv-loop μ-loop
 part-put-lines-end c =
     let b3 = c .before .before .before in
     let b5 = b3 .before .before in
-    let b9 = b5 .before .before .before .before in
-    omega (arith, whole-back (b9 .args .list .now) (b5 .loop .at) (sym (b3 .entry-at .ensures) ∙ c .before .kind .given .1) .within, b9 .good)
+    let b8 = b5 .before .before .before in
+    omega (arith, whole-back (b8 .args .list .now) (b5 .loop .at) (sym (b3 .entry-at .ensures) ∙ c .before .kind .given .1) .within, b8 .good)
 
 put-lines-requires : tie.Need-put-lines-requires Inv-loop μ-loop
 put-lines-requires c κs =
@@ -100,20 +91,21 @@ put-lines-requires c κs =
     let b5 = b3 .before .before in
     let b6 = b5 .before in
     let b7 = b6 .before in
-    let b11 = b7 .before .before .before .before in
-    let a = b11 .args in
+    let b10 = b7 .before .before .before in
+    let a = b10 .args in
     let l = b7 .loop in
-    let e = sym (b5 .entry-at .ensures) ∙ b3 .kind .given .1 in
-    lines-fit (a .list .now) (a .sum .now) (l .at) (l .k) (a .n) (b6 .loop-test .taken) e _ (part-length _ _) _ (add-assoc (l .at) _ _) (l .out) (l .to) (l .inv .2)
+    lines-fit (a .list .now) (digits sumDigits (a .total)) (l .at) (l .k) (a .n) (b6 .loop-test .taken) (sym (b5 .entry-at .ensures) ∙ b3 .kind .given .1) _ (part-length _ _) _ (add-assoc (l .at) _ _) (l .out) (l .to) (l .inv .2)
 
 add-k : tie.Need-add-k Inv-loop μ-loop
 add-k c =
     let b9 = c .before .before .before .before .before .before .before .before .before in
-    let b14 = b9 .before .before .before .before .before in
-    omega (arith, b9 .loop-test .taken, b14 .fits, b14 .good)
+    let b13 = b9 .before .before .before .before in
+    omega (arith, b9 .loop-test .taken, b13 .fits, b13 .good)
 
 loop-less : tie.Need-loop-less Inv-loop μ-loop
-loop-less c = omega (arith, c .before .before .before .before .before .before .before .before .before .loop-test .taken)
+loop-less c =
+    let b9 = c .before .before .before .before .before .before .before .before .before in
+    omega (arith, b9 .loop-test .taken)
 
 loop-again : tie.Need-loop-again Inv-loop μ-loop
 loop-again c =
@@ -121,24 +113,20 @@ loop-again c =
     let b8 = b6 .before .before in
     let b9 = b8 .before in
     let b10 = b9 .before in
-    let b14 = b10 .before .before .before .before in
-    let a = b14 .args in
+    let b13 = b10 .before .before .before in
+    let a = b13 .args in
     let l = b10 .loop in
-    let e = sym (b8 .entry-at .ensures) ∙ b6 .kind .given .1 in
-    let t = put-turn (a .list .now) (a .sum .now) (l .at) (l .k) (a .n) (b9 .loop-test .taken) e _ (part-length _ _) _ (add-assoc (l .at) _ _) (l .out) (l .to) (l .inv .2) _
-    _ (c .before .before .put-lines .ensures .0) (c .before .before .put-lines .ensures .1) in
-    (omega (arith, b9 .loop-test .taken), t .same-room ∙ l .inv .1, t .has-room, t .same ∙ l .inv .3)
+    let t = put-turn (a .list .now) (digits sumDigits (a .total)) (l .at) (l .k) (a .n) (b9 .loop-test .taken) (sym (b8 .entry-at .ensures) ∙ b6 .kind .given .1) _ (part-length _ _) _ (add-assoc (l .at) _ _) (l .out) (l .to) (l .inv .2) _ _ (c .before .before .put-lines .ensures .0) (c .before .before .put-lines .ensures .1) in (omega (arith, b9 .loop-test .taken), t .same-room ∙ l .inv .1, t .has-room, t .same ∙ l .inv .3)
 
 same-length-2 : tie.Need-same-length-2 Inv-loop μ-loop
 same-length-2 c = c .before .loop .inv .1
 
 returns-2 : tie.Need-returns-2 Inv-loop μ-loop
 returns-2 c =
-    let b5 = c .before .before .before .before .before in
-    let a = b5 .args in
+    let b4 = c .before .before .before .before in
+    let a = b4 .args in
     let l = c .before .loop in
-    over-none (l .out) (l .to) ∙ (ap (λ (u : List ℕ). over (l .to) u (l .out)) (sym (lines-end (a .list .now) (a .sum .now) (l .at) (l .k) (a .n) (c .loop-test .left)))
-    ∙ l .inv .3)
+    over-none (l .out) (l .to) ∙ (ap (λ (u : List ℕ). over (l .to) u (l .out)) (sym (lines-end (a .list .now) (digits sumDigits (a .total)) (l .at) (l .k) (a .n) (c .loop-test .left))) ∙ l .inv .3)
 
 pub put-set-spec : {M : Type 1} → statement M
 put-set-spec =

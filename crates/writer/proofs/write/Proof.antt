@@ -1,10 +1,10 @@
--- `write`: 1, and then as the entries are checked.
+-- `write`: 1, and then as the list is judged.
 -- Assumes nothing.
 use mathlib.Core.Path.{sym, ap, _∙_}
 use native.Mathlib.Omega.{arith}
 use borrow.Author.Needs.{needs}
 use Rattle.meaning.specs.declared.Made.the-variants.{Refused}
-use Rattle.writer.proofs.WriteLaws.{answer-empty, answer-unchecked}
+use Rattle.writer.proofs.WriteLaws.{answer-empty, answer-refused}
 use Rattle.writer.proofs.write.Statement.{statement}
 use Rattle.writer.proofs.write.Tie as tie
 
@@ -14,11 +14,11 @@ refused-at-requires c κs = search needs
 returns : tie.Need-returns
 returns c =
     let b4 = c .before .before .before .before in
-    let r = answer-empty (b4 .args .list .now) (b4 .args .out .now) (c .before .if1 .taken) in
-    (ap Refused (c .refused-at .ensures) ∙ r .0, r .1)
+    let a = b4 .args in
+    let r = answer-empty (a .list .now) (a .out .now) (c .before .if1 .taken) in (ap Refused (c .refused-at .ensures) ∙ r .0, r .1)
 
-check-entries-requires : tie.Need-check-entries-requires
-check-entries-requires c κs = search needs
+judge-entries-requires : tie.Need-judge-entries-requires
+judge-entries-requires c κs = search needs
 
 enum-known-r : tie.Need-enum-known-r
 enum-known-r c = search needs
@@ -30,13 +30,15 @@ write-entries-requires : tie.Need-write-entries-requires
 write-entries-requires c κs =
     let b4 = c .before .before .before .before in
     let b5 = b4 .before in
-    (omega (arith, b5 .if1 .left), sym (b4 .check-entries .ensures) ∙ c .before .before .n .given .1)
+    (omega (arith, b5 .if1 .left), sym (b4 .judge-entries .ensures) ∙ c .before .before .n .given .1)
 
 returns-2 : tie.Need-returns-2
 returns-2 c =
     let b3 = c .before .before .before in
     let b4 = b3 .before in
-    answer-unchecked _ _ _ (omega (arith, b4 .if1 .left)) (sym (b3 .check-entries .ensures) ∙ c .before .r .given .1)
+    let b7 = b4 .before .before .before in
+    let a = b7 .args in
+    answer-refused (a .list .now) (a .out .now) _ (omega (arith, b4 .if1 .left)) (sym (b3 .judge-entries .ensures) ∙ c .before .r .given .1)
 
 same-length : tie.Need-same-length
 same-length c = search needs
@@ -50,7 +52,7 @@ write-spec =
     (tie.spec
     refused-at-requires
     returns
-    check-entries-requires
+    judge-entries-requires
     enum-known-r
     enum-known-n
     write-entries-requires

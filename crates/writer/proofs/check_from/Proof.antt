@@ -1,33 +1,34 @@
--- `check_entries`: the check of the entries that are left is the check of all.
+-- `check_from`: the check of the entries that are left is the check of all.
 -- Assumes nothing.
-use mathlib.Core.Path.{_≡_, refl, sym, _∙_}
+use mathlib.Core.Path.{_≡_, refl, sym, ap, _∙_}
 use Prim.Native.Nat.{_-_, _≤_}
 use native.Mathlib.Omega.{arith}
 use borrow.Author.Needs.{needs}
 use lib.ListN.{length}
 use Rattle.meaning.specs.Limits.{maxEntries}
+use Rattle.writer.specs.declared.Checked.the-variants.{Refused}
 use Rattle.writer.specs.Writing.{checkFrom}
 use Rattle.writer.proofs.CheckLaws.{check-done, check-full, check-bad, check-further, checked-within}
-use Rattle.writer.proofs.check_entries.Statement.{statement}
-use Rattle.writer.proofs.check_entries.Tie as tie
+use Rattle.writer.proofs.check_from.Statement.{statement}
+use Rattle.writer.proofs.check_from.Tie as tie
 
 abbrev Inv-loop : tie.InvT-loop
-Inv-loop list at₀ n₀ at n = (at ≤ length list) × (n ≤ maxEntries) × (checkFrom list at n (maxEntries - n) ≡ checkFrom list 0 0 maxEntries)
+Inv-loop list start before at₀ n₀ at n = (at ≤ length list) × (n ≤ maxEntries) × (checkFrom list at n (maxEntries - n) ≡ checkFrom list start before (maxEntries - before))
 
 abbrev μ-loop : tie.MeasureT-loop
-μ-loop list at₀ n₀ at n = maxEntries - n
+μ-loop list start before at₀ n₀ at n = maxEntries - n
 
 loop-holds : tie.Need-loop-holds Inv-loop μ-loop
-loop-holds c = (omega arith, omega arith, refl)
+loop-holds c = (c .before .pre .0, c .before .pre .1, refl)
 
-unchecked-requires : tie.Need-unchecked-requires Inv-loop μ-loop
-unchecked-requires c κs = search needs
+refused-at-requires : tie.Need-refused-at-requires Inv-loop μ-loop
+refused-at-requires c κs = search needs
 
 returns : tie.Need-returns Inv-loop μ-loop
 returns c =
     let b3 = c .before .before .before in
-    let l = b3 .loop in
-    c .unchecked .ensures ∙ (sym (check-full _ _ (l .n) (c .before .before .loop-test .taken) (c .before .if1 .taken)) ∙ l .inv .2)
+    let b5 = b3 .before .before in
+    let l = b3 .loop in ap Refused (c .refused-at .ensures) ∙ (sym (check-full (b5 .args .list .now) (l .at) (l .n) (c .before .before .loop-test .taken) (c .before .if1 .taken)) ∙ l .inv .2)
 
 check-entry-requires : tie.Need-check-entry-requires Inv-loop μ-loop
 check-entry-requires c κs = search needs
@@ -41,8 +42,8 @@ returns-2 c =
     let b4 = b3 .before in
     let b5 = b4 .before in
     let b6 = b5 .before in
-    let l = b6 .loop in
-    sym (check-bad _ _ (l .n) (b5 .loop-test .taken) (omega (arith, b4 .if1 .left)) (sym (b3 .check-entry .ensures) ∙ c .before .r .given .1)) ∙ l .inv .2
+    let b8 = b6 .before .before in
+    let l = b6 .loop in sym (check-bad (b8 .args .list .now) (l .at) (l .n) (b5 .loop-test .taken) (omega (arith, b4 .if1 .left)) (sym (b3 .check-entry .ensures) ∙ c .before .r .given .1)) ∙ l .inv .2
 
 enum-known-length : tie.Need-enum-known-length Inv-loop μ-loop
 enum-known-length c = search needs
@@ -62,10 +63,14 @@ add-at-2 c =
     omega (arith, checked-within (b8 .args .list .now) (b6 .loop .at) (sym (b3 .check-entry .ensures) ∙ c .before .length .given .1), b8 .good)
 
 add-n : tie.Need-add-n Inv-loop μ-loop
-add-n c = omega (arith, c .before .before .before .before .if1 .left)
+add-n c =
+    let b4 = c .before .before .before .before in
+    omega (arith, b4 .if1 .left)
 
 loop-less : tie.Need-loop-less Inv-loop μ-loop
-loop-less c = search needs
+loop-less c =
+    let b4 = c .before .before .before .before in
+    omega (arith, b4 .if1 .left)
 
 loop-again : tie.Need-loop-again Inv-loop μ-loop
 loop-again c =
@@ -74,25 +79,22 @@ loop-again c =
     let b5 = b4 .before in
     let b6 = b5 .before in
     let b8 = b6 .before .before in
-    let l = b6 .loop in
-    let e = sym (b3 .check-entry .ensures) ∙ c .before .length .given .1 in (
-      checked-within (b8 .args .list .now) (l .at) e,
-      omega (arith, b4 .if1 .left),
-      sym (check-further _ _ (l .n) (b5 .loop-test .taken) (omega (arith, b4 .if1 .left)) e)
-          ∙ l .inv .2,
-    )
+    let a = b8 .args in
+    let l = b6 .loop in (checked-within (a .list .now) (l .at) (sym (b3 .check-entry .ensures) ∙ c .before .length .given .1), omega (arith, b4 .if1 .left), sym (check-further (a .list .now) (l .at) (l .n) (b5 .loop-test .taken) (omega (arith, b4 .if1 .left)) (sym (b3 .check-entry .ensures) ∙ c .before .length .given .1)) ∙ l .inv .2)
 
 returns-3 : tie.Need-returns-3 Inv-loop μ-loop
-returns-3 c = let l = c .before .loop in sym (check-done _ _ (l .n) (maxEntries - l .n) (c .loop-test .left)) ∙ l .inv .2
+returns-3 c =
+    let b3 = c .before .before .before in
+    let l = c .before .loop in sym (check-done (b3 .args .list .now) (l .at) (l .n) (maxEntries - l .n) (c .loop-test .left)) ∙ l .inv .2
 
-pub check-entries-spec : {M : Type 1} → statement M
-check-entries-spec =
+pub check-from-spec : {M : Type 1} → statement M
+check-from-spec =
     tie.close
     (tie.spec
     Inv-loop
     μ-loop
     loop-holds
-    unchecked-requires
+    refused-at-requires
     returns
     check-entry-requires
     enum-known-r
