@@ -1,7 +1,7 @@
 -- What each test of the code says of the definitions: one law for each way that a test can end.
 -- Assumes nothing. The code goes by offsets and the definitions by lists, so most laws speak of what is left from an offset on.
-use mathlib.Core.Path.{_≡_, refl}
-use mathlib.Core.Bool.{Bool, true, false}
+use mathlib.Core.Path.{_≡_, refl, sym, ap, _∙_}
+use mathlib.Core.Bool.{Bool, true, false, _&&_}
 use mathlib.Core.List.{List, [], _∷_}
 use Prim.Native.Nat.{ℕ, _+_, _-_, _≤_, _<_}
 use native.Mathlib.Numerals.{add-one}
@@ -12,27 +12,37 @@ use lib.Seq.{drop-cons}
 use borrow.Author.Tests.{eq-eqb, ne-eqb, leb-true}
 use Rattle.meaning.specs.declared.FieldRow.{FieldRow}
 use Rattle.meaning.specs.Digits.{digit, allDigits}
-use Rattle.meaning.specs.Kinds.{point, minus, decimals, whole, unsigned, isFloat, noNumber, twoAt, sameBytes}
+use Rattle.meaning.specs.Kinds.{point, minus, decimals, whole, unsigned, isFloat, noNumber, twoAt, sameBytes, ofKind}
 use Rattle.meaning.specs.Tables.{rowLabel}
 use Rattle.meaning.specs.FieldTable.{fieldTable, fieldRowIn, fieldRow, hasLength, fitsRow, fitsLabel}
 use Rattle.meaning.proofs.Bools.{and-left, and-right, and-no}
-use Rattle.fields.specs.Codes.{fieldCode}
+use Rattle.fields.specs.Codes.{kindOf, fieldCode, kindIn}
 use Rattle.fields.proofs.CodeLaws.{Small, row-small, kind-back, code-least, code-most, code-kind}
 use Rattle.kinds.specs.declared.Float.the-variants.{Is, Not}
 use Rattle.kinds.specs.Floats.{floatIf, floatOf}
-use Rattle.kinds.specs.Fitting.{fitsField}
+use Rattle.kinds.specs.Fitting.{lengthFits, fitsField}
 
 -- ---- a content and the code of a field row
 
 -- a content fits the code of a row where it fits the row
 fits-coded : (x : FieldRow) (c : List ℕ) → Small x → fitsField (fieldCode x) c ≡ fitsRow x c
-unfolding fitsField fitsRow hasLength
+unfolding fitsField lengthFits fitsRow hasLength
 fits-coded x c s = rw (code-least x s, code-most x s, code-kind x s, kind-back (x .kind))
 
--- and so for the row of a label
-pub fits-code : (l : ℕ) (c : List ℕ) → fitsField (fieldCode (fieldRow l)) c ≡ fitsLabel l c
-unfolding fitsLabel fieldRow
-fits-code l c = fits-coded (fieldRowIn fieldTable (rowLabel l)) c (row-small (rowLabel l))
+-- what is asked of the code of a label's row, for each way that it can end
+module _ (field l : ℕ) (c : List ℕ) (e : field ≡ fieldCode (fieldRow l)) where
+  fits-code : fitsField field c ≡ fitsLabel l c
+  unfolding fitsLabel fieldRow
+  fits-code = ap (λ (k : ℕ). fitsField k c) e ∙ fits-coded (fieldRowIn fieldTable (rowLabel l)) c (row-small (rowLabel l))
+
+  pub fits-not : lengthFits field (length c) ≡ false → fitsLabel l c ≡ false
+  unfolding fitsField
+  fits-not n = sym fits-code ∙ ap (λ (b : Bool). b && ofKind (kindOf (kindIn field)) c) n
+
+  pub fits-kind : lengthFits field (length c) ≡ true → (kind : ℕ) (b : Bool) → kind ≡ kindIn field → b ≡ ofKind (kindOf kind) c → fitsLabel l c ≡ b
+  unfolding fitsField
+  fits-kind n kind b k q =
+      sym fits-code ∙ (ap (λ (x : Bool). x && ofKind (kindOf (kindIn field)) c) n ∙ (ap (λ (x : ℕ). ofKind (kindOf x) c) (sym k) ∙ sym q))
 
 -- ---- digits
 

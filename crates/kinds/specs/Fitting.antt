@@ -8,6 +8,10 @@ use lib.ListN.{length}
 use Rattle.meaning.specs.Kinds.{ofKind}
 use Rattle.fields.specs.Codes.{kindOf, leastIn, mostIn, kindIn}
 
+-- a length that the code allows
+unfoldable pub lengthFits : ℕ → ℕ → Bool
+lengthFits code n = leb (leastIn code) n && leb n (mostIn code)
+
 -- the content has the length and is of the kind that the code tells
 unfoldable pub fitsField : ℕ → List ℕ → Bool
-fitsField code c = (leb (leastIn code) (length c) && leb (length c) (mostIn code)) && ofKind (kindOf (kindIn code)) c
+fitsField code c = lengthFits code (length c) && ofKind (kindOf (kindIn code)) c

@@ -7,7 +7,7 @@ ghost use Rattle.meaning.specs.Digits.{digit, allDigits};
 ghost use Rattle.meaning.specs.Kinds.{isNum, decimals, whole, unsigned, isFloat, twoAt, isRule020, isRule008, isRule090, isRule112, isRule116, isCharset, isVersion, sameBytes, is0210, ofKind};
 ghost use Rattle.meaning.specs.FieldTable.{fitsLabel};
 ghost use Rattle.fields.specs.Codes.{kindOf};
-ghost use Rattle.kinds.specs.Fitting.{fitsField};
+ghost use Rattle.kinds.specs.Fitting.{lengthFits};
 ghost use Rattle.kinds.specs.Floats.{floatIf, floatOf};
 
 // The bytes that the tests name.
@@ -278,7 +278,7 @@ pub fn is_0210(c: &[u8]) -> bool
 }
 
 // The test of a kind, by the kind's number.
-fn of_kind(kind: u16, c: &[u8]) -> bool
+pub fn of_kind(kind: u16, c: &[u8]) -> bool
     ensures { λ r. ⌜ r ≡ ofKind (kindOf kind) (now (c .entry)) ⌝ }
 {
     match kind {
@@ -295,22 +295,23 @@ fn of_kind(kind: u16, c: &[u8]) -> bool
     }
 }
 
-// The content has the length and passes the test that a row of the field table asks, by the row's code.
-pub fn fits_field(field: u16, content: &[u8]) -> bool
-    ensures { λ r. ⌜ r ≡ fitsField field (now (content .entry)) ⌝ }
+// A content of this length has the length that a row of the field table asks, by the row's code.
+pub fn has_length(field: u16, length: usize) -> bool
+    ensures { λ r. ⌜ r ≡ lengthFits field length ⌝ }
 {
-    if content.len() < fields::least_of(field) {
+    if length < fields::least_of(field) {
         return false;
     }
-    if fields::most_of(field) < content.len() {
-        return false;
-    }
-    of_kind(fields::kind_of(field), content)
+    length <= fields::most_of(field)
 }
 
-// The content fits the label's row.
+// The content has the length and passes the test that the field table asks of the label.
 pub fn fits_label(label: usize, content: &[u8]) -> bool
     ensures { λ r. ⌜ r ≡ fitsLabel label (now (content .entry)) ⌝ }
 {
-    fits_field(fields::field_code(label), content)
+    let field = fields::field_code(label);
+    if has_length(field, content.len()) {
+        return of_kind(fields::kind_of(field), content);
+    }
+    false
 }

@@ -6,24 +6,25 @@ use mathlib.Core.List.{List}
 use Prim.Native.Nat.{ℕ, _+_, _-_, _≤_}
 use native.Mathlib.Omega.{arith}
 use lib.Dec.{eqb}
-use lib.ListN.{set}
+use lib.ListN.{length, set}
 use borrow.Author.Tests.{ne-eqb, eqb-true, eqb-false, eq-eqb}
 use Rattle.meaning.specs.declared.Refusal.{Refusal}
 use Rattle.meaning.specs.declared.Row.{Row}
 use Rattle.meaning.specs.declared.SetType.{SetType}
-use Rattle.meaning.specs.Refusals.{notInSet}
-use Rattle.meaning.specs.Tables.{isPairLabel}
-use Rattle.meaning.specs.FieldTable.{fieldRow, fitsLabel}
-use Rattle.fields.specs.Codes.{fieldCode}
-use Rattle.kinds.specs.Fitting.{fitsField}
-use Rattle.kinds.proofs.Laws.{fits-code}
+use Rattle.meaning.specs.Refusals.{notInSet, badContent}
+use Rattle.meaning.specs.Tables.{isPairLabel, rowLabel}
+use Rattle.meaning.specs.Kinds.{isAlnum, ofKind}
+use Rattle.meaning.specs.FieldTable.{fieldTable, fieldRowIn, fieldRow}
+use Rattle.fields.specs.Codes.{kindNumber, kindOf, fieldCode, kindIn}
+use Rattle.kinds.specs.Fitting.{lengthFits}
+use Rattle.kinds.proofs.Laws.{fits-not, fits-kind}
 use Rattle.tables.specs.LookUp.{Found, At, Nothing}
 use Rattle.tables.specs.Codes.{numberIn}
 use Rattle.tables.proofs.CodeLaws.{Coded}
 use Rattle.lacks.specs.declared.Group.{Group}
 use Rattle.lacks.specs.Lacks.{State, noFlags, firstLack}
 use Rattle.steps.specs.declared.Step.{Step}
-use Rattle.steps.specs.Steps.{rowOf, placeNo, labelNo, contentNo, lineNo, nextState, staysIn, lackThen, openedGroup, joinedGroup, Stepped}
+use Rattle.steps.specs.Steps.{rowOf, placeNo, labelNo, versionNo, contentNo, lineNo, nextState, staysIn, lackThen, openedGroup, joinedGroup, Stepped}
 
 -- ---- names and their odd labels
 
@@ -41,9 +42,34 @@ behind-name h l p = go (eqb h (l - 1)) refl
 pub row-at : {kind : SetType} {l c i : ℕ} (h : Coded kind l c) → i ≡ numberIn c → rowOf kind l ≡ At i (h .row)
 row-at h e = h .is ∙ ap (λ (k : ℕ). At k (h .row)) (sym e)
 
--- what the code answers of a content is what the label asks
-pub content-fits : (field l : ℕ) (c : List ℕ) (b : Bool) → field ≡ fieldCode (fieldRow l) → b ≡ fitsField field c → fitsLabel l c ≡ b
-content-fits field l c b e q = sym (fits-code l c) ∙ (ap (λ (k : ℕ). fitsField k c) (sym e) ∙ sym q)
+-- ---- 14 and 15 by the field of a label
+
+-- the version has a kind of its own
+version-kind : (field l : ℕ) → field ≡ fieldCode (fieldRow l) → kindIn field ≡ 0 → l ≡ 9218 → ⊥
+unfolding fieldCode kindNumber fieldRow fieldRowIn fieldTable rowLabel
+version-kind field l e z v =
+    let w : kindIn field ≡ 9 = ap kindIn (e ∙ ap (λ (x : ℕ). fieldCode (fieldRow x)) v) in
+    omega arith
+
+module _ (field l : ℕ) (c : List ℕ) (e : field ≡ fieldCode (fieldRow l)) where
+  pub content-short : lengthFits field (length c) ≡ false → badContent ≡ contentNo l c
+  unfolding contentNo
+  content-short n = rw (fits-not field l c e n)
+
+  module _ (n : lengthFits field (length c) ≡ true) (kind : ℕ) (k : kind ≡ kindIn field) where
+    pub content-any : kind ≡ 0 → 0 ≡ contentNo l c
+    unfolding contentNo versionNo ofKind isAlnum kindOf
+    content-any z =
+        let t : true ≡ ofKind (kindOf kind) c = rw z in
+        rw (fits-kind field l c e n kind true k t, ne-eqb l 9218 (version-kind field l e (sym k ∙ z)))
+
+    pub content-fits : (b : Bool) → b ≡ ofKind (kindOf kind) c → b ≡ true → (m : ℕ) → m ≡ versionNo l c → m ≡ contentNo l c
+    unfolding contentNo
+    content-fits b q t m v = rw (fits-kind field l c e n kind b k q ∙ t) v
+
+    pub content-unfit : (b : Bool) → b ≡ ofKind (kindOf kind) c → b ≡ false → badContent ≡ contentNo l c
+    unfolding contentNo
+    content-unfit b q t = rw (fits-kind field l c e n kind b k q ∙ t)
 
 -- ---- one line
 

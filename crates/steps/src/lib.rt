@@ -89,8 +89,16 @@ fn version_no(label: usize, content: &[u8]) -> usize
 fn content_no(field: u16, label: usize, content: &[u8]) -> usize
     ensures { λ n. ⌜ (field ≡ fieldCode (fieldRow label) → n ≡ contentNo label (now (content .entry))) ⌝ }
 {
-    if kinds::fits_field(field, content) {
-        return version_no(label, content);
+    if kinds::has_length(field, content.len()) {
+        let kind = fields::kind_of(field);
+        // "alnum: any content bytes."
+        if kind == fields::ALNUM {
+            return 0;
+        }
+        if kinds::of_kind(kind, content) {
+            return version_no(label, content);
+        }
+        return Refusal::BAD_CONTENT;
     }
     Refusal::BAD_CONTENT
 }
