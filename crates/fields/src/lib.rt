@@ -1,7 +1,7 @@
 // The field table: what the content of each label must be, as one number for each row, and the row of a label.
 // Assumes nothing; no function here asks anything of its caller, and each says in its contract which definition it equals.
 ghost use mathlib.Core.Path.{_≡_};
-ghost use Rattle.meaning.specs.Tables.{rowLabel};
+ghost use Rattle.meaning.specs.Tables.{isPairLabel, rowLabel};
 ghost use Rattle.meaning.specs.FieldTable.{fieldTable, fieldRowIn, fieldRow};
 ghost use Rattle.fields.specs.Codes.{fieldCode, leastIn, mostIn, kindIn};
 
@@ -167,17 +167,24 @@ pub const OF_9218: u16 = 5 * EXACTLY + VERSION * KIND;
 // No length fits a label that has no row.
 const OF_NONE: u16 = FROM_ONE + ALNUM * KIND;
 
+// A name, or the odd label behind one.
+pub fn is_pair(label: usize) -> bool
+    ensures { λ r. ⌜ r ≡ isPairLabel label ⌝ }
+{
+    if label < FIRST_PAIR {
+        return false;
+    }
+    label <= LAST_PAIR
+}
+
 // The label that a label's row is printed under: 6330 for the names, 6331 for the odd labels behind them.
 pub fn row_label(label: usize) -> usize
     ensures { λ r. ⌜ r ≡ rowLabel label ⌝ }
 {
-    if label < FIRST_PAIR {
-        return label;
+    if is_pair(label) {
+        return FIRST_PAIR + label % 2;
     }
-    if LAST_PAIR < label {
-        return label;
-    }
-    FIRST_PAIR + label % 2
+    label
 }
 
 // The code of a row label's row.

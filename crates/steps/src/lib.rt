@@ -116,13 +116,10 @@ fn refused_step(no: usize, group: Group) -> Step
 pub fn header_after(label: usize, header: usize) -> usize
     ensures { λ r. ⌜ r ≡ cond (isPairLabel label) 0 header ⌝ }
 {
-    if label < 6330 {
-        return header;
+    if fields::is_pair(label) {
+        return 0;
     }
-    if 6399 < label {
-        return header;
-    }
-    0
+    header
 }
 
 // What is open behind a set-level line with row number i: its own group, with no member yet. The group before it ends.

@@ -2,21 +2,22 @@
 -- Assumes nothing.
 use mathlib.Core.Path.{_≡_, refl, sym, ap, _∙_}
 use mathlib.Core.Bool.{Bool, true, false, cond, _&&_, true≢false}
-use mathlib.Core.List.{List, [], _∷_, map}
+use mathlib.Core.List.{List, [], _∷_}
 use mathlib.Core.Option.{some}
-use Prim.Native.Nat.{ℕ, zero, suc, _+_, _≤_, _<_}
+use Prim.Native.Nat.{ℕ, zero, suc, _+_, _%_, _≤_, _<_}
 use native.Mathlib.Nat.{add-zero, zero-add}
 use native.Mathlib.Omega.{arith}
 use lib.Dec.{eqb}
 use lib.ListN.{length, getD}
-use borrow.Author.Tests.{ne-eqb, eqb-true}
+use borrow.Author.Tests.{ne-eqb, eqb-true, eqb-false}
 use Rattle.meaning.specs.declared.Row.{Row}
 use Rattle.meaning.specs.declared.SetType.{SetType}
 use Rattle.meaning.specs.declared.SetType.the-variants.{T6300, T6301, T6302, T6310, T6311}
-use Rattle.meaning.specs.Tables.{rows6300, rows6301, rows6302, rows6310, rows6311, table, rowLabel, findIn, find}
+use Rattle.meaning.specs.Tables.{rows6300, rows6301, rows6302, rows6310, rows6311, table, isPairLabel, rowLabel, findIn, find}
 use Rattle.meaning.proofs.Bools.{and-left, and-right}
 use Rattle.fields.proofs.Arms.{NoneOf, none-beside}
 use Rattle.tables.specs.LookUp.{Found, At, Nothing, findFrom, justRow}
+use Rattle.tables.specs.Codes.{code}
 
 -- ---- the look-up with the number is the meaning's, without it
 
@@ -37,16 +38,58 @@ find-is rs l = find-in-is rs (rowLabel l) 0
 
 -- ---- a label that is not in the table
 
--- the labels of rows
-abbrev pub labelsOf : List Row → List ℕ
-labelsOf rs = map (λ (r : Row). r .label) rs
+-- the labels of rows, without the two that are printed for names and odd labels
+unfoldable pub plainLabels : List Row → List ℕ
+plainLabels [] = []
+plainLabels (r ∷ rs) = let rest = plainLabels rs in cond (isPairLabel (r .label)) rest (r .label ∷ rest)
 
--- a label that is none of a table's is not found there
-pub find-none : (A : Type 0) (rs : List Row) (l i : ℕ) → NoneOf A l (labelsOf rs) → findFrom rs l i ≡ Nothing
-unfolding findFrom
-find-none A [] l i h = refl
-find-none A (r ∷ rs) l i h =
-    rw (ne-eqb l (r .label) (none-beside (A × (l ≡ r .label → ⊥)) l (labelsOf rs) h .1)) (find-none (A × (l ≡ r .label → ⊥)) rs l (i + 1) h)
+-- a label that is none of these, no name and no odd label is not found
+find-plain : (A : Type 0) (rs : List Row) (l i : ℕ) → isPairLabel l ≡ false → NoneOf A l (plainLabels rs) → findFrom rs l i ≡ Nothing
+unfolding findFrom plainLabels
+find-plain A [] l i p h = refl
+find-plain A (r ∷ rs) l i p h = go (λ B g. find-plain B rs l (i + 1) p g) (isPairLabel (r .label)) refl h
+  where
+    go : ((B : Type 0) → NoneOf B l (plainLabels rs) → findFrom rs l (i + 1) ≡ Nothing) → (b : Bool) → isPairLabel (r .label) ≡ b
+        → NoneOf A l (cond b (plainLabels rs) (r .label ∷ plainLabels rs)) → cond (eqb l (r .label)) (At i r) (findFrom rs l (i + 1)) ≡ Nothing
+    go rest true q g = rw (ne-eqb l (r .label) (λ e. true≢false (sym q ∙ (ap isPairLabel (sym e) ∙ p)))) (rest A g)
+    go rest false q g =
+        rw (ne-eqb l (r .label) (none-beside (A × (l ≡ r .label → ⊥)) l (plainLabels rs) g .1)) (rest (A × (l ≡ r .label → ⊥)) g)
+
+-- the label of a row is the label itself, but for names and odd labels
+row-plain : (l : ℕ) → isPairLabel l ≡ false → rowLabel l ≡ l
+unfolding rowLabel
+row-plain l p = rw p
+
+pub row-even : (l : ℕ) → isPairLabel l ≡ true → l % 2 ≡ 0 → rowLabel l ≡ 6330
+unfolding rowLabel
+row-even l p e = rw (p, e)
+
+pub row-odd : (l : ℕ) → isPairLabel l ≡ true → (l % 2 ≡ 0 → ⊥) → rowLabel l ≡ 6331
+unfolding rowLabel
+row-odd l p n = let e : l % 2 ≡ 1 = omega arith in rw (p, e)
+
+-- the last arm of a `match` on these labels
+module _ (A : Type 0) (rs : List Row) (l : ℕ) (h : NoneOf A l (plainLabels rs)) where
+  plain : isPairLabel l ≡ false → findFrom rs (rowLabel l) 0 ≡ Nothing
+  plain p = rw (row-plain l p) (find-plain A rs l 0 p h)
+
+  -- where the table has names
+  pub find-pairs : code (findFrom rs (rowLabel l) 0) ≡ cond (isPairLabel l) (code (findFrom rs (rowLabel l) 0)) 0
+  unfolding code
+  find-pairs = go (isPairLabel l) refl
+    where
+      go : (b : Bool) → isPairLabel l ≡ b → code (findFrom rs (rowLabel l) 0) ≡ cond b (code (findFrom rs (rowLabel l) 0)) 0
+      go true p = refl
+      go false p = ap code (plain p)
+
+  -- where it has none
+  pub find-none : findFrom rs 6330 0 ≡ Nothing → findFrom rs 6331 0 ≡ Nothing → findFrom rs (rowLabel l) 0 ≡ Nothing
+  find-none even odd = go (isPairLabel l) refl (eqb (l % 2) 0) refl
+    where
+      go : (b : Bool) → isPairLabel l ≡ b → (d : Bool) → eqb (l % 2) 0 ≡ d → findFrom rs (rowLabel l) 0 ≡ Nothing
+      go false p d q = plain p
+      go true p true q = ap (λ (k : ℕ). findFrom rs k 0) (row-even l p (eqb-true (l % 2) 0 q)) ∙ even
+      go true p false q = ap (λ (k : ℕ). findFrom rs k 0) (row-odd l p (eqb-false (l % 2) 0 q)) ∙ odd
 
 -- ---- a row that is found
 

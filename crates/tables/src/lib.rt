@@ -1,7 +1,8 @@
 // The look-up of a label's row in the five set tables: by `match`, since it runs once a line, and answered by one number, the row's code.
 // Assumes nothing; no function here asks anything of its caller, and each says in its contract which definition it equals.
 ghost use mathlib.Core.Path.{_≡_};
-ghost use Rattle.meaning.specs.Tables.{rows6300, rows6301, rows6302, rows6310, rows6311, table, rowLabel};
+ghost use mathlib.Core.Bool.{cond};
+ghost use Rattle.meaning.specs.Tables.{rows6300, rows6301, rows6302, rows6310, rows6311, table, isPairLabel, rowLabel};
 ghost use Rattle.tables.specs.LookUp.{findFrom};
 ghost use Rattle.tables.specs.Codes.{rowCode, code, numberIn, underIn, manyIn, fieldIn};
 use meaning::SetType;
@@ -36,11 +37,11 @@ fn at(number: u8, under: u16, many: u8, field: u16) -> usize
         + FIELDS * (number as usize + NUMBERS * (many as usize + OCCURRENCES * under as usize))
 }
 
-// The code of a row label's row in the table of 6300.
-fn find_6300(want: usize) -> usize
-    ensures { λ r. ⌜ r ≡ code (findFrom rows6300 want 0) ⌝ }
+// The code of a label's row in the table of 6300.
+fn find_6300(label: usize) -> usize
+    ensures { λ r. ⌜ r ≡ code (findFrom rows6300 (rowLabel label) 0) ⌝ }
 {
-    match want {
+    match label {
         8000 => at(0, SET_LEVEL, ONCE, fields::OF_8000),
         8100 => at(1, SET_LEVEL, ONCE, fields::OF_8100),
         8315 => at(2, SET_LEVEL, ONCE, fields::OF_8315),
@@ -52,11 +53,11 @@ fn find_6300(want: usize) -> usize
     }
 }
 
-// The code of a row label's row in the table of 6301.
-fn find_6301(want: usize) -> usize
-    ensures { λ r. ⌜ r ≡ code (findFrom rows6301 want 0) ⌝ }
+// The code of a label's row in the table of 6301.
+fn find_6301(label: usize) -> usize
+    ensures { λ r. ⌜ r ≡ code (findFrom rows6301 (rowLabel label) 0) ⌝ }
 {
-    match want {
+    match label {
         8000 => at(0, SET_LEVEL, ONCE, fields::OF_8000),
         8100 => at(1, SET_LEVEL, ONCE, fields::OF_8100),
         8315 => at(2, SET_LEVEL, ONCE, fields::OF_8315),
@@ -81,11 +82,11 @@ fn find_6301(want: usize) -> usize
     }
 }
 
-// The code of a row label's row in the table of 6302.
-fn find_6302(want: usize) -> usize
-    ensures { λ r. ⌜ r ≡ code (findFrom rows6302 want 0) ⌝ }
+// The code of a label's row in the table of 6302.
+fn find_6302(label: usize) -> usize
+    ensures { λ r. ⌜ r ≡ code (findFrom rows6302 (rowLabel label) 0) ⌝ }
 {
-    match want {
+    match label {
         8000 => at(0, SET_LEVEL, ONCE, fields::OF_8000),
         8100 => at(1, SET_LEVEL, ONCE, fields::OF_8100),
         8315 => at(2, SET_LEVEL, ONCE, fields::OF_8315),
@@ -115,11 +116,24 @@ fn find_6302(want: usize) -> usize
     }
 }
 
-// The code of a row label's row in the table of 6310.
-fn find_6310(want: usize) -> usize
-    ensures { λ r. ⌜ r ≡ code (findFrom rows6310 want 0) ⌝ }
+// Rows 36 and 37 of the table of 6310: 6330 is printed for all names, 6331 for the odd labels behind them.
+fn find_pair(label: usize) -> usize
+    ensures { λ r. ⌜ r ≡ cond (isPairLabel label) (code (findFrom rows6310 (rowLabel label) 0)) 0 ⌝ }
 {
-    match want {
+    if fields::is_pair(label) {
+        if label % 2 == 0 {
+            return at(36, SET_LEVEL, MANY, fields::OF_6330);
+        }
+        return at(37, 6330, ONCE, fields::OF_6331);
+    }
+    NOTHING
+}
+
+// The code of a label's row in the table of 6310.
+fn find_6310(label: usize) -> usize
+    ensures { λ r. ⌜ r ≡ code (findFrom rows6310 (rowLabel label) 0) ⌝ }
+{
+    match label {
         8000 => at(0, SET_LEVEL, ONCE, fields::OF_8000),
         8100 => at(1, SET_LEVEL, ONCE, fields::OF_8100),
         8315 => at(2, SET_LEVEL, ONCE, fields::OF_8315),
@@ -156,8 +170,6 @@ fn find_6310(want: usize) -> usize
         6303 => at(33, 6302, ONCE, fields::OF_6303),
         6304 => at(34, 6302, ONCE, fields::OF_6304),
         6305 => at(35, 6302, ONCE, fields::OF_6305),
-        6330 => at(36, SET_LEVEL, MANY, fields::OF_6330),
-        6331 => at(37, 6330, ONCE, fields::OF_6331),
         8410 => at(38, SET_LEVEL, MANY, fields::OF_8410),
         8411 => at(39, 8410, ONCE, fields::OF_8411),
         8428 => at(40, 8410, ONCE, fields::OF_8428),
@@ -177,15 +189,15 @@ fn find_6310(want: usize) -> usize
         8470 => at(54, 8410, MANY, fields::OF_8470),
         8480 => at(55, 8410, MANY, fields::OF_8480),
         8990 => at(56, SET_LEVEL, ONCE, fields::OF_8990),
-        _ => NOTHING,
+        _ => find_pair(label),
     }
 }
 
-// The code of a row label's row in the table of 6311.
-fn find_6311(want: usize) -> usize
-    ensures { λ r. ⌜ r ≡ code (findFrom rows6311 want 0) ⌝ }
+// The code of a label's row in the table of 6311.
+fn find_6311(label: usize) -> usize
+    ensures { λ r. ⌜ r ≡ code (findFrom rows6311 (rowLabel label) 0) ⌝ }
 {
-    match want {
+    match label {
         8000 => at(0, SET_LEVEL, ONCE, fields::OF_8000),
         8100 => at(1, SET_LEVEL, ONCE, fields::OF_8100),
         8315 => at(2, SET_LEVEL, ONCE, fields::OF_8315),
@@ -211,13 +223,12 @@ fn find_6311(want: usize) -> usize
 pub fn find_row(kind: SetType, label: usize) -> usize
     ensures { λ r. ⌜ r ≡ code (findFrom (table kind) (rowLabel label) 0) ⌝ }
 {
-    let want = fields::row_label(label);
     match kind {
-        SetType::T6300 => find_6300(want),
-        SetType::T6301 => find_6301(want),
-        SetType::T6302 => find_6302(want),
-        SetType::T6310 => find_6310(want),
-        SetType::T6311 => find_6311(want),
+        SetType::T6300 => find_6300(label),
+        SetType::T6301 => find_6301(label),
+        SetType::T6302 => find_6302(label),
+        SetType::T6310 => find_6310(label),
+        SetType::T6311 => find_6311(label),
     }
 }
 

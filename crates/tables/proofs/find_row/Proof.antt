@@ -1,12 +1,9 @@
--- `find_row` searches the table of the set type for the label of the row.
+-- `find_row` searches the table of the set type.
 -- Assumes nothing.
 use borrow.Author.Needs.{needs}
 use Rattle.meaning.specs.Tables.{table}
 use Rattle.tables.proofs.find_row.Statement.{statement}
 use Rattle.tables.proofs.find_row.Tie as tie
-
-row-label-requires : tie.Need-row-label-requires
-row-label-requires c κs = search needs
 
 enum-told : tie.Need-enum-told
 enum-told c = search needs
@@ -40,29 +37,28 @@ find-6311-requires c κs = search needs
 
 returns : tie.Need-returns
 unfolding table
-returns c = rw (c .before .enum-told .given .1, ← c .before .before .before .row-label .ensures) (c .find-6300 .ensures)
+returns c = rw (c .before .enum-told .given .1) (c .find-6300 .ensures)
 
 returns-2 : tie.Need-returns-2
 unfolding table
-returns-2 c = rw (c .before .enum-told2 .given .1, ← c .before .before .before .row-label .ensures) (c .find-6301 .ensures)
+returns-2 c = rw (c .before .enum-told2 .given .1) (c .find-6301 .ensures)
 
 returns-3 : tie.Need-returns-3
 unfolding table
-returns-3 c = rw (c .before .enum-told3 .given .1, ← c .before .before .before .row-label .ensures) (c .find-6302 .ensures)
+returns-3 c = rw (c .before .enum-told3 .given .1) (c .find-6302 .ensures)
 
 returns-4 : tie.Need-returns-4
 unfolding table
-returns-4 c = rw (c .before .enum-told4 .given .1, ← c .before .before .before .row-label .ensures) (c .find-6310 .ensures)
+returns-4 c = rw (c .before .enum-told4 .given .1) (c .find-6310 .ensures)
 
 returns-5 : tie.Need-returns-5
 unfolding table
-returns-5 c = rw (c .before .enum-told5 .given .1, ← c .before .before .before .row-label .ensures) (c .find-6311 .ensures)
+returns-5 c = rw (c .before .enum-told5 .given .1) (c .find-6311 .ensures)
 
 pub find-row-spec : {M : Type 1} → statement M
 find-row-spec =
     tie.close
     (tie.spec
-    row-label-requires
     enum-told
     find-6300-requires
     enum-told-2
