@@ -38,7 +38,7 @@ const ROW_8461: usize = 52;
 const ROW_8462: usize = 53;
 
 // The numbers of the rows of required labels: these in every table.
-const ROW_8000: usize = 0;
+pub const ROW_8000: usize = 0;
 
 const ROW_8100: usize = 1;
 

@@ -8,7 +8,7 @@ use native.Mathlib.Omega.{arith}
 use native.Mathlib.Nat.{zero-add}
 use lib.Dec.{eqb}
 use lib.ListN.{length, drop, take, length-take}
-use borrow.Author.Tests.{eq-eqb, ne-eqb, eqb-true, le-leb}
+use borrow.Author.Tests.{ne-eqb, eqb-true, le-leb}
 use Rattle.meaning.specs.declared.Refusal.{Refusal}
 use Rattle.meaning.specs.declared.Row.{Row}
 use Rattle.meaning.specs.declared.Judged.{Judged}
@@ -25,7 +25,7 @@ use Rattle.meaning.specs.Groups.{first, after}
 use Rattle.meaning.specs.Missing.{lacking, among, groupsLacking, missingFaults}
 use Rattle.meaning.specs.Rules.{Profile, profile, typeNamed, isKnown, rowsOf, fits, startFaults, rulesFrom, sumFaults, ruleFaults, setFaults}
 use Rattle.meaning.specs.Reading.{inSet, scan, byRules, read, judged, judge}
-use Rattle.meaning.specs.Lists.{sumDigits, sumLine}
+use Rattle.meaning.specs.Lists.{sumDigits}
 use Rattle.meaning.specs.Answers.{noRefusal}
 use Rattle.meaning.proofs.Bools.{Every}
 use Rattle.meaning.proofs.FaultLaws.{append-none}
@@ -114,11 +114,10 @@ verdict-bad pl (x ∷ xs) d h = refl
 -- ---- 17, where line 2 fits
 
 sum-is : (s : List ℕ) (at total : ℕ) (g : Field) (u : List ℕ) (pl : ℕ → Spot → ℕ) (p : Profile) → Sound g → drop at s ≡ lineThen g u → at ≡ pl 1 start
-    → fits p (field 8100 (g .content)) ≡ true → sumWalk s at (lineSize g) total ≡ firstOf pl (ask (eqb (number (g .content)) total) (atLine badSum 1 0))
+    → fits p (field 8100 (g .content)) ≡ true → sumWalk s at total ≡ firstOf pl (ask (eqb (number (g .content)) total) (atLine badSum 1 0))
 unfolding sumWalk
 sum-is s at total g u pl p h w e q =
     let d = sum-fits p (g .content) q in
-    let n : lineSize g ≡ sumLine = omega (arith, d .five) in
     let n5 : lineSize g - 9 ≡ 5 = omega (arith, d .five) in
     let c : take 5 (drop (at + 7) s) ≡ g .content = ap (λ (m : ℕ). take m (drop (at + 7) s)) (sym n5) ∙ reads-content s at g u h w in
     let l : 5 ≤ length (drop (at + 7) s) = omega (arith, d .five, ap length c, length-take 5 (drop (at + 7) s)) in
@@ -126,7 +125,7 @@ sum-is s at total g u pl p h w e q =
     number-is s (at + 7) 5 (omega arith) (omega arith)
     ∙ (ap (λ (x : Bool). asNumber (x && allDigits (take 5 (drop (at + 7) s))) (number (take 5 (drop (at + 7) s)))) (le-leb 5 (length (drop (at + 7) s)) l)
     ∙ (ap (λ (x : List ℕ). asNumber (allDigits x) (number x)) c ∙ ap (λ (x : Bool). asNumber x (number (g .content))) (d .all-digits))) in
-    rw (eq-eqb (lineSize g) sumLine n, num) (go (eqb (number (g .content)) total))
+    rw num (go (eqb (number (g .content)) total))
   where
     go : (x : Bool) → cond x noRefusal (refusal badSum at 0) ≡ firstOf pl (ask x (atLine badSum 1 0))
     go true = refl
@@ -154,7 +153,7 @@ second-is s kind total f g fs t h w e =
     let p : Profile = ofType kind in
     let P : Refusal = firstOf (inSet all) (middle p all) in
     rw (le-leb 2 (length all) (omega arith), read-line s (lineSize f) g (render fs t) w′ (h .1 .0), pass-found s kind all t h w)
-    (cond-when (eqb (g .label) 8100) (orElse P (sumWalk s (lineSize f) (lineSize g) total)) (orElse P (firstOf (inSet all) (ask (eqb (number (g .content)) total) (atLine badSum 1 0)))) (refusal noSum (lineSize f) 0)
+    (cond-when (eqb (g .label) 8100) (orElse P (sumWalk s (lineSize f) total)) (orElse P (firstOf (inSet all) (ask (eqb (number (g .content)) total) (atLine badSum 1 0)))) (refusal noSum (lineSize f) 0)
     (λ c. or-then P (λ z.
     let none : middle p all ≡ [] = first-none (inSet all) (middle p all) (real-middle p all) z in
     let fit : fits p g ≡ true = second-fits p f g fs (append-none (rulesFrom p first 0 all) _ none .0) in

@@ -1,8 +1,9 @@
 -- The rules as the code walks them: over offsets, with the rows that were seen as flags. proofs/PassLaws and proofs/JudgeLaws tie them to the rules of `meaning`.
 -- Assumes nothing: these are definitions.
-use mathlib.Core.Bool.{Bool, false, cond, _&&_}
+use mathlib.Core.Bool.{Bool, false, cond}
+use mathlib.Core.Path.{_≡_}
 use mathlib.Core.List.{List}
-use Prim.Native.Nat.{ℕ, zero, suc, _+_, _-_}
+use Prim.Native.Nat.{ℕ, zero, suc, _+_, _-_, _<_}
 use lib.ListN.{length, take, drop}
 use lib.Dec.{leb, eqb}
 use Rattle.meaning.specs.declared.Refusal.{Refusal}
@@ -12,10 +13,10 @@ use Rattle.meaning.specs.declared.Known.{Known}
 use Rattle.meaning.specs.declared.Known.the-variants.{Of, Nothing}
 use Rattle.meaning.specs.declared.SetType.{SetType}
 use Rattle.meaning.specs.Limits.{maxLines, typeNumber}
-use Rattle.meaning.specs.Refusals.{refusal, tooManyLines, noStart, unknownSet, noSum, badSum}
+use Rattle.meaning.specs.Refusals.{refusal, noStart, unknownSet, noSum, badSum}
 use Rattle.meaning.specs.Lines.{lineLead, lineEnd}
 use Rattle.meaning.specs.Rules.{typeNamed}
-use Rattle.meaning.specs.Lists.{sumDigits, sumLine}
+use Rattle.meaning.specs.Lists.{sumDigits}
 use Rattle.meaning.specs.Answers.{noRefusal}
 use Rattle.lines.specs.declared.Line.{Line}
 use Rattle.lines.specs.declared.Line.the-variants.{Read, Refused}
@@ -25,7 +26,7 @@ use Rattle.lines.specs.declared.Scan.{Scan}
 use Rattle.lines.specs.declared.Scan.the-variants.{Done}
 use Rattle.lines.specs.Number.{numberAt}
 use Rattle.lines.specs.Line.{lineAt}
-use Rattle.lines.specs.Scan.{after, scanFrom, scanSet}
+use Rattle.lines.specs.Scan.{scanFrom, scanSet}
 use Rattle.lacks.specs.Lacks.{orElse, State, begin, finish}
 use Rattle.steps.specs.Steps.{rowOf, lineNo, nextState, staysIn, lackThen}
 
@@ -49,10 +50,6 @@ passFrom s kind at st lack (suc n) =
 
 -- ---- the scan and the pass at once
 
--- the scan from a line start on that has k lines before it, where the set does not end there
-unfoldable pub scanOn : List ℕ → ℕ → ℕ → Scan
-scanOn s at k = cond (leb maxLines k) (Scan.Refused (refusal tooManyLines at 0)) (after (lineAt s at) (λ n. scanFrom s (at + n) (k + 1) (maxLines - (k + 1))))
-
 -- the refusal of a scan, else r
 abbrev pub firstUnread : Scan → Refusal → Refusal
 firstUnread (Done total lines) r = r
@@ -61,6 +58,21 @@ firstUnread (Scan.Refused q) r = q
 -- a set that is read, where nothing is refused
 unfoldable pub doneUnless : Refusal → ℕ → ℕ → Scan
 doneUnless r total lines = cond (eqb (r .no) 0) (Done total lines) (Scan.Refused r)
+
+-- a scan that has k lines before it and reads no more
+abbrev pub Stops : ℕ → Scan → Type 0
+Stops k (Done total lines) = lines ≡ k
+Stops k (Scan.Refused r) = Unit
+
+-- what is told of a line that has k lines before it: its label and size, where it is a line of the set; else the label is 8000
+pub record NextAt (s : List ℕ) (at k l n : ℕ) : Type 0 where
+  pub line-read : (l ≡ 8000 → ⊥) → (k < maxLines) × (lineAt s at ≡ Read l n)
+  pub scan-stops : l ≡ 8000 → Stops k (scanFrom s at k (maxLines - k))
+
+-- 16 behind a scan that is done
+abbrev pub finishedScan : Refusal → Scan → Scan
+finishedScan r (Done total lines) = doneUnless r total lines
+finishedScan r (Scan.Refused q) = Scan.Refused q
 
 -- 1 to 7 as the scan found them, then the pass over the lines
 abbrev pub passed : List ℕ → SetType → Scan → Scan
@@ -74,21 +86,21 @@ abbrev pub sumIs : Number → ℕ → Bool
 sumIs (Is n) total = eqb n total
 sumIs None total = false
 
--- 17 of the line of n bytes at `at`
-unfoldable pub sumWalk : List ℕ → ℕ → ℕ → ℕ → Refusal
-sumWalk s at n total = cond (eqb n sumLine && sumIs (numberAt s (at + lineLead) sumDigits) total) noRefusal (refusal badSum at 0)
+-- 17, where line 2 stands at `at` and its content fits
+unfoldable pub sumWalk : List ℕ → ℕ → ℕ → Refusal
+sumWalk s at total = cond (sumIs (numberAt s (at + lineLead) sumDigits) total) noRefusal (refusal badSum at 0)
 
--- 11 to 17, where line 2 is the line of n bytes at `at`
-abbrev pub ruledWalk : List ℕ → SetType → ℕ → ℕ → ℕ → ℕ → Refusal
-ruledWalk s kind at total lines n = orElse (passFrom s kind 0 begin noRefusal lines) (sumWalk s at n total)
+-- 11 to 17, where line 2 is 8100 and stands at `at`: 17 is asked only where the pass found nothing
+abbrev pub ruledWalk : List ℕ → SetType → ℕ → ℕ → ℕ → Refusal
+ruledWalk s kind at total lines = orElse (passFrom s kind 0 begin noRefusal lines) (sumWalk s at total)
 
--- 10 to 17, where line 2 is read
-unfoldable pub secondBy : List ℕ → SetType → ℕ → ℕ → ℕ → ℕ → ℕ → Refusal
-secondBy s kind at total lines l n = cond (eqb l 8100) (ruledWalk s kind at total lines n) (refusal noSum at 0)
+-- 10 to 17, where line 2 has this label
+unfoldable pub secondBy : List ℕ → SetType → ℕ → ℕ → ℕ → ℕ → Refusal
+secondBy s kind at total lines l = cond (eqb l 8100) (ruledWalk s kind at total lines) (refusal noSum at 0)
 
 -- 10 to 17, where line 1 ends at `at`
 unfoldable pub secondWalk : List ℕ → SetType → ℕ → ℕ → ℕ → Refusal
-secondWalk s kind at total lines = cond (leb 2 lines) (afterLine (lineAt s at) (λ l n. secondBy s kind at total lines l n)) (refusal noSum at 0)
+secondWalk s kind at total lines = cond (leb 2 lines) (afterLine (lineAt s at) (λ l n. secondBy s kind at total lines l)) (refusal noSum at 0)
 
 -- accepted where nothing is refused
 unfoldable pub asJudged : Refusal → SetType → ℕ → ℕ → Judged

@@ -6,8 +6,9 @@ use borrow.Author.Needs.{needs}
 use Rattle.meaning.specs.declared.Refusal.{Refusal}
 use Rattle.meaning.specs.declared.Judged.{Judged}
 use Rattle.lines.specs.Scan.{scanFrom}
+use Rattle.lines.proofs.Bridge.{read-back}
 use Rattle.rules.specs.Walks.{firstUnread}
-use Rattle.rules.proofs.StartLaws.{first-other, first-untyped, first-typed}
+use Rattle.rules.proofs.StartLaws.{first-other, first-untyped, first-start, first-named, first-typed}
 use Rattle.rules.proofs.first_line.Statement.{statement}
 use Rattle.rules.proofs.first_line.Tie as tie
 
@@ -15,22 +16,22 @@ refused-at-requires : tie.Need-refused-at-requires
 refused-at-requires c κs = search needs
 
 unless-unread-requires : tie.Need-unless-unread-requires
-unless-unread-requires c κs = search needs
+unless-unread-requires c κs = (omega (arith, (read-back (c .before .before .before .args .s .now) 0 (c .before .before .before .pre)) .within), omega arith)
 
 returns : tie.Need-returns
-returns c = ap Judged.Refused (c .unless-unread .ensures ∙ ap (λ (x : Refusal). firstUnread (scanFrom (c .before .before .before .before .args .s .now) (c .before .before .before .before .args .size) 1 511) x) (c .before .refused-at .ensures)) ∙ first-other _ _ _ (c .before .before .before .before .pre .2) (c .before .before .if1 .taken)
+returns c = ap Judged.Refused (c .unless-unread .ensures ∙ ap (λ (x : Refusal). firstUnread (scanFrom (c .before .before .before .before .args .s .now) (c .before .before .before .before .args .size) 1 511) x) (c .before .refused-at .ensures)) ∙ first-other _ _ _ (c .before .before .before .before .pre) (c .before .before .if1 .taken)
 
 sub-end : tie.Need-sub-end
-sub-end c = search needs
+sub-end c = omega (arith, (read-back (c .before .before .args .s .now) 0 (c .before .before .pre)) .least)
 
 sub-type-of : tie.Need-sub-type-of
-sub-type-of c = search needs
+sub-type-of c = omega (arith, (read-back (c .before .before .args .s .now) 0 (c .before .before .pre)) .least)
 
 part-type-of-start : tie.Need-part-type-of-start
-part-type-of-start c = search needs
+part-type-of-start c = omega (arith, (read-back (c .before .before .args .s .now) 0 (c .before .before .pre)) .least)
 
 part-type-of-end : tie.Need-part-type-of-end
-part-type-of-end c = search needs
+part-type-of-end c = omega (arith, (read-back (c .before .before .args .s .now) 0 (c .before .before .pre)) .within)
 
 type-of-requires : tie.Need-type-of-requires
 type-of-requires c κs = search needs
@@ -45,16 +46,16 @@ refused-at-requires-2 : tie.Need-refused-at-requires-2
 refused-at-requires-2 c κs = search needs
 
 unless-unread-requires-2 : tie.Need-unless-unread-requires-2
-unless-unread-requires-2 c κs = search needs
+unless-unread-requires-2 c κs = (omega (arith, (read-back (c .before .before .before .before .before .before .before .args .s .now) 0 (c .before .before .before .before .before .before .before .pre)) .within), omega arith)
 
 returns-2 : tie.Need-returns-2
-returns-2 c = ap Judged.Refused (c .unless-unread2 .ensures ∙ ap (λ (x : Refusal). firstUnread (scanFrom (c .before .before .before .before .before .before .before .before .args .s .now) (c .before .before .before .before .before .before .before .before .args .size) 1 511) x) (c .before .refused-at2 .ensures)) ∙ first-untyped _ _ _ (c .before .before .before .before .before .before .before .before .pre .2) (c .before .before .before .before .before .before .if1 .left) (c .before .before .before .before .before .before .before .before .pre .0) _ (c .before .before .before .before .type-of .ensures) (c .before .before .enum-told .given .1)
+returns-2 c = ap Judged.Refused (c .unless-unread2 .ensures ∙ ap (λ (x : Refusal). firstUnread (scanFrom (c .before .before .before .before .before .before .before .before .args .s .now) (c .before .before .before .before .before .before .before .before .args .size) 1 511) x) (c .before .refused-at2 .ensures)) ∙ first-untyped _ _ _ (c .before .before .before .before .before .before .before .before .pre) (c .before .before .before .before .before .before .if1 .left) _ (c .before .before .before .before .type-of .ensures) (c .before .before .enum-told .given .1)
 
 second-line-requires : tie.Need-second-line-requires
-second-line-requires c κs = search needs
+second-line-requires c κs = (first-start _ _ _ (c .before .before .before .before .before .before .before .pre) (c .before .before .before .before .before .if1 .left) _ (c .before .before .before .type-of .ensures) _ (c .before .known .given .1), first-named _ _ _ (c .before .before .before .before .before .before .before .pre) (c .before .before .before .before .before .if1 .left) _ (c .before .before .before .type-of .ensures) _ (c .before .known .given .1))
 
 returns-3 : tie.Need-returns-3
-returns-3 c = c .second-line .ensures ∙ first-typed _ _ _ (c .before .before .before .before .before .before .before .before .pre .2) (c .before .before .before .before .before .before .if1 .left) (c .before .before .before .before .before .before .before .before .pre .0) _ (c .before .before .before .before .type-of .ensures) _ (c .before .before .known .given .1)
+returns-3 c = c .second-line .ensures ∙ first-typed _ _ _ (c .before .before .before .before .before .before .before .before .pre) (c .before .before .before .before .before .before .if1 .left) _ (c .before .before .before .before .type-of .ensures) _ (c .before .before .known .given .1)
 
 pub first-line-spec : {M : Type 1} → statement M
 first-line-spec =

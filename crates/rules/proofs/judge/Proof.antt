@@ -1,11 +1,9 @@
 -- `judge` answers what the definition says: `judge-is`.
 -- Assumes nothing.
 use mathlib.Core.Path.{sym, ap, _∙_}
-use native.Mathlib.Omega.{arith}
 use borrow.Author.Needs.{needs}
 use Rattle.meaning.specs.declared.Judged.{Judged}
-use Rattle.lines.proofs.Bridge.{read-back}
-use Rattle.rules.proofs.StartLaws.{judge-empty, judge-unread, scan-first, judge-read}
+use Rattle.rules.proofs.StartLaws.{judge-empty, judge-unread, judge-read}
 use Rattle.rules.proofs.JudgeLaws.{judge-is}
 use Rattle.rules.proofs.judge.Statement.{statement}
 use Rattle.rules.proofs.judge.Tie as tie
@@ -26,7 +24,7 @@ enum-known-label : tie.Need-enum-known-label
 enum-known-label c = search needs
 
 first-line-requires : tie.Need-first-line-requires
-first-line-requires c κs = (read-back (c .before .before .before .before .before .before .args .set .now) 0 (sym (c .before .before .before .line-at .ensures) ∙ c .before .label .given .1) .least, omega (arith, read-back (c .before .before .before .before .before .before .args .set .now) 0 (sym (c .before .before .before .line-at .ensures) ∙ c .before .label .given .1) .within), scan-first _ (c .before .before .before .before .if1 .left) _ _ (sym (c .before .before .before .line-at .ensures) ∙ c .before .label .given .1))
+first-line-requires c κs = (sym (c .before .before .before .line-at .ensures) ∙ c .before .label .given .1)
 
 returns-2 : tie.Need-returns-2
 returns-2 c = judge-unread _ (c .before .before .before .before .if1 .left) _ (sym (c .before .before .before .line-at .ensures) ∙ c .before .r .given .1) ∙ judge-is _
