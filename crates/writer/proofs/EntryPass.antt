@@ -27,6 +27,7 @@ use Rattle.meaning.specs.Rules.{profile, typeDigits, typeNamed, labelIs, isKnow
 use Rattle.meaning.specs.Lists.{inList}
 use Rattle.meaning.specs.Answers.{noRefusal}
 use Rattle.meaning.proofs.Bools.{and-left, and-right}
+use Rattle.tables.specs.declared.Found.{Found}
 use Rattle.tables.specs.LookUp.{findFrom}
 use Rattle.entries.specs.declared.Head.the-variants.{Whole}
 use Rattle.entries.specs.Head.{entryAt}
@@ -36,8 +37,9 @@ use Rattle.lacks.proofs.FlagLaws.{Same, begin-same}
 use Rattle.steps.specs.declared.Step.{Step}
 use Rattle.steps.specs.Steps.{rowOf, againNo, placeNo, labelNo, versionNo, contentNo, lineNo, nextState, staysIn, Stepped}
 use Rattle.steps.proofs.SameLaws.{whole, pass-line, pass-finish}
+use Rattle.lists.proofs.PartLaws.{part-length}
 use Rattle.rules.proofs.JudgeLaws.{middle, real-middle, ofType, starts, real-starts, whole-found}
-use Rattle.writer.specs.Writing.{stepThen, entriesPass, row8000, started, byKnown, firstEntry, judgeEntries}
+use Rattle.writer.specs.Writing.{contentOf, stepThen, entriesPass, row8000, started, byKnown, firstEntry, judgeEntries}
 use Rattle.writer.proofs.CheckLaws.{Reads}
 
 -- ---- one line, as the code takes it
@@ -50,22 +52,28 @@ module _ (kind : SetType) (st : State) (lack : Refusal) (at l : ℕ) (c : List �
   pub step-on : r .no ≡ 0 → stepThen kind st lack at l c F ≡ F (stateOf (r .group) members top) (r .group .lack)
   step-on g = rw (← e .number, g) (ap₂ F (sym (e .state g)) (sym (e .lack-so g)))
 
+-- the content as the code cuts it out
+pub step-entry : (l : List ℕ) (at m : ℕ) {o : Found} {kind : SetType} {st : State} {lack : Refusal} {label : ℕ} {r : Step} {members top : List Bool}
+    → Stepped o kind st lack at label (take (at + entryLead + m - (at + entryLead)) (drop (at + entryLead) l)) r members top → Stepped o kind st lack at label (contentOf l at m) r members top
+step-entry l at m {o} {kind} {st} {lack} {label} {r} {members} {top} e =
+    subst (λ (n : ℕ). Stepped o kind st lack at label (take n (drop (at + entryLead) l)) r members top) (part-length (at + entryLead) m) e
+
 -- ---- an entry behind the first: it is refused, or the pass goes on
 
-module _ (l : List ℕ) (kind : SetType) (at : ℕ) (st : State) (lack : Refusal) (label m : ℕ) (q : entryAt l at ≡ Whole label m) (w : ℕ) (v : w ≡ m) (r : Step) (members top : List Bool)
-    (e : Stepped (rowOf kind label) kind st lack at label (take w (drop (at + entryLead) l)) r members top) where
+module _ (l : List ℕ) (kind : SetType) (at : ℕ) (st : State) (lack : Refusal) (label m : ℕ) (q : entryAt l at ≡ Whole label m) (r : Step) (members top : List Bool)
+    (e : Stepped (rowOf kind label) kind st lack at label (contentOf l at m) r members top) where
   abbrev rest : ℕ → State → Refusal → Refusal
   rest n st′ lack′ = entriesPass l kind (at + (entryLead + m)) st′ lack′ n
 
-  here : (n : ℕ) → entriesPass l kind at st lack (suc n) ≡ stepThen kind st lack at label (take w (drop (at + entryLead) l)) (rest n)
+  here : (n : ℕ) → entriesPass l kind at st lack (suc n) ≡ stepThen kind st lack at label (contentOf l at m) (rest n)
   unfolding entriesPass
-  here n = rw (q, v)
+  here n = rw q
 
   pub pass-bad : (r .no ≡ 0 → ⊥) → (n : ℕ) → entriesPass l kind at st lack (suc n) ≡ refusal (r .no) at label
-  pass-bad g n = here n ∙ step-bad kind st lack at label (take w (drop (at + entryLead) l)) r members top e (rest n) g
+  pass-bad g n = here n ∙ step-bad kind st lack at label (contentOf l at m) r members top e (rest n) g
 
   pub pass-on : r .no ≡ 0 → (n : ℕ) → entriesPass l kind at st lack (suc n) ≡ entriesPass l kind (at + (entryLead + m)) (stateOf (r .group) members top) (r .group .lack) n
-  pass-on g n = here n ∙ step-on kind st lack at label (take w (drop (at + entryLead) l)) r members top e (rest n) g
+  pass-on g n = here n ∙ step-on kind st lack at label (contentOf l at m) r members top e (rest n) g
 
 -- ---- line 1 and line 2
 

@@ -28,7 +28,7 @@ use Rattle.writer.specs.declared.Item.{Item}
 use Rattle.writer.specs.declared.Item.the-variants.{Read}
 use Rattle.writer.specs.declared.Checked.{Checked}
 use Rattle.writer.specs.declared.Checked.the-variants.{Done, Refused}
-use Rattle.writer.specs.Writing.{checkEntry, checkFrom, entriesPass, started, firstEntry, judgeEntries, doneUnless, ruled, elseRefused, judgedList}
+use Rattle.writer.specs.Writing.{contentOf, checkEntry, checkFrom, entriesPass, started, firstEntry, judgeEntries, doneUnless, ruled, elseRefused, judgedList}
 use Rattle.writer.proofs.CheckLaws.{entry-cut, check-done, check-full, check-bad, check-further, checked-head, checked-within, Counts, check-counts, digits-kept}
 use Rattle.writer.proofs.EntryPass.{pass-bad, pass-on, type-digits, first-other, first-unknown, first-known}
 
@@ -103,15 +103,13 @@ module _ (l : List ℕ) (kind : SetType) (second : ℕ) where
         pub along-unchecked : (r : Refusal) → checkEntry l at ≡ Item.Refused r → Refused r ≡ found
         along-unchecked r q = by-check _ (check-bad l at n h g q)
 
-        module _ (label m : ℕ) (q : checkEntry l at ≡ Read label m) (w : ℕ) (v : w ≡ m) (r : Step) (members top : List Bool)
-            (e : Stepped (rowOf kind label) kind st lack at label (take w (drop (at + entryLead) l)) r members top) where
-          pub along-bad : (r .no ≡ 0 → ⊥) → (end : ℕ) → end ≡ at + (entryLead + m)
-              → elseRefused (checkFrom l end (n + 1) (maxEntries - (n + 1))) (refusal (r .no) at label) ≡ found
+        module _ (label m : ℕ) (q : checkEntry l at ≡ Read label m) (r : Step) (members top : List Bool)
+            (e : Stepped (rowOf kind label) kind st lack at label (contentOf l at m) r members top) where
+          pub along-bad : (r .no ≡ 0 → ⊥) → elseRefused (checkFrom l (at + (entryLead + m)) (n + 1) (maxEntries - (n + 1))) (refusal (r .no) at label) ≡ found
           unfolding doneUnless
-          along-bad z end y =
-              ap (λ (k : ℕ). elseRefused (checkFrom l k (n + 1) (maxEntries - (n + 1))) (refusal (r .no) at label)) y
-              ∙ (go (checkFrom l (at + (entryLead + m)) (n + 1) (maxEntries - (n + 1))) (check-counts l (maxEntries - (n + 1)) (at + (entryLead + m)) (n + 1))
-              ∙ by-check _ (check-further l at n h g q))
+          along-bad z =
+              go (checkFrom l (at + (entryLead + m)) (n + 1) (maxEntries - (n + 1))) (check-counts l (maxEntries - (n + 1)) (at + (entryLead + m)) (n + 1))
+              ∙ by-check _ (check-further l at n h g q)
             where
               go : (x : Checked) → Counts (n + 1) x → elseRefused x (refusal (r .no) at label) ≡ ruled x (λ n. entriesPass l kind second started noRefusal (n - 1))
               go (Refused u) c = refl
@@ -119,18 +117,17 @@ module _ (l : List ℕ) (kind : SetType) (second : ℕ) where
                   let j : n - 1 + suc (k - (n + 1)) ≡ k - 1 = omega (arith, a .some) in
                   let p : entriesPass l kind second started noRefusal (k - 1) ≡ refusal (r .no) at label =
                   ap (entriesPass l kind second started noRefusal) (sym j)
-                  ∙ (sym (a .pass-so (suc (k - (n + 1)))) ∙ pass-bad l kind at st lack label m (checked-head l at q) w v r members top e z (k - (n + 1))) in
+                  ∙ (sym (a .pass-so (suc (k - (n + 1)))) ∙ pass-bad l kind at st lack label m (checked-head l at q) r members top e z (k - (n + 1))) in
                   sym (rw (p, ne-eqb (r .no) 0 z))
 
-          pub along-on : r .no ≡ 0 → (end : ℕ) → end ≡ at + (entryLead + m) → Along end (n + 1) (stateOf (r .group) members top) (r .group .lack)
-          along-on z end y = record {
-            within = omega (arith, checked-within l at q);
+          pub along-on : r .no ≡ 0 → Along (at + (entryLead + m)) (n + 1) (stateOf (r .group) members top) (r .group .lack)
+          along-on z = record {
+            within = checked-within l at q;
             some = omega arith;
             few = omega arith;
-            check-so = ap (λ (k : ℕ). checkFrom l k (n + 1) (maxEntries - (n + 1))) y ∙ (sym (check-further l at n h g q) ∙ a .check-so);
-            pass-so = λ k. ap (λ (x : ℕ). entriesPass l kind x (stateOf (r .group) members top) (r .group .lack) k) y
-                ∙ (sym (pass-on l kind at st lack label m (checked-head l at q) w v r members top e z k)
-                ∙ (a .pass-so (suc k) ∙ ap (entriesPass l kind second started noRefusal) (omega (arith, a .some))));
+            check-so = sym (check-further l at n h g q) ∙ a .check-so;
+            pass-so = λ k. sym (pass-on l kind at st lack label m (checked-head l at q) r members top e z k)
+                ∙ (a .pass-so (suc k) ∙ ap (entriesPass l kind second started noRefusal) (omega (arith, a .some)));
           }
 
 -- ---- 8 and 9: what the loop finds is what the whole list is

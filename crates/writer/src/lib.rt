@@ -12,16 +12,19 @@ ghost use Rattle.meaning.specs.Entries.{entryLead};
 ghost use Rattle.meaning.specs.Lists.{sumDigits, sumLine, sumField};
 ghost use Rattle.meaning.specs.Answers.{writeCall, noRefusal};
 ghost use Rattle.buffers.specs.Places.{over};
+ghost use Rattle.lacks.specs.Lacks.{finish, stateOf};
+ghost use Rattle.steps.specs.Steps.{rowOf, Stepped};
 ghost use Rattle.entries.specs.declared.Head.the-variants.{Whole};
 ghost use Rattle.entries.specs.Head.{entryAt};
 ghost use Rattle.writer.specs.declared.Checked.the-variants.{Done};
-ghost use Rattle.writer.specs.Writing.{checkEntry, checkFrom, entriesPass, started, firstEntry, ruled, elseRefused, judgedList, entryLines, linesFrom};
+ghost use Rattle.writer.specs.Writing.{contentOf, checkEntry, checkFrom, entriesPass, started, firstEntry, doneUnless, ruled, elseRefused, judgedList, entryLines, linesFrom};
 use entries::Head;
 use lacks::Group;
 use meaning::Known;
 use meaning::Made;
 use meaning::Refusal;
 use meaning::SetType;
+use steps::Step;
 
 // "more than 511 (7)": 8100 has no entry.
 const ENTRIES: usize = SetType::LINES - 1;
@@ -113,6 +116,42 @@ fn unless_unchecked(list: &[u8], from: usize, before: usize, r: Refusal) -> Chec
     }
 }
 
+// The step of the entry at an offset, whose content has so many bytes.
+fn entry_step(
+    list: &[u8],
+    kind: SetType,
+    at: usize,
+    label: usize,
+    bytes: usize,
+    group: Group,
+    members: &mut [bool; lacks::ROWS],
+    top: &mut [bool; lacks::ROWS],
+) -> Step
+    requires { ⌜ at + (entryLead + bytes) ≤ length (now list) ⌝ }
+    ensures { λ r. ⌜ Stepped (rowOf kind label) kind (stateOf group (now (members .entry)) (now (top .entry))) (group .lack) at label (contentOf (now (list .entry)) at bytes) r (now (members .exit)) (now (top .exit)) ⌝ }
+{
+    let from = at + entries::ENTRY_LEAD;
+    let end = from + bytes;
+    steps::step_at(kind, at, label, &list[from..end], group, members, top)
+}
+
+// 16 behind the last of n entries.
+fn finished(
+    kind: SetType,
+    group: Group,
+    members: &[bool; lacks::ROWS],
+    top: &[bool; lacks::ROWS],
+    n: usize,
+) -> Checked
+    ensures { λ r. ⌜ r ≡ doneUnless (finish kind (stateOf group (now (members .entry)) (now (top .entry))) (group .lack)) n ⌝ }
+{
+    let lack = lacks::finish_at(kind, group, members, top);
+    if lack.no != 0 {
+        return Checked::Refused(lack);
+    }
+    Checked::Done(n)
+}
+
 // The entries behind the first, which start at an offset, each read once: 7, 21, 6, and 11 to 15 of each, then 16. Line 1 and line 2 ("the writer adds it") stand before
 // them, and are never refused here.
 fn pass_entries(list: &[u8], kind: SetType, second: usize) -> Checked
@@ -139,20 +178,10 @@ fn pass_entries(list: &[u8], kind: SetType, second: usize) -> Checked
                 return Checked::Refused(r);
             }
             Item::Read { label, length } => {
-                let from = at + entries::ENTRY_LEAD;
-                let end = from + length;
-                let step = steps::step_at(
-                    kind,
-                    at,
-                    label,
-                    &list[from..end],
-                    group,
-                    &mut members,
-                    &mut top,
-                );
+                let step = entry_step(list, kind, at, label, length, group, &mut members, &mut top);
                 let no = step.no;
                 let place = at;
-                at = end;
+                at += entries::ENTRY_LEAD + length;
                 n += 1;
                 if no != 0 {
                     return unless_unchecked(list, at, n, Refusal { no, place, label });
@@ -161,11 +190,7 @@ fn pass_entries(list: &[u8], kind: SetType, second: usize) -> Checked
             }
         }
     }
-    let lack = lacks::finish_at(kind, group, &members, &top);
-    if lack.no != 0 {
-        return Checked::Refused(lack);
-    }
-    Checked::Done(n)
+    finished(kind, group, &members, &top, n)
 }
 
 // 7, 21, 6, and 8 to 16, where the first entry is whole.

@@ -6,11 +6,10 @@ use native.Mathlib.Omega.{arith}
 use borrow.Author.Needs.{needs}
 use Rattle.meaning.specs.Limits.{maxEntries}
 use Rattle.lacks.specs.Lacks.{stateOf}
-use Rattle.lists.proofs.PartLaws.{part-length}
 use Rattle.writer.specs.declared.Checked.the-variants.{Refused}
 use Rattle.writer.specs.Writing.{started}
 use Rattle.writer.proofs.CheckLaws.{checked-within}
-use Rattle.writer.proofs.OnceLaws.{unless-bad, unless-good, Along, along-start, along-end, along-full, along-unchecked, along-bad, along-on}
+use Rattle.writer.proofs.OnceLaws.{Along, along-start, along-end, along-full, along-unchecked, along-bad, along-on}
 use Rattle.writer.proofs.pass_entries.Statement.{statement}
 use Rattle.writer.proofs.pass_entries.Tie as tie
 
@@ -61,103 +60,81 @@ returns-2 c =
 enum-known-label : tie.Need-enum-known-label Inv-loop μ-loop
 enum-known-label c = search needs
 
-add-from : tie.Need-add-from Inv-loop μ-loop
-add-from c =
+entry-step-requires : tie.Need-entry-step-requires Inv-loop μ-loop
+entry-step-requires c κs =
     let b3 = c .before .before .before in
-    let b6 = b3 .before .before .before in
-    let b9 = b6 .before .before .before in
-    omega (arith, checked-within (b9 .args .list .now) (b6 .loop .at) (sym (b3 .check-entry .ensures) ∙ c .before .label .given .1), b9 .good)
+    let b5 = b3 .before .before in
+    let b8 = b5 .before .before .before in
+    let b11 = b8 .before .before .before in
+    checked-within (b11 .args .list .now) (b8 .loop .at) (sym (b5 .check-entry .ensures) ∙ b3 .label .given .1)
 
-add-end : tie.Need-add-end Inv-loop μ-loop
-add-end c =
-    let b3 = c .before .before .before in
-    let b6 = b3 .before .before .before in
+add-at : tie.Need-add-at Inv-loop μ-loop
+add-at c =
+    let b4 = c .before .before .before .before in
+    let b6 = b4 .before .before in
     let b9 = b6 .before .before .before in
-    omega (arith, checked-within (b9 .args .list .now) (b6 .loop .at) (sym (b3 .check-entry .ensures) ∙ c .before .label .given .1), b9 .good)
+    let b12 = b9 .before .before .before in
+    omega (arith, checked-within (b12 .args .list .now) (b9 .loop .at) (sym (b6 .check-entry .ensures) ∙ b4 .label .given .1), b12 .good)
 
-sub-step-at : tie.Need-sub-step-at Inv-loop μ-loop
-sub-step-at c =
-    let b3 = c .before .before .before in
-    let b6 = b3 .before .before .before in
+add-at-2 : tie.Need-add-at-2 Inv-loop μ-loop
+add-at-2 c =
+    let b4 = c .before .before .before .before in
+    let b6 = b4 .before .before in
     let b9 = b6 .before .before .before in
-    omega (arith, checked-within (b9 .args .list .now) (b6 .loop .at) (sym (b3 .check-entry .ensures) ∙ c .before .label .given .1), b9 .good)
-
-part-step-at-start : tie.Need-part-step-at-start Inv-loop μ-loop
-part-step-at-start c =
-    let b3 = c .before .before .before in
-    let b6 = b3 .before .before .before in
-    let b9 = b6 .before .before .before in
-    omega (arith, checked-within (b9 .args .list .now) (b6 .loop .at) (sym (b3 .check-entry .ensures) ∙ c .before .label .given .1), b9 .good)
-
-part-step-at-end : tie.Need-part-step-at-end Inv-loop μ-loop
-part-step-at-end c =
-    let b3 = c .before .before .before in
-    let b6 = b3 .before .before .before in
-    let b9 = b6 .before .before .before in
-    omega (arith, checked-within (b9 .args .list .now) (b6 .loop .at) (sym (b3 .check-entry .ensures) ∙ c .before .label .given .1), b9 .good)
-
-step-at-requires : tie.Need-step-at-requires Inv-loop μ-loop
-step-at-requires c κs = search needs
+    let b12 = b9 .before .before .before in
+    omega (arith, checked-within (b12 .args .list .now) (b9 .loop .at) (sym (b6 .check-entry .ensures) ∙ b4 .label .given .1), b12 .good)
 
 add-n : tie.Need-add-n Inv-loop μ-loop
 add-n c =
-    let b8 = c .before .before .before .before .before .before .before .before in
-    omega (arith, b8 .if1 .left)
+    let b7 = c .before .before .before .before .before .before .before in
+    omega (arith, b7 .if1 .left)
 
 unless-unchecked-requires : tie.Need-unless-unchecked-requires Inv-loop μ-loop
 unless-unchecked-requires c κs =
-    let b6 = c .before .before .before .before .before .before in
-    let b8 = b6 .before .before in
-    let b9 = b8 .before in
-    let b11 = b9 .before .before in
-    let b14 = b11 .before .before .before in
-    (omega (arith, checked-within (b14 .args .list .now) (b11 .loop .at) (sym (b8 .check-entry .ensures) ∙ b6 .label .given .1)), omega (arith, b9 .if1 .left))
+    let b5 = c .before .before .before .before .before in
+    let b7 = b5 .before .before in
+    let b8 = b7 .before in
+    let b10 = b8 .before .before in
+    let b13 = b10 .before .before .before in
+    (checked-within (b13 .args .list .now) (b10 .loop .at) (sym (b7 .check-entry .ensures) ∙ b5 .label .given .1), omega (arith, b8 .if1 .left))
 
 returns-3 : tie.Need-returns-3 Inv-loop μ-loop
 returns-3 c =
-    let b7 = c .before .before .before .before .before .before .before in
-    let b9 = b7 .before .before in
+    let b6 = c .before .before .before .before .before .before in
+    let b8 = b6 .before .before in
+    let b9 = b8 .before in
     let b10 = b9 .before in
     let b11 = b10 .before in
-    let b12 = b11 .before in
-    let b15 = b12 .before .before .before in
-    let a = b15 .args in
-    c .unless-unchecked .ensures ∙ along-bad (a .list .now) (a .kind) (a .second) (b12 .loop .inv) (b11 .loop-test .taken) (omega (arith, b10 .if1 .left)) _ _ (sym (b9 .check-entry .ensures) ∙ b7 .label .given .1) _ (part-length _ _) _ _ _ (c .before .before .step-at .ensures) (c .before .if2 .taken) _ (omega arith)
+    let b14 = b11 .before .before .before in
+    let a = b14 .args in
+    c .unless-unchecked .ensures ∙ along-bad (a .list .now) (a .kind) (a .second) (b11 .loop .inv) (b10 .loop-test .taken) (omega (arith, b9 .if1 .left)) _ _ (sym (b8 .check-entry .ensures) ∙ b6 .label .given .1) _ _ _ (c .before .before .entry-step .ensures) (c .before .if2 .taken)
 
 loop-less : tie.Need-loop-less Inv-loop μ-loop
 loop-less c =
-    let b10 = c .before .before .before .before .before .before .before .before .before .before in
-    omega (arith, b10 .if1 .left)
+    let b9 = c .before .before .before .before .before .before .before .before .before in
+    omega (arith, b9 .if1 .left)
 
 loop-again : tie.Need-loop-again Inv-loop μ-loop
 loop-again c =
-    let b7 = c .before .before .before .before .before .before .before in
-    let b9 = b7 .before .before in
+    let b6 = c .before .before .before .before .before .before in
+    let b8 = b6 .before .before in
+    let b9 = b8 .before in
     let b10 = b9 .before in
     let b11 = b10 .before in
-    let b12 = b11 .before in
-    let b15 = b12 .before .before .before in
-    let a = b15 .args in
-    along-on (a .list .now) (a .kind) (a .second) (b12 .loop .inv) (b11 .loop-test .taken) (omega (arith, b10 .if1 .left)) _ _ (sym (b9 .check-entry .ensures) ∙ b7 .label .given .1) _ (part-length _ _) _ _ _ (c .before .before .step-at .ensures) (c .before .if2 .left) _ (omega arith)
+    let b14 = b11 .before .before .before in
+    let a = b14 .args in
+    along-on (a .list .now) (a .kind) (a .second) (b11 .loop .inv) (b10 .loop-test .taken) (omega (arith, b9 .if1 .left)) _ _ (sym (b8 .check-entry .ensures) ∙ b6 .label .given .1) _ _ _ (c .before .before .entry-step .ensures) (c .before .if2 .left)
 
-finish-at-requires : tie.Need-finish-at-requires Inv-loop μ-loop
-finish-at-requires c κs = search needs
+finished-requires : tie.Need-finished-requires Inv-loop μ-loop
+finished-requires c κs = search needs
 
 returns-4 : tie.Need-returns-4 Inv-loop μ-loop
 returns-4 c =
-    let b5 = c .before .before .before .before .before in
-    let b6 = b5 .before in
-    let b9 = b6 .before .before .before in
-    let a = b9 .args in
-    unless-bad _ _ _ (c .before .before .finish-at .ensures) (c .if3 .taken) ∙ along-end (a .list .now) (a .kind) (a .second) (b6 .loop .inv) (b5 .loop-test .left)
-
-returns-5 : tie.Need-returns-5 Inv-loop μ-loop
-returns-5 c =
-    let b5 = c .before .before .before .before .before in
-    let b6 = b5 .before in
-    let b9 = b6 .before .before .before in
-    let a = b9 .args in
-    unless-good _ _ _ (c .before .before .finish-at .ensures) (c .if3 .left) ∙ along-end (a .list .now) (a .kind) (a .second) (b6 .loop .inv) (b5 .loop-test .left)
+    let b3 = c .before .before .before in
+    let b4 = b3 .before in
+    let b7 = b4 .before .before .before in
+    let a = b7 .args in
+    c .finished .ensures ∙ along-end (a .list .now) (a .kind) (a .second) (b4 .loop .inv) (b3 .loop-test .left)
 
 pub pass-entries-spec : {M : Type 1} → statement M
 pass-entries-spec =
@@ -175,17 +152,13 @@ pass-entries-spec =
     enum-known-r
     returns-2
     enum-known-label
-    add-from
-    add-end
-    sub-step-at
-    part-step-at-start
-    part-step-at-end
-    step-at-requires
+    entry-step-requires
+    add-at
+    add-at-2
     add-n
     unless-unchecked-requires
     returns-3
     loop-less
     loop-again
-    finish-at-requires
-    returns-4
-    returns-5)
+    finished-requires
+    returns-4)
