@@ -10,7 +10,7 @@ const FIRST_PAIR: usize = 6330;
 
 const LAST_PAIR: usize = 6399;
 
-// ---- the code of a row: the least length, 16 times the most, and 1,024 times the number of the kind
+// ---- a row's code: the least length, which is below 16, 16 times the most, which is below 64, and 1,024 times the number of the kind
 
 const LEASTS: u16 = 16;
 

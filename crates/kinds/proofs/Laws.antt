@@ -1,6 +1,6 @@
 -- What each test of the code says of the definitions: one law for each way that a test can end.
 -- Assumes nothing. The code goes by offsets and the definitions by lists, so most laws speak of what is left from an offset on.
-use mathlib.Core.Path.{_≡_, refl, sym, ap, _∙_}
+use mathlib.Core.Path.{_≡_, refl, sym}
 use mathlib.Core.Bool.{Bool, true, false, _&&_}
 use mathlib.Core.List.{List, [], _∷_}
 use Prim.Native.Nat.{ℕ, _+_, _-_, _≤_, _<_}
@@ -20,29 +20,28 @@ use Rattle.fields.specs.Codes.{kindOf, fieldCode, kindIn}
 use Rattle.fields.proofs.CodeLaws.{Small, row-small, kind-back, code-least, code-most, code-kind}
 use Rattle.kinds.specs.declared.Float.the-variants.{Is, Not}
 use Rattle.kinds.specs.Floats.{floatIf, floatOf}
-use Rattle.kinds.specs.Fitting.{lengthFits, fitsField}
+use Rattle.kinds.specs.Fitting.{lengthFits}
 
 -- ---- a content and the code of a field row
 
--- a content fits the code of a row where it fits the row
-fits-coded : (x : FieldRow) (c : List ℕ) → Small x → fitsField (fieldCode x) c ≡ fitsRow x c
-unfolding fitsField lengthFits fitsRow hasLength
+-- a content fits a row where it has the length and is of the kind that the row's code tells
+fits-coded : (x : FieldRow) (c : List ℕ) → Small x → fitsRow x c ≡ lengthFits (fieldCode x) (length c) && ofKind (kindOf (kindIn (fieldCode x))) c
+unfolding lengthFits fitsRow hasLength
 fits-coded x c s = rw (code-least x s, code-most x s, code-kind x s, kind-back (x .kind))
 
--- what is asked of the code of a label's row, for each way that it can end
+-- and so for the row of a label
 module _ (field l : ℕ) (c : List ℕ) (e : field ≡ fieldCode (fieldRow l)) where
-  fits-code : fitsField field c ≡ fitsLabel l c
+  pub fits-code : fitsLabel l c ≡ lengthFits field (length c) && ofKind (kindOf (kindIn field)) c
   unfolding fitsLabel fieldRow
-  fits-code = ap (λ (k : ℕ). fitsField k c) e ∙ fits-coded (fieldRowIn fieldTable (rowLabel l)) c (row-small (rowLabel l))
+  fits-code = rw e (fits-coded (fieldRowIn fieldTable (rowLabel l)) c (row-small (rowLabel l)))
 
+  -- a length that does not fit
   pub fits-not : lengthFits field (length c) ≡ false → fitsLabel l c ≡ false
-  unfolding fitsField
-  fits-not n = sym fits-code ∙ ap (λ (b : Bool). b && ofKind (kindOf (kindIn field)) c) n
+  fits-not n = rw (fits-code, n)
 
+  -- a length that fits: the kind decides
   pub fits-kind : lengthFits field (length c) ≡ true → (kind : ℕ) (b : Bool) → kind ≡ kindIn field → b ≡ ofKind (kindOf kind) c → fitsLabel l c ≡ b
-  unfolding fitsField
-  fits-kind n kind b k q =
-      sym fits-code ∙ (ap (λ (x : Bool). x && ofKind (kindOf (kindIn field)) c) n ∙ (ap (λ (x : ℕ). ofKind (kindOf x) c) (sym k) ∙ sym q))
+  fits-kind n kind b k q = rw (fits-code, n, ← k) (sym q)
 
 -- ---- digits
 

@@ -4,6 +4,7 @@ use mathlib.Core.Path.{_≡_, refl, sym, ap, _∙_}
 use mathlib.Core.Bool.{Bool, true, false}
 use Prim.Native.Nat.{ℕ, _*_, _/_, _%_, _<_}
 use native.Mathlib.Omega.{arith}
+use lib.Dec.{eqb}
 use Rattle.meaning.specs.declared.Row.{Row}
 use Rattle.meaning.specs.declared.SetType.{SetType}
 use Rattle.meaning.specs.Tables.{table, rowLabel}
@@ -16,20 +17,32 @@ use Rattle.tables.proofs.Laws.{found-row, row-below}
 
 -- ---- a code and its parts
 
-module _ (number under : ℕ) (n : number < numbers) where
-  row-field : (many : Bool) (field : ℕ) → field < fields → fieldIn (rowCode number under (occurrence many) field) ≡ field
-  row-field many field f = omega arith
+occurrence-below : (b : Bool) → occurrence b < occurrences
+occurrence-below true = omega arith
+occurrence-below false = omega arith
 
-  row-number : (many : Bool) (field : ℕ) → field < fields → numberIn (rowCode number under (occurrence many) field) ≡ number
-  row-number many field f = omega arith
+occurrence-back : (b : Bool) → eqb (occurrence b) 1 ≡ b
+occurrence-back true = refl
+occurrence-back false = refl
 
-  row-under : (many : Bool) (field : ℕ) → field < fields → underIn (rowCode number under (occurrence many) field) ≡ under
-  row-under true field f = omega arith
-  row-under false field f = omega arith
+-- a code gives back what was put in
+module _ (number under : ℕ) (many : Bool) (field : ℕ) (n : number < numbers) (f : field < fields) where
+  abbrev coding : ℕ
+  coding = rowCode number under (occurrence many) field
 
-  row-many : (many : Bool) (field : ℕ) → field < fields → manyIn (rowCode number under (occurrence many) field) ≡ many
-  row-many true field f = let e : rowCode number under 1 field / (fields * numbers) % occurrences ≡ 1 = omega arith in rw e
-  row-many false field f = let e : rowCode number under 0 field / (fields * numbers) % occurrences ≡ 0 = omega arith in rw e
+  row-field : fieldIn coding ≡ field
+  row-field = omega arith
+
+  row-number : numberIn coding ≡ number
+  row-number = omega arith
+
+  row-under : underIn coding ≡ under
+  row-under = omega (arith, occurrence-below many)
+
+  row-many : manyIn coding ≡ many
+  row-many =
+      let e : coding / (fields * numbers) % occurrences ≡ occurrence many = omega (arith, occurrence-below many) in
+      rw e (occurrence-back many)
 
 -- ---- what is found, by its code
 
@@ -59,14 +72,14 @@ module _ (kind : SetType) (l c : ℕ) (e : c ≡ code (findFrom (table kind) (ro
       let few : i < numbers = omega arith in
       let small : fieldCode (fieldRowIn fieldTable (r .label)) < fields = code-fits _ (row-small (r .label)) in
       let w : c ≡ rowCode i (r .under) (occurrence (r .many)) (fieldCode (fieldRowIn fieldTable (r .label))) = e ∙ ap code q in
-      let n : numberIn c ≡ i = rw w (row-number i (r .under) few (r .many) _ small) in
+      let n : numberIn c ≡ i = rw w (row-number i (r .under) (r .many) _ few small) in
       record {
         row = r;
         is = q ∙ ap (λ (k : ℕ). At k r) (sym n);
-        under-so = sym (rw w (row-under i (r .under) few (r .many) _ small));
-        many-so = sym (rw w (row-many i (r .under) few (r .many) _ small));
+        under-so = sym (rw w (row-under i (r .under) (r .many) _ few small));
+        many-so = sym (rw w (row-many i (r .under) (r .many) _ few small));
         field-so =
-            rw w (row-field i (r .under) few (r .many) _ small) ∙ ap (λ (k : ℕ). fieldCode (fieldRowIn fieldTable k)) (found-row (table kind) (rowLabel l) i r q);
+            rw w (row-field i (r .under) (r .many) _ few small) ∙ ap (λ (k : ℕ). fieldCode (fieldRowIn fieldTable k)) (found-row (table kind) (rowLabel l) i r q);
         below = omega arith;
       }
 

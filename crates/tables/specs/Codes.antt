@@ -3,7 +3,6 @@
 use mathlib.Core.Bool.{Bool, true, false}
 use Prim.Native.Nat.{ℕ, _+_, _*_, _/_, _%_}
 use lib.Dec.{eqb}
-use Rattle.meaning.specs.declared.Row.{Row}
 use Rattle.meaning.specs.FieldTable.{fieldTable, fieldRowIn}
 use Rattle.fields.specs.Codes.{fieldCode}
 use Rattle.tables.specs.LookUp.{Found, At, Nothing}

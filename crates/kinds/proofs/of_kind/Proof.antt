@@ -1,6 +1,5 @@
 -- `of_kind` is the test that `ofKind` names: an arm knows the kind's number, the last arm that it is none of the nine.
 -- Assumes nothing.
-use mathlib.Core.Path.{sym, ap}
 use borrow.Author.Needs.{needs}
 use Rattle.meaning.specs.Kinds.{isAlnum, ofKind}
 use Rattle.fields.specs.Codes.{kindOf}
