@@ -24,9 +24,7 @@ use Rattle.meaning.specs.FieldTable.{fieldTable, fieldRowIn, fieldRow, hasLengt
 use Rattle.meaning.specs.Rules.{typeNamed, typeDigits}
 use Rattle.meaning.specs.Answers.{noRefusal}
 use Rattle.meaning.proofs.LineLaws.{whole}
-use Rattle.tables.specs.declared.Found.{Found}
-use Rattle.tables.specs.declared.Found.the-variants.{At}
-use Rattle.tables.specs.LookUp.{findFrom}
+use Rattle.tables.specs.LookUp.{Found, At, findFrom}
 use Rattle.lines.specs.declared.Number.the-variants.{Is}
 use Rattle.lines.specs.declared.Line.{Line}
 use Rattle.lines.specs.declared.Line.the-variants.{Read}

@@ -27,8 +27,7 @@ use Rattle.meaning.specs.Rules.{profile, typeDigits, typeNamed, labelIs, isKnow
 use Rattle.meaning.specs.Lists.{inList}
 use Rattle.meaning.specs.Answers.{noRefusal}
 use Rattle.meaning.proofs.Bools.{and-left, and-right}
-use Rattle.tables.specs.declared.Found.{Found}
-use Rattle.tables.specs.LookUp.{findFrom}
+use Rattle.tables.specs.LookUp.{Found, findFrom}
 use Rattle.entries.specs.declared.Head.the-variants.{Whole}
 use Rattle.entries.specs.Head.{entryAt}
 use Rattle.lacks.specs.Lacks.{orElse, State, noFlags, begin, lackUnder, groupLack, openLack, firstLack, stateOf}
