@@ -1,17 +1,17 @@
--- One loop checks the entries behind the first and judges them: at each entry it stands for the check of all of them, and for the pass over them (`Along`).
+-- One loop checks the entries and judges them: what each `return` of it has to show, and that what is left behind an entry is what was left before it.
 -- Assumes nothing.
 use mathlib.Core.Path.{_≡_, refl, sym, ap, _∙_}
 use mathlib.Core.Bool.{Bool, true, false, cond}
 use mathlib.Core.List.{List}
 use Prim.Native.Nat.{ℕ, suc, _+_, _-_, _≤_, _<_}
-use native.Mathlib.Nat.{zero-add}
 use native.Mathlib.Omega.{arith}
 use lib.Dec.{leb, eqb}
 use lib.ListN.{length, take, drop}
-use borrow.Author.Tests.{ne-eqb, leb-true, leb-false}
+use borrow.Author.Tests.{ne-eqb, eqb-true, eqb-false, leb-true, leb-false}
 use Rattle.meaning.specs.declared.Refusal.{Refusal}
 use Rattle.meaning.specs.declared.Known.the-variants.{Of, Nothing}
 use Rattle.meaning.specs.declared.SetType.{SetType}
+use Rattle.meaning.specs.declared.SetType.the-variants.{T6300}
 use Rattle.meaning.specs.Limits.{maxEntries}
 use Rattle.meaning.specs.Digits.{allDigits}
 use Rattle.meaning.specs.Refusals.{refusal, tooManyLines, noStart, unknownSet, badList}
@@ -21,138 +21,140 @@ use Rattle.meaning.specs.Answers.{noRefusal}
 use Rattle.entries.specs.declared.Head.the-variants.{Whole, Cut}
 use Rattle.entries.specs.Head.{entryAt}
 use Rattle.entries.proofs.HeadLaws.{whole-back}
-use Rattle.lacks.specs.Lacks.{State, finish, stateOf}
+use Rattle.lacks.specs.Lacks.{orElse, State, finish, stateOf}
+use Rattle.lacks.proofs.FirstLaws.{or-zero, or-bad}
 use Rattle.steps.specs.declared.Step.{Step}
 use Rattle.steps.specs.Steps.{rowOf, Stepped}
+use Rattle.lists.proofs.PartLaws.{one-more}
 use Rattle.writer.specs.declared.Item.{Item}
 use Rattle.writer.specs.declared.Item.the-variants.{Read}
+use Rattle.writer.specs.declared.Turn.{Turn}
 use Rattle.writer.specs.declared.Checked.{Checked}
 use Rattle.writer.specs.declared.Checked.the-variants.{Done, Refused}
-use Rattle.writer.specs.Writing.{contentOf, checkEntry, checkFrom, entriesPass, started, firstEntry, judgeEntries, doneUnless, ruled, elseRefused, judgedList}
-use Rattle.writer.proofs.CheckLaws.{entry-cut, check-done, check-full, check-bad, check-further, checked-head, checked-within, Counts, check-counts, digits-kept}
+use Rattle.writer.specs.Writing.{contentOf, checkEntry, checkFrom, Turned, entriesPass, started, firstEntry, judgeEntries, doneUnless, ruled, entriesLeft, judgedList}
+use Rattle.writer.proofs.CheckLaws.{entry-cut, check-done, check-full, check-bad, check-further, checked-head, Counts, check-counts, digits-kept}
 use Rattle.writer.proofs.EntryPass.{pass-bad, pass-on, type-digits, first-other, first-unknown, first-known}
 
 -- ---- what a check leaves to be judged
 
--- a refusal that is one stands where all entries are checked
-stands : (x : Checked) (r : Refusal) (f : ℕ → Refusal) → (r .no ≡ 0 → ⊥) → ((n : ℕ) → f n ≡ r) → elseRefused x r ≡ ruled x f
-unfolding doneUnless
-stands (Done n) r f g h = sym (rw (h n, ne-eqb (r .no) 0 g))
-stands (Refused q) r f g h = refl
+ruled-same : (x : Checked) (k : ℕ) (f g : ℕ → Refusal) → Counts k x → ((n : ℕ) → k ≤ n → f n ≡ g n) → ruled x f ≡ ruled x g
+ruled-same (Done n) k f g c h = ap (λ (r : Refusal). doneUnless r n) (h n c)
+ruled-same (Refused q) k f g c h = refl
 
-ruled-same : (x : Checked) (f g : ℕ → Refusal) → ((n : ℕ) → f n ≡ g n) → ruled x f ≡ ruled x g
-ruled-same (Done n) f g h = ap (λ (r : Refusal). doneUnless r n) (h n)
-ruled-same (Refused q) f g h = refl
+-- of the whole list
+all-same : (l : List ℕ) (f g : ℕ → Refusal) → ((n : ℕ) → f n ≡ g n) → ruled (checkFrom l 0 0 maxEntries) f ≡ ruled (checkFrom l 0 0 maxEntries) g
+all-same l f g h = ruled-same (checkFrom l 0 0 maxEntries) 0 f g (check-counts l maxEntries 0 0) (λ n z. h n)
 
--- behind the last entry
-pub unless-bad : (r q : Refusal) (n : ℕ) → r ≡ q → (r .no ≡ 0 → ⊥) → Refused r ≡ doneUnless q n
-unfolding doneUnless
-unless-bad r q n e g = rw (← e, ne-eqb (r .no) 0 g)
+-- ---- the judging of one entry, as the code takes it
 
-pub unless-good : (r q : Refusal) (n : ℕ) → r ≡ q → r .no ≡ 0 → Done n ≡ doneUnless q n
-unfolding doneUnless
-unless-good r q n e g = rw (← e, g)
+module _ (kind : SetType) (at l : ℕ) (c : List ℕ) (t : Turn) (members top : List Bool) where
+  pub turn-waits : (t .late .no ≡ 0 → ⊥) → Turned kind at l c t members top t members top
+  turn-waits h = record { waits = λ z. refl; told = λ z. absurd (h z); steps = λ z. absurd (h z) }
 
-pub check-else-bad : (x : Checked) (r q : Refusal) → x ≡ Refused q → Refused q ≡ elseRefused x r
-check-else-bad x r q e = rw e
-
-pub check-else-done : (x : Checked) (r : Refusal) (n : ℕ) → x ≡ Done n → Refused r ≡ elseRefused x r
-check-else-done x r n e = rw e
-
--- ---- at an entry: the check from here on is the check of the entries behind the first, and the pass from here on is the pass over them
-
-module _ (l : List ℕ) (kind : SetType) (second : ℕ) where
-  -- what the loop is to find
-  abbrev pub found : Checked
-  found = ruled (checkFrom l second 1 (maxEntries - 1)) (λ n. entriesPass l kind second started noRefusal (n - 1))
-
-  pub record Along (at n : ℕ) (st : State) (lack : Refusal) : Type 0 where
-    pub within : at ≤ length l
-    pub some : 1 ≤ n
-    pub few : n ≤ maxEntries
-    pub check-so : checkFrom l at n (maxEntries - n) ≡ checkFrom l second 1 (maxEntries - 1)
-    pub pass-so : (k : ℕ) → entriesPass l kind at st lack k ≡ entriesPass l kind second started noRefusal (n - 1 + k)
-
-  pub along-start : second ≤ length l → Along second 1 started noRefusal
-  along-start h = record {
-    within = h;
-    some = omega arith;
-    few = omega arith;
-    check-so = refl;
-    pass-so = λ k. ap (entriesPass l kind second started noRefusal) (sym (zero-add k));
+  pub turn-steps : t .late .no ≡ 0 → (r : Step) (members′ top′ : List Bool)
+      → Stepped (rowOf kind l) kind (stateOf (t .group) members top) (t .group .lack) at l c r members′ top′
+      → Turned kind at l c t members top (record { late = refusal (r .no) at l; group = r .group }) members′ top′
+  turn-steps z r members′ top′ e = record {
+    waits = λ h. absurd (h z);
+    told = λ h. refl;
+    steps = λ h. record { number = e .number; state = e .state; lack-so = e .lack-so };
   }
 
-  module _ {at n : ℕ} {st : State} {lack : Refusal} (a : Along at n st lack) where
-    -- the pass behind the last entry
-    pub along-end : length l ≤ at → doneUnless (finish kind st lack) n ≡ found
-    unfolding entriesPass
-    along-end h =
-        let m : n - 1 + 0 ≡ n - 1 = omega arith in
-        let p : finish kind st lack ≡ entriesPass l kind second started noRefusal (n - 1) = a .pass-so 0 ∙ ap (entriesPass l kind second started noRefusal) m in
-        ap (λ (r : Refusal). doneUnless r n) p
-        ∙ ap (λ (x : Checked). ruled x (λ n. entriesPass l kind second started noRefusal (n - 1))) (sym (check-done l at n (maxEntries - n) h) ∙ a .check-so)
+-- ---- behind the last entry
 
-    module _ (h : at < length l) where
-      by-check : (x : Checked) → checkFrom l at n (maxEntries - n) ≡ x → ruled x (λ n. entriesPass l kind second started noRefusal (n - 1)) ≡ found
-      by-check x e = ap (λ (y : Checked). ruled y (λ n. entriesPass l kind second started noRefusal (n - 1))) (sym e ∙ a .check-so)
+module _ (late r q : Refusal) (n : ℕ) where
+  pub ends-late : (late .no ≡ 0 → ⊥) → Refused late ≡ doneUnless (orElse late q) n
+  unfolding doneUnless
+  ends-late h = sym (rw (or-bad late q h, ne-eqb (late .no) 0 h))
 
-      pub along-full : maxEntries ≤ n → Refused (refusal tooManyLines at 0) ≡ found
-      along-full g = by-check _ (check-full l at n h g)
+  module _ (z : late .no ≡ 0) (e : r ≡ q) where
+    pub ends-lacking : (r .no ≡ 0 → ⊥) → Refused r ≡ doneUnless (orElse late q) n
+    unfolding doneUnless
+    ends-lacking h = sym (rw (or-zero late q z, ← e, ne-eqb (r .no) 0 h))
 
-      module _ (g : n < maxEntries) where
-        pub along-unchecked : (r : Refusal) → checkEntry l at ≡ Item.Refused r → Refused r ≡ found
-        along-unchecked r q = by-check _ (check-bad l at n h g q)
+    pub ends-good : r .no ≡ 0 → Done n ≡ doneUnless (orElse late q) n
+    unfolding doneUnless
+    ends-good h = sym (rw (or-zero late q z, ← e, h))
 
-        module _ (label m : ℕ) (q : checkEntry l at ≡ Read label m) (r : Step) (members top : List Bool)
-            (e : Stepped (rowOf kind label) kind st lack at label (contentOf l at m) r members top) where
-          pub along-bad : (r .no ≡ 0 → ⊥) → elseRefused (checkFrom l (at + (entryLead + m)) (n + 1) (maxEntries - (n + 1))) (refusal (r .no) at label) ≡ found
-          unfolding doneUnless
-          along-bad z =
-              go (checkFrom l (at + (entryLead + m)) (n + 1) (maxEntries - (n + 1))) (check-counts l (maxEntries - (n + 1)) (at + (entryLead + m)) (n + 1))
-              ∙ by-check _ (check-further l at n h g q)
-            where
-              go : (x : Checked) → Counts (n + 1) x → elseRefused x (refusal (r .no) at label) ≡ ruled x (λ n. entriesPass l kind second started noRefusal (n - 1))
-              go (Refused u) c = refl
-              go (Done k) c =
-                  let j : n - 1 + suc (k - (n + 1)) ≡ k - 1 = omega (arith, a .some) in
-                  let p : entriesPass l kind second started noRefusal (k - 1) ≡ refusal (r .no) at label =
-                  ap (entriesPass l kind second started noRefusal) (sym j)
-                  ∙ (sym (a .pass-so (suc (k - (n + 1)))) ∙ pass-bad l kind at st lack label m (checked-head l at q) r members top e z (k - (n + 1))) in
-                  sym (rw (p, ne-eqb (r .no) 0 z))
+-- ---- the loop: no entry is left, too many, an entry that breaks 21 or 6, an entry more
 
-          pub along-on : r .no ≡ 0 → Along (at + (entryLead + m)) (n + 1) (stateOf (r .group) members top) (r .group .lack)
-          along-on z = record {
-            within = checked-within l at q;
-            some = omega arith;
-            few = omega arith;
-            check-so = sym (check-further l at n h g q) ∙ a .check-so;
-            pass-so = λ k. sym (pass-on l kind at st lack label m (checked-head l at q) r members top e z k)
-                ∙ (a .pass-so (suc k) ∙ ap (entriesPass l kind second started noRefusal) (omega (arith, a .some)));
-          }
+module _ (l : List ℕ) (kind : SetType) (late : Refusal) (st : State) (lack : Refusal) (at n : ℕ) where
+  pub left-end : length l ≤ at → doneUnless (orElse late (finish kind st lack)) n ≡ entriesLeft l kind late st lack at n
+  unfolding entriesLeft entriesPass
+  left-end h =
+      let z : n - n ≡ 0 = omega arith in
+      sym (rw (check-done l at n (maxEntries - n) h, z))
+
+  module _ (h : at < length l) where
+    pub left-full : maxEntries ≤ n → Refused (refusal tooManyLines at 0) ≡ entriesLeft l kind late st lack at n
+    unfolding entriesLeft
+    left-full g = sym (rw (check-full l at n h g))
+
+    pub left-unchecked : n < maxEntries → {r : Refusal} → checkEntry l at ≡ Item.Refused r → Refused r ≡ entriesLeft l kind late st lack at n
+    unfolding entriesLeft
+    left-unchecked g e = sym (rw (check-bad l at n h g e))
+
+module _ (l : List ℕ) (kind : SetType) (at n : ℕ) (h : at < length l) (g : n < maxEntries) (label m : ℕ) (q : checkEntry l at ≡ Read label m)
+    (t : Turn) (members top : List Bool) (r : Turn) (members′ top′ : List Bool) (e : Turned kind at label (contentOf l at m) t members top r members′ top′) where
+  abbrev rest : ℕ → Refusal
+  rest k = entriesPass l kind (at + (entryLead + m)) (stateOf (r .group) members′ top′) (r .group .lack) k
+
+  -- one entry of the pass
+  one : (k : ℕ) → orElse (t .late) (entriesPass l kind at (stateOf (t .group) members top) (t .group .lack) (suc k)) ≡ orElse (r .late) (rest k)
+  one k = waiting (eqb (t .late .no) 0) refl
+    where
+      here : Refusal
+      here = entriesPass l kind at (stateOf (t .group) members top) (t .group .lack) (suc k)
+
+      stepped : t .late .no ≡ 0 → (b : Bool) → eqb (r .late .no) 0 ≡ b → here ≡ orElse (r .late) (rest k)
+      stepped z true y =
+          let x : r .late .no ≡ 0 = eqb-true (r .late .no) 0 y in
+          pass-on l kind at _ _ label m (checked-head l at q) _ members′ top′ (e .steps z) x k ∙ sym (or-zero (r .late) (rest k) x)
+      stepped z false y =
+          let x : r .late .no ≡ 0 → ⊥ = eqb-false (r .late .no) 0 y in
+          pass-bad l kind at _ _ label m (checked-head l at q) _ members′ top′ (e .steps z) x k ∙ (sym (e .told z) ∙ sym (or-bad (r .late) (rest k) x))
+
+      waiting : (b : Bool) → eqb (t .late .no) 0 ≡ b → orElse (t .late) here ≡ orElse (r .late) (rest k)
+      waiting true y =
+          let z : t .late .no ≡ 0 = eqb-true (t .late .no) 0 y in
+          or-zero (t .late) here z ∙ stepped z (eqb (r .late .no) 0) refl
+      waiting false y =
+          let x : t .late .no ≡ 0 → ⊥ = eqb-false (t .late .no) 0 y in
+          let w : r .late ≡ t .late = e .waits x in
+          or-bad (t .late) here x ∙ (sym w ∙ sym (or-bad (r .late) (rest k) (λ z. x (ap (λ (u : Refusal). u .no) (sym w) ∙ z))))
+
+  pub left-on : entriesLeft l kind (t .late) (stateOf (t .group) members top) (t .group .lack) at n
+      ≡ entriesLeft l kind (r .late) (stateOf (r .group) members′ top′) (r .group .lack) (at + (entryLead + m)) (n + 1)
+  unfolding entriesLeft
+  left-on =
+      rw (check-further l at n h g q)
+      (ruled-same (checkFrom l (at + (entryLead + m)) (n + 1) (maxEntries - (n + 1))) (n + 1) _ _ (check-counts l (maxEntries - (n + 1)) (at + (entryLead + m)) (n + 1))
+      (λ k z. ap (λ (j : ℕ). orElse (t .late) (entriesPass l kind at (stateOf (t .group) members top) (t .group .lack) j)) (one-more (omega arith)) ∙ one (k - (n + 1))))
 
 -- ---- 8 and 9: what the loop finds is what the whole list is
 
 module _ (l : List ℕ) (label m : ℕ) where
-  pub list-other : (label ≡ 8000 → ⊥) → elseRefused (checkFrom l 0 0 maxEntries) (refusal noStart 0 0) ≡ ruled (checkFrom l 0 0 maxEntries) (λ n. firstEntry l label m n)
-  list-other h = stands (checkFrom l 0 0 maxEntries) (refusal noStart 0 0) (λ n. firstEntry l label m n) (λ z. omega arith) (λ n. first-other l label m n h)
+  pub list-other : (label ≡ 8000 → ⊥) → entriesLeft l T6300 (refusal noStart 0 0) started noRefusal 0 0 ≡ ruled (checkFrom l 0 0 maxEntries) (λ n. firstEntry l label m n)
+  unfolding entriesLeft orElse
+  list-other h = all-same l (λ n. refusal noStart 0 0) (λ n. firstEntry l label m n) (λ n. sym (first-other l label m n h))
 
   module _ (h : label ≡ 8000) (w : ℕ) (v : w ≡ m) where
     pub list-unknown : typeNamed (take w (drop entryLead l)) ≡ Nothing
-        → elseRefused (checkFrom l 0 0 maxEntries) (refusal unknownSet 0 0) ≡ ruled (checkFrom l 0 0 maxEntries) (λ n. firstEntry l label m n)
-    list-unknown e =
-        stands (checkFrom l 0 0 maxEntries) (refusal unknownSet 0 0) (λ n. firstEntry l label m n) (λ z. omega arith) (λ n. first-unknown l label m n h w v e)
+        → entriesLeft l T6300 (refusal unknownSet 0 0) started noRefusal 0 0 ≡ ruled (checkFrom l 0 0 maxEntries) (λ n. firstEntry l label m n)
+    unfolding entriesLeft orElse
+    list-unknown e = all-same l (λ n. refusal unknownSet 0 0) (λ n. firstEntry l label m n) (λ n. sym (first-unknown l label m n h w v e))
 
-    pub list-known : {kind : SetType} → entryAt l 0 ≡ Whole label m → typeNamed (take w (drop entryLead l)) ≡ Of kind
-        → found l kind (entryLead + m) ≡ ruled (checkFrom l 0 0 maxEntries) (λ n. firstEntry l label m n)
-    list-known {kind} q e =
+    pub list-known : {kind : SetType} (late : Refusal) → late ≡ noRefusal → entryAt l 0 ≡ Whole label m → typeNamed (take w (drop entryLead l)) ≡ Of kind
+        → entriesLeft l kind late started noRefusal (entryLead + m) 1 ≡ ruled (checkFrom l 0 0 maxEntries) (λ n. firstEntry l label m n)
+    unfolding entriesLeft orElse
+    list-known {kind} late z q e =
         let d = type-digits (take w (drop entryLead l)) e in
         let s : 0 < length l = omega (arith, whole-back l 0 q .within) in
         let c : checkEntry l 0 ≡ Read label m = digits-kept l 0 q (omega arith) (ap (λ (k : ℕ). allDigits (take k (drop entryLead l))) (sym v) ∙ d .all-digits) in
         let x : checkFrom l 0 0 maxEntries ≡ checkFrom l (entryLead + m) 1 (maxEntries - 1) =
         check-further l 0 0 s (omega arith) c ∙ ap (λ (k : ℕ). checkFrom l k 1 (maxEntries - 1)) (omega arith) in
-        ruled-same (checkFrom l (entryLead + m) 1 (maxEntries - 1)) (λ n. entriesPass l kind (entryLead + m) started noRefusal (n - 1)) (λ n. firstEntry l label m n)
-        (λ n. sym (first-known l label m n h w v e))
-        ∙ ap (λ (y : Checked). ruled y (λ n. firstEntry l label m n)) (sym x)
+        rw z (ap (λ (y : Checked). ruled y (λ n. entriesPass l kind (entryLead + m) started noRefusal (n - 1))) (sym x))
+        ∙ all-same l (λ n. entriesPass l kind (entryLead + m) started noRefusal (n - 1)) (λ n. firstEntry l label m n) (λ n. sym (first-known l label m n h w v e))
 
 -- ---- the whole list, by the head of its first entry
 
@@ -167,4 +169,4 @@ module _ (l : List ℕ) where
 
   pub list-whole : {label m : ℕ} → entryAt l 0 ≡ Whole label m → ruled (checkFrom l 0 0 maxEntries) (λ n. firstEntry l label m n) ≡ judgedList l
   unfolding judgedList judgeEntries
-  list-whole {label} {m} e = ruled-same (checkFrom l 0 0 maxEntries) (λ n. firstEntry l label m n) (λ n. judgeEntries l n) (λ n. sym (rw e))
+  list-whole {label} {m} e = all-same l (λ n. firstEntry l label m n) (λ n. judgeEntries l n) (λ n. sym (rw e))

@@ -3,7 +3,7 @@
 use mathlib.Core.Path.{_≡_, refl, sym, ap, ap₂, _∙_, subst}
 use mathlib.Core.Bool.{Bool, true, false, cond, _&&_}
 use mathlib.Core.List.{List, [], _∷_, _++_, append-assoc, append-nil}
-use Prim.Native.Nat.{ℕ, suc, _+_, _-_, _*_, _≤_, _<_}
+use Prim.Native.Nat.{ℕ, zero, suc, _+_, _-_, _*_, _≤_, _<_}
 use native.Mathlib.Omega.{arith}
 use lib.Dec.{leb, eqb}
 use lib.ListN.{length, set, take, drop, replicate, length-append}
@@ -27,6 +27,7 @@ use Rattle.meaning.specs.Answers.{made, bytesLeft, writeCall}
 use Rattle.meaning.proofs.DigitLaws.{length-digits}
 use Rattle.meaning.proofs.FieldLaws.{fits-sum}
 use Rattle.meaning.proofs.LineLaws.{length-line, length-render, render-split}
+use Rattle.entries.specs.declared.Head.{Head}
 use Rattle.entries.specs.declared.Head.the-variants.{Whole, Cut}
 use Rattle.entries.specs.Head.{entryAt}
 use Rattle.lacks.proofs.FirstLaws.{firstOf, Real}
@@ -34,8 +35,8 @@ use Rattle.buffers.specs.Places.{over}
 use Rattle.buffers.proofs.LendLaws.{length-over}
 use Rattle.writer.specs.declared.Checked.{Checked}
 use Rattle.writer.specs.declared.Checked.the-variants.{Done as Counted, Refused as Unchecked}
-use Rattle.writer.specs.Writing.{contentOf, checkFrom, judgeEntries, doneUnless, ruled, judgedList, entryLines, linesFrom}
-use Rattle.lists.proofs.PartLaws.{one-more, none-left}
+use Rattle.writer.specs.Writing.{byHead, contentOf, checkFrom, judgeEntries, doneUnless, ruled, judgedList, entryLines, linesFrom, linesLeft}
+use Rattle.lists.proofs.PartLaws.{one-more}
 use Rattle.lists.proofs.OverLaws.{over-then, front-then-zeros}
 use Rattle.lists.proofs.ListLaws.{sizes}
 use Rattle.writer.proofs.CheckLaws.{Reads, check-entered, check-refused}
@@ -77,7 +78,7 @@ end-put b at h =
 
 -- ---- the lines of one entry
 
-module _ (k l : ℕ) (c sum : List ℕ) where
+module _ (at l : ℕ) (c sum : List ℕ) where
   abbrev own : List ℕ
   own = lineThen (field l c) []
 
@@ -90,34 +91,34 @@ module _ (k l : ℕ) (c sum : List ℕ) where
   second-length : length second ≡ length sum + (lineLead + lineEnd)
   second-length = length-line (field 8100 sum) [] ∙ omega arith
 
-  later-only : (k ≡ 0 → ⊥) → entryLines k l c sum ≡ own
+  later-only : (at ≡ 0 → ⊥) → entryLines at l c sum ≡ own
   unfolding entryLines
-  later-only h = rw (ne-eqb k 0 h) (append-nil own)
+  later-only h = rw (ne-eqb at 0 h) (append-nil own)
 
-  first-both : k ≡ 0 → entryLines k l c sum ≡ own ++ second
+  first-both : at ≡ 0 → entryLines at l c sum ≡ own ++ second
   unfolding entryLines
-  first-both h = rw (eq-eqb k 0 h)
+  first-both h = rw (eq-eqb at 0 h)
 
-  first-length : k ≡ 0 → length (entryLines k l c sum) ≡ (length c + (lineLead + lineEnd)) + (length sum + (lineLead + lineEnd))
+  first-length : at ≡ 0 → length (entryLines at l c sum) ≡ (length c + (lineLead + lineEnd)) + (length sum + (lineLead + lineEnd))
   first-length h = ap length (first-both h) ∙ (length-append own second ∙ omega (arith, own-length, second-length))
 
-  pub own-fits : (to room : ℕ) → to + length (entryLines k l c sum) ≤ room → to + (length c + (lineLead + lineEnd)) ≤ room
-  own-fits to room h = go (eqb k 0) refl
+  pub own-fits : (to room : ℕ) → to + length (entryLines at l c sum) ≤ room → to + (length c + (lineLead + lineEnd)) ≤ room
+  own-fits to room h = go (eqb at 0) refl
     where
-      go : (b : Bool) → eqb k 0 ≡ b → to + (length c + (lineLead + lineEnd)) ≤ room
-      go true e = omega (arith, first-length (eqb-true k 0 e))
-      go false e = omega (arith, ap length (later-only (eqb-false k 0 e)), own-length)
+      go : (b : Bool) → eqb at 0 ≡ b → to + (length c + (lineLead + lineEnd)) ≤ room
+      go true e = omega (arith, first-length (eqb-true at 0 e))
+      go false e = omega (arith, ap length (later-only (eqb-false at 0 e)), own-length)
 
-  pub second-fits : (to room : ℕ) → k ≡ 0 → to + length (entryLines k l c sum) ≤ room → to + (length c + (lineLead + lineEnd)) + (length sum + (lineLead + lineEnd)) ≤ room
+  pub second-fits : (to room : ℕ) → at ≡ 0 → to + length (entryLines at l c sum) ≤ room → to + (length c + (lineLead + lineEnd)) + (length sum + (lineLead + lineEnd)) ≤ room
   second-fits to room e h = omega (arith, first-length e)
 
-  pub later-put : (b b₁ : List ℕ) (to : ℕ) → (k ≡ 0 → ⊥) → b₁ ≡ over to own b
-      → (to + (length c + (lineLead + lineEnd)) ≡ to + length (entryLines k l c sum)) × (b₁ ≡ over to (entryLines k l c sum) b)
+  pub later-put : (b b₁ : List ℕ) (to : ℕ) → (at ≡ 0 → ⊥) → b₁ ≡ over to own b
+      → (to + (length c + (lineLead + lineEnd)) ≡ to + length (entryLines at l c sum)) × (b₁ ≡ over to (entryLines at l c sum) b)
   later-put b b₁ to h e = (omega (arith, ap length (later-only h), own-length), e ∙ ap (λ (u : List ℕ). over to u b) (sym (later-only h)))
 
-  pub first-put : (b b₁ b₂ : List ℕ) (to : ℕ) → k ≡ 0 → to + length (entryLines k l c sum) ≤ length b → b₁ ≡ over to own b
+  pub first-put : (b b₁ b₂ : List ℕ) (to : ℕ) → at ≡ 0 → to + length (entryLines at l c sum) ≤ length b → b₁ ≡ over to own b
       → b₂ ≡ over (to + (length c + (lineLead + lineEnd))) second b₁
-      → (to + (length c + (lineLead + lineEnd)) + (length sum + (lineLead + lineEnd)) ≡ to + length (entryLines k l c sum)) × (b₂ ≡ over to (entryLines k l c sum) b)
+      → (to + (length c + (lineLead + lineEnd)) + (length sum + (lineLead + lineEnd)) ≡ to + length (entryLines at l c sum)) × (b₂ ≡ over to (entryLines at l c sum) b)
   first-put b b₁ b₂ to h g e₁ e₂ =
       let q : to + (length c + (lineLead + lineEnd)) ≡ to + length own = omega (arith, own-length) in (
         omega (arith, first-length h),
@@ -128,36 +129,57 @@ module _ (k l : ℕ) (c sum : List ℕ) where
 
 -- ---- the walk: no entry is left, a head is cut, an entry more
 
-module _ (l sum : List ℕ) (at k n : ℕ) where
-  pub lines-end : n ≤ k → linesFrom l sum at k (n - k) ≡ []
+module _ (l sum : List ℕ) where
+  lines-none : (at k : ℕ) → length l ≤ at → linesFrom l sum at k ≡ []
   unfolding linesFrom
-  lines-end h = rw (none-left h)
+  lines-none at zero h = refl
+  lines-none at (suc k) h = rw (le-leb (length l) at h)
 
-  pub lines-cut : k < n → entryAt l at ≡ Cut → linesFrom l sum at k (n - k) ≡ []
+  -- so many entries as there are bytes are enough
+  lines-enough : (k j at : ℕ) → length l ≤ at + k → length l ≤ at + j → linesFrom l sum at k ≡ linesFrom l sum at j
   unfolding linesFrom
-  lines-cut h e = rw (one-more h, e)
+  lines-enough zero j at h g = sym (lines-none at j (omega arith))
+  lines-enough (suc k) zero at h g = lines-none at (suc k) (omega arith)
+  lines-enough (suc k) (suc j) at h g =
+      go (entryAt l at) (λ m. lines-enough k j (at + (entryLead + m)) (omega arith) (omega arith))
+    where
+      go : (x : Head) → ((m : ℕ) → linesFrom l sum (at + (entryLead + m)) k ≡ linesFrom l sum (at + (entryLead + m)) j)
+          → cond (leb (length l) at) [] (byHead x [] (λ label m. entryLines at label (contentOf l at m) sum ++ linesFrom l sum (at + (entryLead + m)) k))
+          ≡ cond (leb (length l) at) [] (byHead x [] (λ label m. entryLines at label (contentOf l at m) sum ++ linesFrom l sum (at + (entryLead + m)) j))
+      go Cut ih = refl
+      go (Whole label m) ih = ap (λ (u : List ℕ). cond (leb (length l) at) [] (entryLines at label (contentOf l at m) sum ++ u)) (ih m)
 
-  lines-on : k < n → {label m : ℕ} → entryAt l at ≡ Whole label m
-      → linesFrom l sum at k (n - k) ≡ entryLines k label (contentOf l at m) sum ++ linesFrom l sum (at + (entryLead + m)) (k + 1) (n - (k + 1))
-  unfolding linesFrom
-  lines-on h e = rw (one-more h, e)
+  pub lines-end : (at : ℕ) → length l ≤ at → linesLeft l sum at ≡ []
+  lines-end at h = lines-none at (length l - at) h
+
+  module _ (at : ℕ) (h : at < length l) where
+    pub lines-cut : entryAt l at ≡ Cut → linesLeft l sum at ≡ []
+    unfolding linesFrom
+    lines-cut e = rw (one-more h, lt-leb (length l) at h, e)
+
+    lines-on : {label m : ℕ} → entryAt l at ≡ Whole label m → linesLeft l sum at ≡ entryLines at label (contentOf l at m) sum ++ linesLeft l sum (at + (entryLead + m))
+    unfolding linesFrom
+    lines-on {label} {m} e =
+        rw (one-more h, lt-leb (length l) at h, e)
+        (ap (λ (u : List ℕ). entryLines at label (contentOf l at m) sum ++ u)
+        (lines-enough (length l - (at + 1)) (length l - (at + (entryLead + m))) (at + (entryLead + m)) (omega arith) (omega arith)))
 
 -- what is left to put is always what was left, with the lines of one entry
-pub record Turned (l sum out out′ : List ℕ) (at end k n to to′ : ℕ) : Type 0 where
+pub record Put (l sum out out′ : List ℕ) (at end to to′ : ℕ) : Type 0 where
   pub same-room : length out′ ≡ length out
-  pub has-room : to′ + length (linesFrom l sum end (k + 1) (n - (k + 1))) ≤ length out′
-  pub same : over to′ (linesFrom l sum end (k + 1) (n - (k + 1))) out′ ≡ over to (linesFrom l sum at k (n - k)) out
+  pub has-room : to′ + length (linesLeft l sum end) ≤ length out′
+  pub same : over to′ (linesLeft l sum end) out′ ≡ over to (linesLeft l sum at) out
 
-module _ (l sum : List ℕ) (at k n : ℕ) (h : k < n) {label m : ℕ} (e : entryAt l at ≡ Whole label m) (w : ℕ) (q : w ≡ m) (end : ℕ) (x : end ≡ at + (entryLead + m))
-    (out : List ℕ) (to : ℕ) (g : to + length (linesFrom l sum at k (n - k)) ≤ length out) where
+module _ (l sum : List ℕ) (at : ℕ) (h : at < length l) {label m : ℕ} (e : entryAt l at ≡ Whole label m) (w : ℕ) (q : w ≡ m) (end : ℕ) (x : end ≡ at + (entryLead + m))
+    (out : List ℕ) (to : ℕ) (g : to + length (linesLeft l sum at) ≤ length out) where
   abbrev here : List ℕ
-  here = entryLines k label (take w (drop (at + entryLead) l)) sum
+  here = entryLines at label (take w (drop (at + entryLead) l)) sum
 
   abbrev behind : List ℕ
-  behind = linesFrom l sum end (k + 1) (n - (k + 1))
+  behind = linesLeft l sum end
 
-  both : linesFrom l sum at k (n - k) ≡ here ++ behind
-  both = lines-on l sum at k n h e ∙ ap₂ (λ (y z : ℕ). entryLines k label (take y (drop (at + entryLead) l)) sum ++ linesFrom l sum z (k + 1) (n - (k + 1))) (sym q) (sym x)
+  both : linesLeft l sum at ≡ here ++ behind
+  both = lines-on l sum at h e ∙ ap₂ (λ (y z : ℕ). entryLines at label (take y (drop (at + entryLead) l)) sum ++ linesLeft l sum z) (sym q) (sym x)
 
   fits-both : to + length (here ++ behind) ≤ length out
   fits-both = subst (λ (u : List ℕ). to + length u ≤ length out) both g
@@ -165,7 +187,7 @@ module _ (l sum : List ℕ) (at k n : ℕ) (h : k < n) {label m : ℕ} (e : entr
   pub lines-fit : to + length here ≤ length out
   lines-fit = omega (arith, fits-both, length-append here behind)
 
-  pub put-turn : (to′ : ℕ) (out′ : List ℕ) → to′ ≡ to + length here → out′ ≡ over to here out → Turned l sum out out′ at end k n to to′
+  pub put-turn : (to′ : ℕ) (out′ : List ℕ) → to′ ≡ to + length here → out′ ≡ over to here out → Put l sum out out′ at end to to′
   put-turn to′ out′ a b =
       let r : length out′ ≡ length out = ap length b ∙ length-over here out to lines-fit in
       record {
@@ -177,22 +199,32 @@ module _ (l sum : List ℕ) (at k n : ℕ) (h : k < n) {label m : ℕ} (e : entr
 -- ---- what the walk gives
 
 -- the entries behind the first: by induction on fs
-later-lines : (l sum : List ℕ) (fs : List Field) (at k : ℕ) → Reads l at fs → 1 ≤ k → linesFrom l sum at k (length fs) ≡ render fs []
+later-lines : (l sum : List ℕ) (fs : List Field) (at k : ℕ) → Reads l at fs → at + listSize fs ≡ length l → length fs ≤ k → 1 ≤ at → linesFrom l sum at k ≡ render fs []
 unfolding linesFrom
-later-lines l sum [] at k rd h = refl
-later-lines l sum (f ∷ fs) at k rd h =
-    rw (rd .0, rd .1, later-only k (f .label) (f .content) sum (λ e. omega arith))
-    (ap (λ (u : List ℕ). lineThen f [] ++ u) (later-lines l sum fs (at + (entryLead + length (f .content))) (k + 1) (rd .2) (omega arith)) ∙ line-then f (render fs []))
+later-lines l sum [] at k rd w g h = lines-none l sum at k (omega arith)
+later-lines l sum (f ∷ fs) at zero rd w g h = absurd (omega arith)
+later-lines l sum (f ∷ fs) at (suc k) rd w g h =
+    rw (lt-leb (length l) at (omega arith), rd .0, rd .1, later-only at (f .label) (f .content) sum (λ e. omega arith))
+    (ap (λ (u : List ℕ). lineThen f [] ++ u) (later-lines l sum fs (at + (entryLead + length (f .content))) k (rd .2) (omega arith) (omega arith) (omega arith))
+    ∙ line-then f (render fs []))
 
 -- all entries: behind the first stands the line of 8100
-all-lines : (l sum : List ℕ) (f : Field) (fs : List Field) → Reads l 0 (f ∷ fs) → linesFrom l sum 0 0 (length (f ∷ fs)) ≡ render (f ∷ field 8100 sum ∷ fs) []
+all-lines : (l sum : List ℕ) (f : Field) (fs : List Field) (k : ℕ) → Reads l 0 (f ∷ fs) → listSize (f ∷ fs) ≡ length l → length (f ∷ fs) ≤ k
+    → linesFrom l sum 0 k ≡ render (f ∷ field 8100 sum ∷ fs) []
 unfolding linesFrom
-all-lines l sum f fs rd =
+all-lines l sum f fs zero rd w g = absurd (omega arith)
+all-lines l sum f fs (suc k) rd w g =
     let s : Field = field 8100 sum in
-    rw (rd .0, rd .1, first-both 0 (f .label) (f .content) sum refl)
-    (append-assoc (lineThen f []) (lineThen s []) (linesFrom l sum (0 + (entryLead + length (f .content))) (0 + 1) (length fs))
-    ∙ (ap (λ (u : List ℕ). lineThen f [] ++ (lineThen s [] ++ u)) (later-lines l sum fs (0 + (entryLead + length (f .content))) (0 + 1) (rd .2) (omega arith))
+    let next : ℕ = 0 + (entryLead + length (f .content)) in
+    rw (lt-leb (length l) 0 (omega arith), rd .0, rd .1, first-both 0 (f .label) (f .content) sum refl)
+    (append-assoc (lineThen f []) (lineThen s []) (linesFrom l sum next k)
+    ∙ (ap (λ (u : List ℕ). lineThen f [] ++ (lineThen s [] ++ u)) (later-lines l sum fs next k (rd .2) (omega arith) (omega arith) (omega arith))
     ∙ (ap (λ (u : List ℕ). lineThen f [] ++ u) (line-then s (render fs [])) ∙ line-then f (render (s ∷ fs) []))))
+
+-- each entry has a byte or more
+few-entries : (fs : List Field) → length fs ≤ listSize fs
+few-entries [] = omega arith
+few-entries (f ∷ fs) = omega (arith, few-entries fs)
 
 -- ---- the answers
 
@@ -213,9 +245,9 @@ by-first pl (x ∷ xs) d k h = sym (rw (ne-eqb (x .no) 0 h))
 -- what is known of a list that is checked
 pub record Answers (l : List ℕ) (n : ℕ) : Type 0 where
   pub few : n ≤ maxEntries
-  pub need : length (linesFrom l (sumOf l n) 0 0 n) ≡ totalOf l n
+  pub need : length (linesLeft l (sumOf l n) 0) ≡ totalOf l n
   pub answer : (room : ℕ) → write l room
-      ≡ cond (eqb (judgeEntries l n .no) 0) (withRoom (leb (totalOf l n) room && leb (totalOf l n) maxSetBytes) (totalOf l n) (linesFrom l (sumOf l n) 0 0 n)) (refused (judgeEntries l n))
+      ≡ cond (eqb (judgeEntries l n .no) 0) (withRoom (leb (totalOf l n) room && leb (totalOf l n) maxSetBytes) (totalOf l n) (linesLeft l (sumOf l n) 0)) (refused (judgeEntries l n))
 
 sum-fits : (total : ℕ) → fitsLabel 8100 (digits sumDigits total) ≡ true
 unfolding fits
@@ -237,7 +269,7 @@ module _ (l : List ℕ) (n : ℕ) (some : 0 < length l) where
       let total : lineSize f + (14 + size fs) ≡ totalOf l n = omega (arith, sizes es, w, c) in
       let put-in : withSum es ≡ all = ap (λ (x : ℕ). f ∷ field 8100 (digits 5 x) ∷ fs) total in
       let sized : size all ≡ totalOf l n = omega (arith, total, length-digits 5 (totalOf l n)) in
-      let lines : linesFrom l sum 0 0 n ≡ render all [] = ap (linesFrom l sum 0 0) c ∙ all-lines l sum f fs rd in
+      let lines : linesLeft l sum 0 ≡ render all [] = all-lines l sum f fs (length l - 0) rd w (omega (arith, few-entries es, w)) in
       let found : judgeEntries l n ≡ firstOf (inList es) (ruleFaults all) = ap (judgeEntries l) c ∙ entries-found l f fs sum rd (sum-fits (totalOf l n)) in
       record {
         few = few;
@@ -269,15 +301,15 @@ module _ (l : List ℕ) (n : ℕ) (some : 0 < length l) (e : judgedList l ≡ Co
   answers : Answers l n
   answers = answers-are l n some (not-refused .0)
 
-  pub few-entries : n ≤ maxEntries
-  few-entries = answers .few
+  pub not-many : n ≤ maxEntries
+  not-many = answers .few
 
   -- the lines have as many bytes as is told
-  pub set-fits : {room : ℕ} → totalOf l n ≤ room → length (linesFrom l (sumOf l n) 0 0 n) ≤ room
+  pub set-fits : {room : ℕ} → totalOf l n ≤ room → length (linesLeft l (sumOf l n) 0) ≤ room
   set-fits h = omega (arith, answers .need)
 
   module _ (b : List ℕ) where
-    by-room : write l (length b) ≡ withRoom (leb (totalOf l n) (length b) && leb (totalOf l n) maxSetBytes) (totalOf l n) (linesFrom l (sumOf l n) 0 0 n)
+    by-room : write l (length b) ≡ withRoom (leb (totalOf l n) (length b) && leb (totalOf l n) maxSetBytes) (totalOf l n) (linesLeft l (sumOf l n) 0)
     by-room = answers .answer (length b) ∙ rw (not-refused .1)
 
     -- 22: "over the buffer"
@@ -294,11 +326,11 @@ module _ (l : List ℕ) (n : ℕ) (some : 0 < length l) (e : judgedList l ≡ Co
           (ap made q, ap (λ (x : Reply (List ℕ)). bytesLeft x b) q)
 
       -- the set at the front, and zeros behind it
-      pub answer-set : totalOf l n ≤ maxSetBytes → (b′ y : List ℕ) → b′ ≡ over 0 (linesFrom l (sumOf l n) 0 0 n) b
+      pub answer-set : totalOf l n ≤ maxSetBytes → (b′ y : List ℕ) → b′ ≡ over 0 (linesLeft l (sumOf l n) 0) b
           → y ≡ replicate (length (midOf (totalOf l n) (length b′ - totalOf l n) b′)) 0
           → (Done (totalOf l n) ≡ writeCall l b .answer) × (putMid (totalOf l n) (length b′ - totalOf l n) b′ y ≡ writeCall l b .buffer)
       answer-set m b′ y p z =
-          let x : List ℕ = linesFrom l (sumOf l n) 0 0 n in
+          let x : List ℕ = linesLeft l (sumOf l n) 0 in
           let q : done x ≡ write l (length b) = sym (by-room ∙ rw (le-leb (totalOf l n) (length b) g, le-leb (totalOf l n) maxSetBytes m)) in
           let need : totalOf l n ≡ length x = sym (answers .need) in (
             ap Done need ∙ ap made q,

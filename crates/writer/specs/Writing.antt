@@ -1,7 +1,8 @@
 -- The walks of `write` over a list's bytes, entry by entry: offsets and flags in the place of fields and labels.
 -- Assumes nothing: these are definitions. What they mean is in proofs/CheckLaws (7, 21, 6), proofs/EntryPass (8, 9, 11 to 16), proofs/OnceLaws (both in one loop) and
 -- proofs/WriteLaws (the lines).
-use mathlib.Core.Bool.{true, cond}
+use mathlib.Core.Path.{_≡_}
+use mathlib.Core.Bool.{Bool, true, cond}
 use mathlib.Core.List.{List, [], _++_}
 use Prim.Native.Nat.{ℕ, zero, suc, _+_, _-_}
 use lib.Dec.{leb, eqb}
@@ -21,10 +22,11 @@ use Rattle.lines.specs.Line.{firstLow}
 use Rattle.entries.specs.declared.Head.{Head}
 use Rattle.entries.specs.declared.Head.the-variants.{Whole, Cut}
 use Rattle.entries.specs.Head.{entryAt}
-use Rattle.lacks.specs.Lacks.{State, noFlags, finish}
-use Rattle.steps.specs.Steps.{rowOf, lineNo, nextState, staysIn, lackThen}
+use Rattle.lacks.specs.Lacks.{orElse, State, noFlags, stateOf, finish}
+use Rattle.steps.specs.Steps.{rowOf, lineNo, nextState, staysIn, lackThen, Stepped}
 use Rattle.writer.specs.declared.Item.{Item}
 use Rattle.writer.specs.declared.Item.the-variants.{Read}
+use Rattle.writer.specs.declared.Turn.{Turn}
 use Rattle.writer.specs.declared.Checked.{Checked}
 use Rattle.writer.specs.declared.Checked.the-variants.{Done, Refused}
 
@@ -80,6 +82,13 @@ row8000 = 0
 abbrev pub row8100 : ℕ
 row8100 = 1
 
+-- what the judging of an entry and the flags behind it say: a refusal that waited still waits; else the entry's step, and its refusal where it has one
+pub record Turned (kind : SetType) (at l : ℕ) (c : List ℕ) (t : Turn) (members top : List Bool) (r : Turn) (members′ top′ : List Bool) : Type 0 where
+  pub waits : (t .late .no ≡ 0 → ⊥) → r .late ≡ t .late
+  pub told : t .late .no ≡ 0 → r .late ≡ refusal (r .late .no) at l
+  pub steps : t .late .no ≡ 0
+      → Stepped (rowOf kind l) kind (stateOf (t .group) members top) (t .group .lack) at l c (record { no = r .late .no; group = r .group }) members′ top′
+
 -- behind line 1 and line 2, which are never refused by 11 to 15
 abbrev pub started : State
 started = record { header = 8100; place = 0; members = noFlags; top = set (set noFlags row8000 true) row8100 true }
@@ -109,10 +118,9 @@ abbrev pub ruled : Checked → (ℕ → Refusal) → Checked
 ruled (Done n) f = doneUnless (f n) n
 ruled (Refused r) f = Refused r
 
--- the refusal of a check, else r
-abbrev pub elseRefused : Checked → Refusal → Checked
-elseRefused (Done n) r = Refused r
-elseRefused (Refused q) r = Refused q
+-- what is left where the entries from an offset on have n before them: the check of them, and then a refusal that waits, else the rules
+unfoldable pub entriesLeft : List ℕ → SetType → Refusal → State → Refusal → ℕ → ℕ → Checked
+entriesLeft l kind late st lack at n = ruled (checkFrom l at n (maxEntries - n)) (λ m. orElse late (entriesPass l kind at st lack (m - n)))
 
 -- the whole list
 unfoldable pub judgedList : List ℕ → Checked
@@ -120,12 +128,16 @@ judgedList l = ruled (checkFrom l 0 0 maxEntries) (λ n. judgeEntries l n)
 
 -- ---- the lines
 
--- the line of the entry that has k entries before it, and behind the first that of 8100
+-- the line of the entry at an offset of the list, and behind the first that of 8100
 unfoldable pub entryLines : ℕ → ℕ → List ℕ → List ℕ → List ℕ
-entryLines k l c sum = lineThen (field l c) [] ++ cond (eqb k 0) (lineThen (field 8100 sum) []) []
+entryLines at l c sum = lineThen (field l c) [] ++ cond (eqb at 0) (lineThen (field 8100 sum) []) []
 
--- the lines of the n entries from an offset on, with k before them
-unfoldable pub linesFrom : List ℕ → List ℕ → ℕ → ℕ → ℕ → List ℕ
-linesFrom l sum at k zero = []
-linesFrom l sum at k (suc n) =
-    byHead (entryAt l at) [] (λ label m. let rest = linesFrom l sum (at + (entryLead + m)) (k + 1) n in entryLines k label (contentOf l at m) sum ++ rest)
+-- the lines of the entries from an offset on, at most k
+unfoldable pub linesFrom : List ℕ → List ℕ → ℕ → ℕ → List ℕ
+linesFrom l sum at zero = []
+linesFrom l sum at (suc k) =
+    cond (leb (length l) at) [] (byHead (entryAt l at) [] (λ label m. let rest = linesFrom l sum (at + (entryLead + m)) k in entryLines at label (contentOf l at m) sum ++ rest))
+
+-- the lines of all entries from an offset on: there are no more of them than bytes
+abbrev pub linesLeft : List ℕ → List ℕ → ℕ → List ℕ
+linesLeft l sum at = linesFrom l sum at (length l - at)

@@ -4,6 +4,7 @@ ghost use mathlib.Core.Path.{_≡_};
 ghost use mathlib.Core.List.{[], _∷_};
 ghost use Prim.Native.Nat.{_+_, _-_, _≤_, _<_};
 ghost use lib.ListN.{length, drop};
+ghost use Rattle.meaning.specs.declared.SetType.the-variants.{T6300};
 ghost use Rattle.meaning.specs.Limits.{maxEntries};
 ghost use Rattle.meaning.specs.Field.{field};
 ghost use Rattle.meaning.specs.Digits.{digits};
@@ -12,19 +13,17 @@ ghost use Rattle.meaning.specs.Entries.{entryLead};
 ghost use Rattle.meaning.specs.Lists.{sumDigits, sumLine, sumField};
 ghost use Rattle.meaning.specs.Answers.{writeCall, noRefusal};
 ghost use Rattle.buffers.specs.Places.{over};
-ghost use Rattle.lacks.specs.Lacks.{finish, stateOf};
-ghost use Rattle.steps.specs.Steps.{rowOf, Stepped};
+ghost use Rattle.lacks.specs.Lacks.{orElse, finish, stateOf};
 ghost use Rattle.entries.specs.declared.Head.the-variants.{Whole};
 ghost use Rattle.entries.specs.Head.{entryAt};
 ghost use Rattle.writer.specs.declared.Checked.the-variants.{Done};
-ghost use Rattle.writer.specs.Writing.{contentOf, checkEntry, checkFrom, entriesPass, started, firstEntry, doneUnless, ruled, elseRefused, judgedList, entryLines, linesFrom};
+ghost use Rattle.writer.specs.Writing.{contentOf, checkEntry, checkFrom, Turned, started, firstEntry, doneUnless, ruled, entriesLeft, judgedList, entryLines, linesLeft};
 use entries::Head;
 use lacks::Group;
 use meaning::Known;
 use meaning::Made;
 use meaning::Refusal;
 use meaning::SetType;
-use steps::Step;
 
 // "more than 511 (7)": 8100 has no entry.
 const ENTRIES: usize = SetType::LINES - 1;
@@ -78,11 +77,84 @@ fn check_entry(list: &[u8], at: usize) -> Item
     Item::Read { label, length }
 }
 
-// "It checks entries in order: more than 511 (7), 21, 6": the entries from an offset on, which have so many before them.
-fn check_from(list: &[u8], start: usize, before: usize) -> Checked
-    requires { ⌜ (start ≤ length (now list)) × (before ≤ maxEntries) ⌝ }
-    ensures { λ r. ⌜ r ≡ checkFrom (now (list .entry)) start before (maxEntries - before) ⌝ }
+// ---- 8, 9, 11 to 16
+
+// What the entries so far leave behind: a refusal by 8, 9 or 11 to 15 that waits until all entries are checked (number 0: none), and what is open.
+pub struct Turn {
+    pub late: Refusal,
+    pub group: Group,
+}
+
+// 11 to 15 of the entry at an offset, whose content has so many bytes; nothing is asked of it where a refusal waits.
+fn judge_entry(
+    list: &[u8],
+    kind: SetType,
+    at: usize,
+    label: usize,
+    bytes: usize,
+    turn: Turn,
+    members: &mut [bool; lacks::ROWS],
+    top: &mut [bool; lacks::ROWS],
+) -> Turn
+    requires { ⌜ at + (entryLead + bytes) ≤ length (now list) ⌝ }
+    ensures { λ r. ⌜ Turned kind at label (contentOf (now (list .entry)) at bytes) turn (now (members .entry)) (now (top .entry)) r (now (members .exit)) (now (top .exit)) ⌝ }
 {
+    let late = turn.late;
+    if late.no != 0 {
+        return turn;
+    }
+    let from = at + entries::ENTRY_LEAD;
+    let end = from + bytes;
+    let group = turn.group;
+    let step = steps::step_at(kind, at, label, &list[from..end], group, members, top);
+    let no = step.no;
+    let late = Refusal {
+        no,
+        place: at,
+        label,
+    };
+    let group = step.group;
+    Turn { late, group }
+}
+
+// 16 behind the last of n entries, where no refusal waits.
+fn finished(
+    kind: SetType,
+    turn: Turn,
+    members: &[bool; lacks::ROWS],
+    top: &[bool; lacks::ROWS],
+    n: usize,
+) -> Checked
+    ensures { λ r. ⌜ r ≡ doneUnless (orElse (turn .late) (finish kind (stateOf (turn .group) (now (members .entry)) (now (top .entry))) (turn .group .lack))) n ⌝ }
+{
+    let late = turn.late;
+    if late.no != 0 {
+        return Checked::Refused(late);
+    }
+    let group = turn.group;
+    let lack = lacks::finish_at(kind, group, members, top);
+    if lack.no != 0 {
+        return Checked::Refused(lack);
+    }
+    Checked::Done(n)
+}
+
+// The entries from an offset on, which have so many before them, each read once: 7, 21, 6 and 11 to 15 of each, then 16. Line 1 and line 2 ("the writer adds it") stand
+// before them, and are never refused here; `late` is a refusal that waits already.
+fn pass_entries(list: &[u8], kind: SetType, late: Refusal, start: usize, before: usize) -> Checked
+    requires { ⌜ (start ≤ length (now list)) × (before ≤ maxEntries) ⌝ }
+    ensures { λ r. ⌜ r ≡ entriesLeft (now (list .entry)) kind late started noRefusal start before ⌝ }
+{
+    let mut members = [false; lacks::ROWS];
+    let mut top = [false; lacks::ROWS];
+    top[ROW_8000] = true;
+    top[ROW_8100] = true;
+    let group = Group {
+        header: 8100,
+        place: 0,
+        lack: lacks::nothing(),
+    };
+    let mut turn = Turn { late, group };
     let mut at = start;
     let mut n = before;
     while at < list.len() {
@@ -94,103 +166,21 @@ fn check_from(list: &[u8], start: usize, before: usize) -> Checked
             Item::Refused(r) => {
                 return Checked::Refused(r);
             }
-            Item::Read { label: _, length } => {
-                at += entries::ENTRY_LEAD + length;
-                n += 1;
-            }
-        }
-    }
-    Checked::Done(n)
-}
-
-// ---- 8, 9, 11 to 16
-
-// "then 8, 9, and 11 to 16": a refusal by one of these waits until the entries from an offset on, which have so many before them, are checked.
-fn unless_unchecked(list: &[u8], from: usize, before: usize, r: Refusal) -> Checked
-    requires { ⌜ (from ≤ length (now list)) × (before ≤ maxEntries) ⌝ }
-    ensures { λ q. ⌜ q ≡ elseRefused (checkFrom (now (list .entry)) from before (maxEntries - before)) r ⌝ }
-{
-    match check_from(list, from, before) {
-        Checked::Refused(unchecked) => Checked::Refused(unchecked),
-        Checked::Done(_) => Checked::Refused(r),
-    }
-}
-
-// The step of the entry at an offset, whose content has so many bytes.
-fn entry_step(
-    list: &[u8],
-    kind: SetType,
-    at: usize,
-    label: usize,
-    bytes: usize,
-    group: Group,
-    members: &mut [bool; lacks::ROWS],
-    top: &mut [bool; lacks::ROWS],
-) -> Step
-    requires { ⌜ at + (entryLead + bytes) ≤ length (now list) ⌝ }
-    ensures { λ r. ⌜ Stepped (rowOf kind label) kind (stateOf group (now (members .entry)) (now (top .entry))) (group .lack) at label (contentOf (now (list .entry)) at bytes) r (now (members .exit)) (now (top .exit)) ⌝ }
-{
-    let from = at + entries::ENTRY_LEAD;
-    let end = from + bytes;
-    steps::step_at(kind, at, label, &list[from..end], group, members, top)
-}
-
-// 16 behind the last of n entries.
-fn finished(
-    kind: SetType,
-    group: Group,
-    members: &[bool; lacks::ROWS],
-    top: &[bool; lacks::ROWS],
-    n: usize,
-) -> Checked
-    ensures { λ r. ⌜ r ≡ doneUnless (finish kind (stateOf group (now (members .entry)) (now (top .entry))) (group .lack)) n ⌝ }
-{
-    let lack = lacks::finish_at(kind, group, members, top);
-    if lack.no != 0 {
-        return Checked::Refused(lack);
-    }
-    Checked::Done(n)
-}
-
-// The entries behind the first, which start at an offset, each read once: 7, 21, 6, and 11 to 15 of each, then 16. Line 1 and line 2 ("the writer adds it") stand before
-// them, and are never refused here.
-fn pass_entries(list: &[u8], kind: SetType, second: usize) -> Checked
-    requires { ⌜ second ≤ length (now list) ⌝ }
-    ensures { λ r. ⌜ r ≡ ruled (checkFrom (now (list .entry)) second 1 (maxEntries - 1)) (λ n. entriesPass (now (list .entry)) kind second started noRefusal (n - 1)) ⌝ }
-{
-    let mut members = [false; lacks::ROWS];
-    let mut top = [false; lacks::ROWS];
-    top[ROW_8000] = true;
-    top[ROW_8100] = true;
-    let mut group = Group {
-        header: 8100,
-        place: 0,
-        lack: lacks::nothing(),
-    };
-    let mut at = second;
-    let mut n: usize = 1;
-    while at < list.len() {
-        if ENTRIES <= n {
-            return Checked::Refused(lacks::refused_at(Refusal::TOO_MANY_LINES, at));
-        }
-        match check_entry(list, at) {
-            Item::Refused(r) => {
-                return Checked::Refused(r);
-            }
             Item::Read { label, length } => {
-                let step = entry_step(list, kind, at, label, length, group, &mut members, &mut top);
-                let no = step.no;
-                let place = at;
+                turn = judge_entry(list, kind, at, label, length, turn, &mut members, &mut top);
                 at += entries::ENTRY_LEAD + length;
                 n += 1;
-                if no != 0 {
-                    return unless_unchecked(list, at, n, Refusal { no, place, label });
-                }
-                group = step.group;
             }
         }
     }
-    finished(kind, group, &members, &top, n)
+    finished(kind, turn, &members, &top, n)
+}
+
+// 7, 21, 6 of each entry, and then this refusal, by 8 or 9. Any set type will do, since nothing is judged where a refusal waits.
+fn check_then(list: &[u8], late: Refusal) -> Checked
+    ensures { λ r. ⌜ r ≡ entriesLeft (now (list .entry)) T6300 late started noRefusal 0 0 ⌝ }
+{
+    pass_entries(list, SetType::T6300, late, 0, 0)
 }
 
 // 7, 21, 6, and 8 to 16, where the first entry is whole.
@@ -200,14 +190,14 @@ fn first_entry(list: &[u8], label: usize, bytes: usize) -> Checked
 {
     // 8, NoStart: "line 1 is not 8000"
     if label != 8000 {
-        return unless_unchecked(list, 0, 0, lacks::refused_at(Refusal::NO_START, 0));
+        return check_then(list, lacks::refused_at(Refusal::NO_START, 0));
     }
     // 9, UnknownSet: "8000 names none of the five"
     let end = entries::ENTRY_LEAD + bytes;
     let Known::Of(kind) = rules::type_of(&list[entries::ENTRY_LEAD..end]) else {
-        return unless_unchecked(list, 0, 0, lacks::refused_at(Refusal::UNKNOWN_SET, 0));
+        return check_then(list, lacks::refused_at(Refusal::UNKNOWN_SET, 0));
     };
-    pass_entries(list, kind, end)
+    pass_entries(list, kind, lacks::nothing(), end, 1)
 }
 
 // "It checks entries in order: more than 511 (7), 21, 6; then 8, 9, and 11 to 16".
@@ -256,37 +246,36 @@ fn put_sum(total: usize, out: &mut [u8], to: usize)
     put_end(out, from + rules::SUM_DIGITS);
 }
 
-// The line of the entry that has k entries before it, at an offset; behind the first that of 8100 as well. The offset behind them.
+// The lines of the entry at `from` in the list, at an offset: its own, and behind the first that of 8100. The offset behind them.
 fn put_lines(
-    k: usize,
+    from: usize,
     label: usize,
     content: &[u8],
     total: usize,
     out: &mut [u8],
     to: usize,
 ) -> usize
-    requires { ⌜ to + length (entryLines k label (now content) (digits sumDigits total)) ≤ length (now out) ⌝ }
-    ensures { λ r. ⌜ (r ≡ to + length (entryLines k label (now (content .entry)) (digits sumDigits total)))
-        × (now (out .exit) ≡ over to (entryLines k label (now (content .entry)) (digits sumDigits total)) (now (out .entry))) ⌝ }
+    requires { ⌜ to + length (entryLines from label (now content) (digits sumDigits total)) ≤ length (now out) ⌝ }
+    ensures { λ r. ⌜ (r ≡ to + length (entryLines from label (now (content .entry)) (digits sumDigits total)))
+        × (now (out .exit) ≡ over to (entryLines from label (now (content .entry)) (digits sumDigits total)) (now (out .entry))) ⌝ }
 {
     put_line(label, content, out, to);
     let end = to + (content.len() + lines::LINE_FRAME);
-    if k != 0 {
+    if from != 0 {
         return end;
     }
     put_sum(total, out, end);
     end + rules::SUM_LINE
 }
 
-// The lines of the n entries of a list, line after line, with that of 8100 for a set of `total` bytes.
-fn put_set(list: &[u8], n: usize, total: usize, out: &mut [u8])
-    requires { ⌜ length (linesFrom (now list) (digits sumDigits total) 0 0 n) ≤ length (now out) ⌝ }
-    ensures { λ _. ⌜ now (out .exit) ≡ over 0 (linesFrom (now (list .entry)) (digits sumDigits total) 0 0 n) (now (out .entry)) ⌝ }
+// The lines of the entries of a list, line after line, with that of 8100 for a set of `total` bytes.
+fn put_set(list: &[u8], total: usize, out: &mut [u8])
+    requires { ⌜ length (linesLeft (now list) (digits sumDigits total) 0) ≤ length (now out) ⌝ }
+    ensures { λ _. ⌜ now (out .exit) ≡ over 0 (linesLeft (now (list .entry)) (digits sumDigits total) 0) (now (out .entry)) ⌝ }
 {
     let mut at: usize = 0;
     let mut to: usize = 0;
-    let mut k: usize = 0;
-    while k < n {
+    while at < list.len() {
         match entries::entry_at(list, at) {
             Head::Cut => {
                 return;
@@ -294,9 +283,8 @@ fn put_set(list: &[u8], n: usize, total: usize, out: &mut [u8])
             Head::Whole { kind, length } => {
                 let from = at + entries::ENTRY_LEAD;
                 let end = from + length;
-                to = put_lines(k, kind, &list[from..end], total, out, to);
+                to = put_lines(at, kind, &list[from..end], total, out, to);
                 at = end;
-                k += 1;
             }
         }
     }
@@ -317,7 +305,7 @@ fn write_entries(list: &[u8], n: usize, out: &mut [u8]) -> Made
     if SetType::SET_BYTES < total {
         return Made::Refused(lacks::refused_at(Refusal::NO_ROOM, total));
     }
-    put_set(list, n, total, out);
+    put_set(list, total, out);
     buffers::clear(&mut out[total..]);
     Made::Done(total)
 }

@@ -6,8 +6,9 @@ use borrow.Author.Needs.{needs}
 use Rattle.entries.proofs.HeadLaws.{whole-back}
 use Rattle.lists.proofs.PartLaws.{part-length}
 use Rattle.meaning.specs.declared.Refusal.{Refusal}
-use Rattle.meaning.specs.Limits.{maxEntries}
-use Rattle.writer.specs.Writing.{checkFrom, elseRefused}
+use Rattle.meaning.specs.declared.SetType.the-variants.{T6300}
+use Rattle.meaning.specs.Answers.{noRefusal}
+use Rattle.writer.specs.Writing.{started, entriesLeft}
 use Rattle.writer.proofs.OnceLaws.{list-other, list-unknown, list-known}
 use Rattle.writer.proofs.first_entry.Statement.{statement}
 use Rattle.writer.proofs.first_entry.Tie as tie
@@ -15,14 +16,14 @@ use Rattle.writer.proofs.first_entry.Tie as tie
 refused-at-requires : tie.Need-refused-at-requires
 refused-at-requires c κs = search needs
 
-unless-unchecked-requires : tie.Need-unless-unchecked-requires
-unless-unchecked-requires c κs = (omega arith, omega arith)
+check-then-requires : tie.Need-check-then-requires
+check-then-requires c κs = search needs
 
 returns : tie.Need-returns
 returns c =
     let b4 = c .before .before .before .before in
     let a = b4 .args in
-    c .unless-unchecked .ensures ∙ (ap (λ (r : Refusal). elseRefused (checkFrom (a .list .now) 0 0 maxEntries) r) (c .before .refused-at .ensures) ∙ list-other (a .list .now) (a .label) (a .bytes) (c .before .before .if1 .taken))
+    c .check-then .ensures ∙ (ap (λ (r : Refusal). entriesLeft (a .list .now) T6300 r started noRefusal 0 0) (c .before .refused-at .ensures) ∙ list-other (a .list .now) (a .label) (a .bytes) (c .before .before .if1 .taken))
 
 add-end : tie.Need-add-end
 add-end c = omega (arith, whole-back (c .before .before .args .list .now) 0 (c .before .before .pre) .within, c .before .before .good)
@@ -48,8 +49,8 @@ enum-told c = search needs
 refused-at-requires-2 : tie.Need-refused-at-requires-2
 refused-at-requires-2 c κs = search needs
 
-unless-unchecked-requires-2 : tie.Need-unless-unchecked-requires-2
-unless-unchecked-requires-2 c κs = (omega arith, omega arith)
+check-then-requires-2 : tie.Need-check-then-requires-2
+check-then-requires-2 c κs = search needs
 
 returns-2 : tie.Need-returns-2
 returns-2 c =
@@ -57,27 +58,31 @@ returns-2 c =
     let b6 = b4 .before .before in
     let b8 = b6 .before .before in
     let a = b8 .args in
-    c .unless-unchecked2 .ensures ∙ (ap (λ (r : Refusal). elseRefused (checkFrom (a .list .now) 0 0 maxEntries) r) (c .before .refused-at2 .ensures) ∙ list-unknown (a .list .now) (a .label) (a .bytes) (b6 .if1 .left) _ (part-length _ _) (sym (b4 .type-of .ensures) ∙ c .before .before .enum-told .given .1))
+    c .check-then2 .ensures ∙ (ap (λ (r : Refusal). entriesLeft (a .list .now) T6300 r started noRefusal 0 0) (c .before .refused-at2 .ensures) ∙ list-unknown (a .list .now) (a .label) (a .bytes) (b6 .if1 .left) _ (part-length _ _) (sym (b4 .type-of .ensures) ∙ c .before .before .enum-told .given .1))
+
+nothing-requires : tie.Need-nothing-requires
+nothing-requires c κs = search needs
 
 pass-entries-requires : tie.Need-pass-entries-requires
 pass-entries-requires c κs =
-    let b7 = c .before .before .before .before .before .before .before in
-    omega (arith, whole-back (b7 .args .list .now) 0 (b7 .pre) .within)
+    let b8 = c .before .before .before .before .before .before .before .before in
+    (omega (arith, whole-back (b8 .args .list .now) 0 (b8 .pre) .within), omega arith)
 
 returns-3 : tie.Need-returns-3
 returns-3 c =
-    let b4 = c .before .before .before .before in
-    let b6 = b4 .before .before in
-    let b8 = b6 .before .before in
-    let a = b8 .args in
-    c .pass-entries .ensures ∙ list-known (a .list .now) (a .label) (a .bytes) (b6 .if1 .left) _ (part-length _ _) (b8 .pre) (sym (b4 .type-of .ensures) ∙ c .before .before .kind .given .1)
+    let b3 = c .before .before .before in
+    let b5 = b3 .before .before in
+    let b7 = b5 .before .before in
+    let b9 = b7 .before .before in
+    let a = b9 .args in
+    c .pass-entries .ensures ∙ list-known (a .list .now) (a .label) (a .bytes) (b7 .if1 .left) _ (part-length _ _) _ (c .before .nothing .ensures) (b9 .pre) (sym (b5 .type-of .ensures) ∙ b3 .kind .given .1)
 
 pub first-entry-spec : {M : Type 1} → statement M
 first-entry-spec =
     tie.close
     (tie.spec
     refused-at-requires
-    unless-unchecked-requires
+    check-then-requires
     returns
     add-end
     sub-type-of
@@ -87,7 +92,8 @@ first-entry-spec =
     enum-known-kind
     enum-told
     refused-at-requires-2
-    unless-unchecked-requires-2
+    check-then-requires-2
     returns-2
+    nothing-requires
     pass-entries-requires
     returns-3)

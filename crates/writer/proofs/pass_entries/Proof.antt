@@ -1,23 +1,25 @@
--- `pass_entries`: at each entry the loop stands for the check of the entries behind the first, and for the pass over them.
+-- `pass_entries`: what is left of the check and the rules is always the whole of them.
 -- Assumes nothing.
-use mathlib.Core.Path.{sym, ap, _∙_, subst}
-use Prim.Native.Nat.{_-_}
+use mathlib.Core.Path.{_≡_, refl, sym, ap, _∙_}
+use Prim.Native.Nat.{_-_, _≤_}
 use native.Mathlib.Omega.{arith}
 use borrow.Author.Needs.{needs}
+use lib.ListN.{length}
+use Rattle.meaning.specs.declared.Refusal.{Refusal}
 use Rattle.meaning.specs.Limits.{maxEntries}
 use Rattle.lacks.specs.Lacks.{stateOf}
 use Rattle.writer.specs.declared.Checked.the-variants.{Refused}
-use Rattle.writer.specs.Writing.{started}
+use Rattle.writer.specs.Writing.{started, entriesLeft}
 use Rattle.writer.proofs.CheckLaws.{checked-within}
-use Rattle.writer.proofs.OnceLaws.{Along, along-start, along-end, along-full, along-unchecked, along-bad, along-on}
+use Rattle.writer.proofs.OnceLaws.{left-end, left-full, left-unchecked, left-on}
 use Rattle.writer.proofs.pass_entries.Statement.{statement}
 use Rattle.writer.proofs.pass_entries.Tie as tie
 
 abbrev Inv-loop : tie.InvT-loop
-Inv-loop list kind second members₀ top₀ group₀ at₀ n₀ members top group at n = Along list kind second at n (stateOf group members top) (group .lack)
+Inv-loop list kind start before members₀ top₀ turn₀ at₀ n₀ members top turn at n = (at ≤ length list) × (n ≤ maxEntries) × (entriesLeft list kind (turn .late) (stateOf (turn .group) members top) (turn .group .lack) at n ≡ entriesLeft list kind (turn₀ .late) (stateOf (turn₀ .group) members₀ top₀) (turn₀ .group .lack) start before)
 
 abbrev μ-loop : tie.MeasureT-loop
-μ-loop list kind second members₀ top₀ group₀ at₀ n₀ members top group at n = maxEntries - n
+μ-loop list kind start before members₀ top₀ turn₀ at₀ n₀ members top turn at n = maxEntries - n
 
 array-write-top : tie.Need-array-write-top Inv-loop μ-loop
 array-write-top c = search needs
@@ -29,7 +31,7 @@ nothing-requires : tie.Need-nothing-requires Inv-loop μ-loop
 nothing-requires c κs = search needs
 
 loop-holds : tie.Need-loop-holds Inv-loop μ-loop
-loop-holds c = subst (Along (c .before .before .args .list .now) (c .before .before .args .kind) (c .before .before .args .second) (c .before .before .args .second) 1 started) (sym (c .nothing .ensures)) (along-start (c .before .before .args .list .now) (c .before .before .args .kind) (c .before .before .args .second) (c .before .before .pre))
+loop-holds c = (c .before .before .pre .0, c .before .before .pre .1, refl)
 
 refused-at-requires : tie.Need-refused-at-requires Inv-loop μ-loop
 refused-at-requires c κs = search needs
@@ -37,9 +39,11 @@ refused-at-requires c κs = search needs
 returns : tie.Need-returns Inv-loop μ-loop
 returns c =
     let b3 = c .before .before .before in
-    let b6 = b3 .before .before .before in
+    let b4 = b3 .before in
+    let b6 = b4 .before .before in
     let a = b6 .args in
-    ap Refused (c .refused-at .ensures) ∙ along-full (a .list .now) (a .kind) (a .second) (b3 .loop .inv) (c .before .before .loop-test .taken) (c .before .if1 .taken)
+    let l = b3 .loop in
+    ap Refused (c .refused-at .ensures) ∙ (left-full (a .list .now) (a .kind) (l .turn .late) (stateOf (l .turn .group) (l .members) (l .top)) (l .turn .group .lack) (l .at) (l .n) (c .before .before .loop-test .taken) (c .before .if1 .taken) ∙ (l .inv .2 ∙ ap (λ (r : Refusal). entriesLeft (a .list .now) (a .kind) (a .late) started r (a .start) (a .before)) (b4 .nothing .ensures)))
 
 check-entry-requires : tie.Need-check-entry-requires Inv-loop μ-loop
 check-entry-requires c κs = search needs
@@ -53,15 +57,17 @@ returns-2 c =
     let b4 = b3 .before in
     let b5 = b4 .before in
     let b6 = b5 .before in
-    let b9 = b6 .before .before .before in
+    let b7 = b6 .before in
+    let b9 = b7 .before .before in
     let a = b9 .args in
-    along-unchecked (a .list .now) (a .kind) (a .second) (b6 .loop .inv) (b5 .loop-test .taken) (omega (arith, b4 .if1 .left)) _ (sym (b3 .check-entry .ensures) ∙ c .before .r .given .1)
+    let l = b6 .loop in
+    left-unchecked (a .list .now) (a .kind) (l .turn .late) (stateOf (l .turn .group) (l .members) (l .top)) (l .turn .group .lack) (l .at) (l .n) (b5 .loop-test .taken) (omega (arith, b4 .if1 .left)) (sym (b3 .check-entry .ensures) ∙ c .before .r .given .1) ∙ (l .inv .2 ∙ ap (λ (r : Refusal). entriesLeft (a .list .now) (a .kind) (a .late) started r (a .start) (a .before)) (b7 .nothing .ensures))
 
 enum-known-label : tie.Need-enum-known-label Inv-loop μ-loop
 enum-known-label c = search needs
 
-entry-step-requires : tie.Need-entry-step-requires Inv-loop μ-loop
-entry-step-requires c κs =
+judge-entry-requires : tie.Need-judge-entry-requires Inv-loop μ-loop
+judge-entry-requires c κs =
     let b3 = c .before .before .before in
     let b5 = b3 .before .before in
     let b8 = b5 .before .before .before in
@@ -89,52 +95,35 @@ add-n c =
     let b7 = c .before .before .before .before .before .before .before in
     omega (arith, b7 .if1 .left)
 
-unless-unchecked-requires : tie.Need-unless-unchecked-requires Inv-loop μ-loop
-unless-unchecked-requires c κs =
-    let b5 = c .before .before .before .before .before in
-    let b7 = b5 .before .before in
-    let b8 = b7 .before in
-    let b10 = b8 .before .before in
-    let b13 = b10 .before .before .before in
-    (checked-within (b13 .args .list .now) (b10 .loop .at) (sym (b7 .check-entry .ensures) ∙ b5 .label .given .1), omega (arith, b8 .if1 .left))
-
-returns-3 : tie.Need-returns-3 Inv-loop μ-loop
-returns-3 c =
-    let b6 = c .before .before .before .before .before .before in
-    let b8 = b6 .before .before in
-    let b9 = b8 .before in
-    let b10 = b9 .before in
-    let b11 = b10 .before in
-    let b14 = b11 .before .before .before in
-    let a = b14 .args in
-    c .unless-unchecked .ensures ∙ along-bad (a .list .now) (a .kind) (a .second) (b11 .loop .inv) (b10 .loop-test .taken) (omega (arith, b9 .if1 .left)) _ _ (sym (b8 .check-entry .ensures) ∙ b6 .label .given .1) _ _ _ (c .before .before .entry-step .ensures) (c .before .if2 .taken)
-
 loop-less : tie.Need-loop-less Inv-loop μ-loop
 loop-less c =
-    let b9 = c .before .before .before .before .before .before .before .before .before in
-    omega (arith, b9 .if1 .left)
+    let b7 = c .before .before .before .before .before .before .before in
+    omega (arith, b7 .if1 .left)
 
 loop-again : tie.Need-loop-again Inv-loop μ-loop
 loop-again c =
-    let b6 = c .before .before .before .before .before .before in
-    let b8 = b6 .before .before in
+    let b4 = c .before .before .before .before in
+    let b6 = b4 .before .before in
+    let b7 = b6 .before in
+    let b8 = b7 .before in
     let b9 = b8 .before in
-    let b10 = b9 .before in
-    let b11 = b10 .before in
-    let b14 = b11 .before .before .before in
-    let a = b14 .args in
-    along-on (a .list .now) (a .kind) (a .second) (b11 .loop .inv) (b10 .loop-test .taken) (omega (arith, b9 .if1 .left)) _ _ (sym (b8 .check-entry .ensures) ∙ b6 .label .given .1) _ _ _ (c .before .before .entry-step .ensures) (c .before .if2 .left)
+    let b12 = b9 .before .before .before in
+    let a = b12 .args in
+    let l = b9 .loop in
+    (checked-within (a .list .now) (l .at) (sym (b6 .check-entry .ensures) ∙ b4 .label .given .1), omega (arith, b7 .if1 .left), sym (left-on (a .list .now) (a .kind) (l .at) (l .n) (b8 .loop-test .taken) (omega (arith, b7 .if1 .left)) _ _ (sym (b6 .check-entry .ensures) ∙ b4 .label .given .1) (l .turn) (l .members) (l .top) _ _ _ (c .judge-entry .ensures)) ∙ l .inv .2)
 
 finished-requires : tie.Need-finished-requires Inv-loop μ-loop
 finished-requires c κs = search needs
 
-returns-4 : tie.Need-returns-4 Inv-loop μ-loop
-returns-4 c =
+returns-3 : tie.Need-returns-3 Inv-loop μ-loop
+returns-3 c =
     let b3 = c .before .before .before in
     let b4 = b3 .before in
-    let b7 = b4 .before .before .before in
+    let b5 = b4 .before in
+    let b7 = b5 .before .before in
     let a = b7 .args in
-    c .finished .ensures ∙ along-end (a .list .now) (a .kind) (a .second) (b4 .loop .inv) (b3 .loop-test .left)
+    let l = b4 .loop in
+    c .finished .ensures ∙ (left-end (a .list .now) (a .kind) (l .turn .late) (stateOf (l .turn .group) (l .members) (l .top)) (l .turn .group .lack) (l .at) (l .n) (b3 .loop-test .left) ∙ (l .inv .2 ∙ ap (λ (r : Refusal). entriesLeft (a .list .now) (a .kind) (a .late) started r (a .start) (a .before)) (b5 .nothing .ensures)))
 
 pub pass-entries-spec : {M : Type 1} → statement M
 pass-entries-spec =
@@ -152,13 +141,11 @@ pass-entries-spec =
     enum-known-r
     returns-2
     enum-known-label
-    entry-step-requires
+    judge-entry-requires
     add-at
     add-at-2
     add-n
-    unless-unchecked-requires
-    returns-3
     loop-less
     loop-again
     finished-requires
-    returns-4)
+    returns-3)

@@ -13,19 +13,19 @@ use Rattle.entries.proofs.HeadLaws.{whole-back}
 use Rattle.buffers.specs.Places.{over}
 use Rattle.lists.proofs.PartLaws.{part-length}
 use Rattle.lists.proofs.OverLaws.{over-none}
-use Rattle.writer.specs.Writing.{linesFrom}
+use Rattle.writer.specs.Writing.{linesLeft}
 use Rattle.writer.proofs.WriteLaws.{lines-end, lines-cut, lines-fit, put-turn}
 use Rattle.writer.proofs.put_set.Statement.{statement}
 use Rattle.writer.proofs.put_set.Tie as tie
 
 abbrev Inv-loop : tie.InvT-loop
-Inv-loop list n total out₀ at₀ to₀ k₀ out at to k = (k ≤ n) × (length out ≡ length out₀) × (to + length (linesFrom list (digits sumDigits total) at k (n - k)) ≤ length out) × (over to (linesFrom list (digits sumDigits total) at k (n - k)) out ≡ over 0 (linesFrom list (digits sumDigits total) 0 0 n) out₀)
+Inv-loop list total out₀ at₀ to₀ out at to = (at ≤ length list) × (length out ≡ length out₀) × (to + length (linesLeft list (digits sumDigits total) at) ≤ length out) × (over to (linesLeft list (digits sumDigits total) at) out ≡ over 0 (linesLeft list (digits sumDigits total) 0) out₀)
 
 abbrev μ-loop : tie.MeasureT-loop
-μ-loop list n total out₀ at₀ to₀ k₀ out at to k = n - k
+μ-loop list total out₀ at₀ to₀ out at to = length list - at
 
 loop-holds : tie.Need-loop-holds Inv-loop μ-loop
-loop-holds c = let z : c .before .before .args .n - 0 ≡ c .before .before .args .n = omega arith in (omega arith, refl, omega (arith, c .before .before .pre, ap (λ (m : ℕ). length (linesFrom (c .before .before .args .list .now) (digits sumDigits (c .before .before .args .total)) 0 0 m)) z), ap (λ (m : ℕ). over 0 (linesFrom (c .before .before .args .list .now) (digits sumDigits (c .before .before .args .total)) 0 0 m) (c .before .before .args .out .now)) z)
+loop-holds c = (omega arith, refl, omega (arith, c .before .before .pre), refl)
 
 entry-at-requires : tie.Need-entry-at-requires Inv-loop μ-loop
 entry-at-requires c κs = search needs
@@ -45,7 +45,7 @@ returns c =
     let b7 = b4 .before .before .before in
     let a = b7 .args in
     let l = b4 .loop in
-    over-none (l .out) (l .to) ∙ (ap (λ (u : List ℕ). over (l .to) u (l .out)) (sym (lines-cut (a .list .now) (digits sumDigits (a .total)) (l .at) (l .k) (a .n) (b3 .loop-test .taken) (sym (c .before .before .entry-at .ensures) ∙ c .enum-told .given .1))) ∙ l .inv .3)
+    over-none (l .out) (l .to) ∙ (ap (λ (u : List ℕ). over (l .to) u (l .out)) (sym (lines-cut (a .list .now) (digits sumDigits (a .total)) (l .at) (b3 .loop-test .taken) (sym (c .before .before .entry-at .ensures) ∙ c .enum-told .given .1))) ∙ l .inv .3)
 
 enum-known-kind : tie.Need-enum-known-kind Inv-loop μ-loop
 enum-known-kind c = search needs
@@ -94,18 +94,16 @@ put-lines-requires c κs =
     let b10 = b7 .before .before .before in
     let a = b10 .args in
     let l = b7 .loop in
-    lines-fit (a .list .now) (digits sumDigits (a .total)) (l .at) (l .k) (a .n) (b6 .loop-test .taken) (sym (b5 .entry-at .ensures) ∙ b3 .kind .given .1) _ (part-length _ _) _ (add-assoc (l .at) _ _) (l .out) (l .to) (l .inv .2)
-
-add-k : tie.Need-add-k Inv-loop μ-loop
-add-k c =
-    let b9 = c .before .before .before .before .before .before .before .before .before in
-    let b13 = b9 .before .before .before .before in
-    omega (arith, b9 .loop-test .taken, b13 .fits, b13 .good)
+    lines-fit (a .list .now) (digits sumDigits (a .total)) (l .at) (b6 .loop-test .taken) (sym (b5 .entry-at .ensures) ∙ b3 .kind .given .1) _ (part-length _ _) _ (add-assoc (l .at) _ _) (l .out) (l .to) (l .inv .2)
 
 loop-less : tie.Need-loop-less Inv-loop μ-loop
 loop-less c =
-    let b9 = c .before .before .before .before .before .before .before .before .before in
-    omega (arith, b9 .loop-test .taken)
+    let b6 = c .before .before .before .before .before .before in
+    let b8 = b6 .before .before in
+    let b9 = b8 .before in
+    let b10 = b9 .before in
+    let b13 = b10 .before .before .before in
+    omega (arith, b9 .loop-test .taken, whole-back (b13 .args .list .now) (b10 .loop .at) (sym (b8 .entry-at .ensures) ∙ b6 .kind .given .1) .within)
 
 loop-again : tie.Need-loop-again Inv-loop μ-loop
 loop-again c =
@@ -116,7 +114,7 @@ loop-again c =
     let b13 = b10 .before .before .before in
     let a = b13 .args in
     let l = b10 .loop in
-    let t = put-turn (a .list .now) (digits sumDigits (a .total)) (l .at) (l .k) (a .n) (b9 .loop-test .taken) (sym (b8 .entry-at .ensures) ∙ b6 .kind .given .1) _ (part-length _ _) _ (add-assoc (l .at) _ _) (l .out) (l .to) (l .inv .2) _ _ (c .before .before .put-lines .ensures .0) (c .before .before .put-lines .ensures .1) in (omega (arith, b9 .loop-test .taken), t .same-room ∙ l .inv .1, t .has-room, t .same ∙ l .inv .3)
+    let t = put-turn (a .list .now) (digits sumDigits (a .total)) (l .at) (b9 .loop-test .taken) (sym (b8 .entry-at .ensures) ∙ b6 .kind .given .1) _ (part-length _ _) _ (add-assoc (l .at) _ _) (l .out) (l .to) (l .inv .2) _ _ (c .before .before .put-lines .ensures .0) (c .before .before .put-lines .ensures .1) in (omega (arith, whole-back (a .list .now) (l .at) (sym (b8 .entry-at .ensures) ∙ b6 .kind .given .1) .within), t .same-room ∙ l .inv .1, t .has-room, t .same ∙ l .inv .3)
 
 same-length-2 : tie.Need-same-length-2 Inv-loop μ-loop
 same-length-2 c = c .before .loop .inv .1
@@ -126,7 +124,7 @@ returns-2 c =
     let b4 = c .before .before .before .before in
     let a = b4 .args in
     let l = c .before .loop in
-    over-none (l .out) (l .to) ∙ (ap (λ (u : List ℕ). over (l .to) u (l .out)) (sym (lines-end (a .list .now) (digits sumDigits (a .total)) (l .at) (l .k) (a .n) (c .loop-test .left))) ∙ l .inv .3)
+    over-none (l .out) (l .to) ∙ (ap (λ (u : List ℕ). over (l .to) u (l .out)) (sym (lines-end (a .list .now) (digits sumDigits (a .total)) (l .at) (c .loop-test .left))) ∙ l .inv .3)
 
 pub put-set-spec : {M : Type 1} → statement M
 put-set-spec =
@@ -146,7 +144,6 @@ put-set-spec =
     part-put-lines-start
     part-put-lines-end
     put-lines-requires
-    add-k
     loop-less
     loop-again
     same-length-2

@@ -4,18 +4,18 @@ use mathlib.Core.Path.{ap, _∙_}
 use native.Mathlib.Omega.{arith}
 use borrow.Author.Needs.{needs}
 use Rattle.meaning.specs.declared.Made.the-variants.{Refused}
-use Rattle.writer.proofs.WriteLaws.{few-entries, set-fits, answer-full, answer-long, answer-set}
+use Rattle.writer.proofs.WriteLaws.{not-many, set-fits, answer-full, answer-long, answer-set}
 use Rattle.writer.proofs.write_entries.Statement.{statement}
 use Rattle.writer.proofs.write_entries.Tie as tie
 
 mul-total : tie.Need-mul-total
-mul-total c = omega (arith, few-entries (c .before .before .args .list .now) (c .before .before .args .n) (c .before .before .pre .0) (c .before .before .pre .1), c .before .before .good)
+mul-total c = omega (arith, not-many (c .before .before .args .list .now) (c .before .before .args .n) (c .before .before .pre .0) (c .before .before .pre .1), c .before .before .good)
 
 add-total : tie.Need-add-total
-add-total c = omega (arith, few-entries (c .before .before .args .list .now) (c .before .before .args .n) (c .before .before .pre .0) (c .before .before .pre .1), c .before .before .good)
+add-total c = omega (arith, not-many (c .before .before .args .list .now) (c .before .before .args .n) (c .before .before .pre .0) (c .before .before .pre .1), c .before .before .good)
 
 add-total-2 : tie.Need-add-total-2
-add-total-2 c = omega (arith, few-entries (c .before .before .args .list .now) (c .before .before .args .n) (c .before .before .pre .0) (c .before .before .pre .1), c .before .before .good)
+add-total-2 c = omega (arith, not-many (c .before .before .args .list .now) (c .before .before .args .n) (c .before .before .pre .0) (c .before .before .pre .1), c .before .before .good)
 
 refused-at-requires : tie.Need-refused-at-requires
 refused-at-requires c κs = search needs
