@@ -1,2 +1,3 @@
 pub mod Laws
 pub mod Bridge
+pub mod ToldLaws

@@ -2,7 +2,7 @@
 -- Assumes nothing: these are definitions. What they mean is `line-is` in proofs/Bridge.
 use mathlib.Core.Bool.{Bool, true, false, cond, _&&_}
 use mathlib.Core.List.{List}
-use Prim.Native.Nat.{ℕ, zero, suc, _+_, _-_}
+use Prim.Native.Nat.{ℕ, zero, suc, _+_, _-_, _*_}
 use lib.ListN.{length, getD}
 use lib.Dec.{leb, eqb}
 use Rattle.meaning.specs.Refusals.{refusal, badLength, cutLine, badEnd, badLabel, badByte}
@@ -22,6 +22,13 @@ must false n place l = Refused (refusal n place 0)
 unfoldable pub mustRead : Number → ℕ → ℕ → (ℕ → Line) → Line
 mustRead (Is m) n place f = f m
 mustRead None n place f = Refused (refusal n place 0)
+
+-- so many bytes of a content are tested at once: every line has as many before its end
+abbrev pub block : ℕ
+block = lineLead + 1
+
+abbrev pub wideBlock : ℕ
+wideBlock = 2 * block
 
 -- the offset of the first byte under 20h among the k bytes at an offset, or the offset behind them
 unfoldable pub firstLow : List ℕ → ℕ → ℕ → ℕ

@@ -1,16 +1,19 @@
-// One line of a set at an offset, where a set ends, and the scan of the lines from an offset on: 2 to 7 of the paper's replies.
+// One line of a set at an offset, what a line tells that was read before, where a set ends, and the scan of the lines from an offset on: 2 to 7 of the paper's replies.
 // Assumes nothing of the bytes; `first_low` and `scan_from`, which only other crates here call, assume that their offset lies within them. Each contract cites a walk of specs/,
-// and proofs/Bridge says what the walks mean.
+// and proofs/Bridge and proofs/ToldLaws say what the walks mean.
 ghost use mathlib.Core.Path.{_≡_};
 ghost use mathlib.Core.Bool.{true};
-ghost use Prim.Native.Nat.{_+_, _-_, _≤_};
-ghost use lib.ListN.{length};
+ghost use Prim.Native.Nat.{_+_, _-_, _*_, _≤_, _<_};
+ghost use lib.ListN.{length, take, drop};
 ghost use Rattle.meaning.specs.Limits.{maxLines};
+ghost use Rattle.meaning.specs.Digits.{allDigits};
 ghost use Rattle.meaning.specs.Refusals.{refusal};
-ghost use Rattle.meaning.specs.Lines.{minLineBytes};
+ghost use Rattle.meaning.specs.Lines.{lineLead, lineEnd, minLineBytes};
+ghost use Rattle.lines.specs.declared.Line.the-variants.{Read};
 ghost use Rattle.lines.specs.Number.{numberAt};
-ghost use Rattle.lines.specs.Line.{firstLow, labelledLine, sizedLine, lineAt};
+ghost use Rattle.lines.specs.Line.{block, wideBlock, firstLow, labelledLine, sizedLine, lineAt};
 ghost use Rattle.lines.specs.Scan.{endsAt, scanFrom};
+ghost use Rattle.lines.specs.Told.{toldLength, toldLabel};
 use meaning::Refusal;
 use meaning::SetType;
 
@@ -38,10 +41,20 @@ const MIN_LINE_BYTES: usize = LINE_FRAME + 1;
 // "Content bytes are 20h to FFh."
 const LEAST_BYTE: u8 = 32;
 
+// So many bytes of a content are tested at once. Every line has as many before its end, since its content has one byte or more.
+const BLOCK: usize = LINE_LEAD + 1;
+
+const WIDE_BLOCK: usize = 2 * BLOCK;
+
 // "Digits" are 30h to 39h.
 const DIGIT_ZERO: u8 = b'0';
 
 const DIGIT_NINE: u8 = b'9';
+
+// What the bytes `000` and `0000` come to, each byte times the value of its digit.
+const THREE_ZEROS: usize = DIGIT_ZERO as usize * 111;
+
+const FOUR_ZEROS: usize = DIGIT_ZERO as usize * 1111;
 
 // So many digits write no number that is too large for a usize.
 const MOST_DIGITS: usize = 9;
@@ -100,28 +113,17 @@ pub fn number_at(s: &[u8], at: usize, k: usize) -> Number
     Number::Is(number)
 }
 
-// A refusal of a line: "the label 0, unless said otherwise".
-fn refused(no: usize, place: usize) -> Line
-    ensures { λ r. ⌜ r ≡ Line.Refused (refusal no place 0) ⌝ }
-{
-    Line::Refused(Refusal {
-        no,
-        place,
-        label: 0,
-    })
-}
+// ---- the bytes of a content
 
-// None of the k bytes at an offset is under 20h. A content without a fault is the rule, so the loop looks at every byte and has no way out: it is
-// then done many bytes at a time.
+// None of the k bytes at an offset is under 20h. The loop has no way out between them, so that a number of bytes that is fixed is tested at once.
 fn clean(s: &[u8], at: usize, k: usize) -> bool
     requires { ⌜ at + k ≤ length (now s) ⌝ }
     ensures { λ r. ⌜ (r ≡ true → firstLow (now (s .entry)) at k ≡ at + k) ⌝ }
 {
-    let end = at + k;
-    let mut i = at;
+    let mut i: usize = 0;
     let mut fit = true;
-    while i < end {
-        fit &= LEAST_BYTE <= s[i];
+    while i < k {
+        fit &= LEAST_BYTE <= s[at + i];
         i += 1;
     }
     fit
@@ -143,15 +145,65 @@ fn seek_low(s: &[u8], at: usize, k: usize) -> usize
     i
 }
 
-// The same offset, and the bytes are searched one by one only where one of them is under 20h.
+// The same offset. A content without a fault is the rule, so blocks are passed over while they are clean.
 pub fn first_low(s: &[u8], at: usize, k: usize) -> usize
     requires { ⌜ at + k ≤ length (now s) ⌝ }
     ensures { λ r. ⌜ r ≡ firstLow (now (s .entry)) at k ⌝ }
 {
-    if clean(s, at, k) {
-        return at + k;
+    let end = at + k;
+    let mut i = at;
+    while BLOCK <= end - i {
+        if clean(s, i, BLOCK) {
+            i += BLOCK;
+        } else {
+            return seek_low(s, i, end - i);
+        }
     }
-    seek_low(s, at, k)
+    seek_low(s, i, end - i)
+}
+
+// None of the bytes from one offset to another is under 20h, where no more than a wide block stand there. The last block may start before the first of
+// them, and then asks more.
+fn clean_few(s: &[u8], from: usize, end: usize) -> bool
+    requires { ⌜ (block ≤ end) × (from ≤ end) × (end ≤ from + wideBlock) × (end ≤ length (now s)) ⌝ }
+    ensures { λ r. ⌜ (r ≡ true → firstLow (now (s .entry)) from (end - from) ≡ end) ⌝ }
+{
+    if from + BLOCK < end {
+        if clean(s, from, BLOCK) {
+            return clean(s, end - BLOCK, BLOCK);
+        }
+        return false;
+    }
+    clean(s, end - BLOCK, BLOCK)
+}
+
+// The same of any number of bytes.
+fn clean_content(s: &[u8], from: usize, end: usize) -> bool
+    requires { ⌜ (block ≤ end) × (from ≤ end) × (end ≤ length (now s)) ⌝ }
+    ensures { λ r. ⌜ (r ≡ true → firstLow (now (s .entry)) from (end - from) ≡ end) ⌝ }
+{
+    let mut i = from;
+    while i + WIDE_BLOCK <= end {
+        if clean(s, i, WIDE_BLOCK) {
+            i += WIDE_BLOCK;
+        } else {
+            return false;
+        }
+    }
+    clean_few(s, i, end)
+}
+
+// ---- one line, rule by rule
+
+// A refusal of a line: "the label 0, unless said otherwise".
+fn refused(no: usize, place: usize) -> Line
+    ensures { λ r. ⌜ r ≡ Line.Refused (refusal no place 0) ⌝ }
+{
+    Line::Refused(Refusal {
+        no,
+        place,
+        label: 0,
+    })
 }
 
 // The line at an offset whose length and label are read.
@@ -162,7 +214,7 @@ fn labelled_line(s: &[u8], at: usize, size: usize, label: usize) -> Line
     // 6, BadByte: "content byte under 20h; place is that byte"
     let content = at + LINE_LEAD;
     let k = size - LINE_FRAME;
-    let low = first_low(s, content, k);
+    let low = seek_low(s, content, k);
     if low < content + k {
         return refused(Refusal::BAD_BYTE, low);
     }
@@ -206,6 +258,117 @@ pub fn line_at(s: &[u8], at: usize) -> Line
         Number::None => refused(Refusal::BAD_LENGTH, at),
     }
 }
+
+// ---- what a line tells that was read before: its bytes are taken as digits, and nothing is tested
+
+// Three bytes, each times the value of its digit.
+fn three_bytes(a: u8, b: u8, c: u8) -> usize
+    ensures { λ r. ⌜ (r ≡ a * 100 + b * 10 + c) × (r < 65536) ⌝ }
+{
+    a as usize * 100 + b as usize * 10 + c as usize
+}
+
+// Four bytes, each times the value of its digit.
+fn four_bytes(a: u8, b: u8, c: u8, d: u8) -> usize
+    ensures { λ r. ⌜ r ≡ a * 1000 + b * 100 + c * 10 + d ⌝ }
+{
+    a as usize * 1000 + b as usize * 100 + c as usize * 10 + d as usize
+}
+
+// The length of the content that the line at an offset tells by its first three bytes; 0 where it tells none.
+pub fn told_length(s: &[u8], at: usize) -> usize
+    ensures { λ r. ⌜ (r ≡ toldLength (now (s .entry)) at) × (r < 65536) ⌝ }
+{
+    if s.len() < LINE_LEAD {
+        return 0;
+    }
+    if s.len() - LINE_LEAD < at {
+        return 0;
+    }
+    let n = three_bytes(s[at], s[at + 1], s[at + 2]);
+    if n < THREE_ZEROS + LINE_FRAME {
+        return 0;
+    }
+    n - (THREE_ZEROS + LINE_FRAME)
+}
+
+// The label that it tells by the four bytes behind these; 0 where it tells none.
+pub fn told_label(s: &[u8], at: usize) -> usize
+    ensures { λ r. ⌜ r ≡ toldLabel (now (s .entry)) at ⌝ }
+{
+    if s.len() < LINE_LEAD {
+        return 0;
+    }
+    if s.len() - LINE_LEAD < at {
+        return 0;
+    }
+    let label = at + LENGTH_DIGITS;
+    let n = four_bytes(s[label], s[label + 1], s[label + 2], s[label + 3]);
+    if n < FOUR_ZEROS {
+        return 0;
+    }
+    n - FOUR_ZEROS
+}
+
+// ---- one line of many
+
+// The k bytes at an offset are digits.
+fn digits_at(s: &[u8], at: usize, k: usize) -> bool
+    requires { ⌜ at + k ≤ length (now s) ⌝ }
+    ensures { λ r. ⌜ r ≡ allDigits (take k (drop at (now (s .entry)))) ⌝ }
+{
+    let mut i: usize = 0;
+    while i < k {
+        let b = s[at + i];
+        if b < DIGIT_ZERO {
+            return false;
+        }
+        if DIGIT_NINE < b {
+            return false;
+        }
+        i += 1;
+    }
+    true
+}
+
+// The line at an offset keeps 2 to 6: it tells where it ends, and then all is tested.
+fn sound_at(s: &[u8], at: usize) -> bool
+    ensures { λ r. ⌜ (r ≡ true → lineAt (now (s .entry)) at ≡ Read (toldLabel (now (s .entry)) at) (toldLength (now (s .entry)) at + (lineLead + lineEnd))) ⌝ }
+{
+    let length = told_length(s, at);
+    if length == 0 {
+        return false;
+    }
+    let end = at + (LINE_LEAD + length);
+    if s.len() < end + LINE_END {
+        return false;
+    }
+    if digits_at(s, at, LINE_LEAD) {
+        if clean_content(s, at + LINE_LEAD, end) {
+            if s[end] != CR {
+                return false;
+            }
+            return s[end + 1] == LF;
+        }
+    }
+    false
+}
+
+// The same line as `line_at` reads, for a loop over many lines. A line without a fault is the usual one, so that is asked first; only another one is read
+// rule by rule. One loop alone calls it, so that it becomes a part of that loop.
+pub fn usual_line(s: &[u8], at: usize) -> Line
+    ensures { λ r. ⌜ r ≡ lineAt (now (s .entry)) at ⌝ }
+{
+    if sound_at(s, at) {
+        return Line::Read {
+            label: told_label(s, at),
+            size: told_length(s, at) + LINE_FRAME,
+        };
+    }
+    line_at(s, at)
+}
+
+// ---- the lines of a set
 
 // The set ends before an offset: at the end of the input, or where "seven or more bytes remain and bytes four to seven read `8000`", whatever the three
 // bytes before them are (B1).

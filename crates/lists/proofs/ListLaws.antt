@@ -31,14 +31,16 @@ use Rattle.meaning.proofs.EntryLaws.{length-entries}
 use Rattle.meaning.proofs.RuleLaws.{ruled, begins-of}
 use Rattle.meaning.proofs.SetLaws.{Standing, accepted, sum-back}
 use Rattle.meaning.proofs.Demands.{judge-read}
-use Rattle.lines.specs.declared.Line.the-variants.{Read, Refused as Unread}
+use Rattle.lines.specs.declared.Line.the-variants.{Read}
 use Rattle.lines.specs.Line.{lineAt}
+use Rattle.lines.specs.Told.{toldLength, toldLabel}
 use Rattle.lines.proofs.Bridge.{read-line, read-back}
+use Rattle.lines.proofs.ToldLaws.{read-told}
 use Rattle.rules.specs.Walks.{contentOf}
 use Rattle.rules.proofs.PassLaws.{reads-content, reads-on}
 use Rattle.buffers.specs.Places.{over}
 use Rattle.buffers.proofs.LendLaws.{mid-tail, put-tail, length-over}
-use Rattle.lists.specs.Listing.{lineEntry, entriesFrom}
+use Rattle.lists.specs.Listing.{AllRead, lineEntry, entriesFrom}
 use Rattle.lists.proofs.PartLaws.{one-more, none-left}
 use Rattle.lists.proofs.OverLaws.{over-none, over-then, over-lent, front-then-zeros}
 
@@ -99,16 +101,29 @@ module _ (k l : ℕ) (c : List ℕ) where
         (q ∙ (sym (entry-then (field l c) _) ∙ ap₂ (λ (u : List ℕ) (m : ℕ). u ++ drop m (midOf to (length b - to) b)) (sym (other-entry e)) (sym (other-length e)))),
   )
 
--- ---- the walk: no line is left, no line is read, a line is read
+-- ---- the walk over lines that are all read: no line is left, or the line tells its label and the length of its content
 
 module _ (s : List ℕ) (at k n : ℕ) where
+  first-read : k < n → AllRead s at (n - k) → (l : ℕ) × (m : ℕ) × (lineAt s at ≡ Read l m) × AllRead s (at + m) (n - (k + 1))
+  unfolding AllRead
+  first-read h a = rw (one-more h) at a
+
+  pub all-told : k < n → AllRead s at (n - k) → (w l : ℕ) → w ≡ toldLength s at → l ≡ toldLabel s at
+      → (lineAt s at ≡ Read l (w + 9)) × AllRead s (at + (w + 9)) (n - (k + 1))
+  all-told h a w l p q =
+      let r = first-read h a in
+      let t = read-told s at (r .2) in
+      let m : r .1 ≡ w + 9 = omega (arith, p, t .0, read-back s at (r .2) .least) in
+      let x : r .0 ≡ l = sym (q ∙ t .1) in
+      (r .2 ∙ ap₂ Read x m, subst (λ (i : ℕ). AllRead s (at + i) (n - (k + 1))) m (r .3))
+
+  -- such a line lies within the set
+  pub all-within : k < n → AllRead s at (n - k) → (w : ℕ) → w ≡ toldLength s at → at + (w + 9) ≤ length s
+  all-within h a w p = read-back s at (all-told h a w (toldLabel s at) p refl .0) .within
+
   pub entries-end : n ≤ k → entriesFrom s at k (n - k) ≡ []
   unfolding entriesFrom
   entries-end h = rw (none-left h)
-
-  pub entries-unread : k < n → {r : Refusal} → lineAt s at ≡ Unread r → entriesFrom s at k (n - k) ≡ []
-  unfolding entriesFrom
-  entries-unread h e = rw (one-more h, e)
 
   pub entries-on : k < n → {l m : ℕ} → lineAt s at ≡ Read l m → entriesFrom s at k (n - k) ≡ lineEntry k l (contentOf s at m) ++ entriesFrom s (at + m) (k + 1) (n - (k + 1))
   unfolding entriesFrom
@@ -152,6 +167,13 @@ module _ (s : List ℕ) (at k n : ℕ) (h : k < n) {l m : ℕ} (e : lineAt s at 
 -- ---- the walk over the lines of a set
 
 module _ (s : List ℕ) where
+  -- the lines of a set are all read: by induction on fs
+  all-read : (fs : List Field) (t : List ℕ) (at : ℕ) → Every Sound fs → drop at s ≡ render fs t → AllRead s at (length fs)
+  unfolding AllRead
+  all-read [] t at h w = tt
+  all-read (f ∷ fs) t at h w =
+      (f .label, lineSize f, read-line s at f (render fs t) w (h .0), all-read fs t (at + lineSize f) (h .1) (reads-on s at f (render fs t) (h .0) w))
+
   -- the lines behind line 2: by induction on fs
   later-entries : (fs : List Field) (t : List ℕ) (at k : ℕ) → Every Sound fs → drop at s ≡ render fs t → 2 ≤ k → entriesFrom s at k (length fs) ≡ putAll entryForm fs []
   unfolding entriesFrom
@@ -186,8 +208,9 @@ at-least : (fs : List Field) → Every Sound fs → length fs * 10 ≤ size fs
 at-least [] h = omega arith
 at-least (f ∷ fs) h = omega (arith, h .0 .some-byte, at-least fs (h .1))
 
--- what is known of an accepted set: its list as the walk gives it, and how many bytes that has
+-- what is known of an accepted set: its lines are read, its list is as the walk gives it, and how many bytes that has
 pub record Entries (s : List ℕ) (x : Shape) : Type 0 where
+  pub all : AllRead s 0 (x .lines)
   pub some : 2 ≤ x .lines
   pub few : x .lines ≤ maxLines
   pub long : 14 + (x .lines - 1) * 10 ≤ x .length
@@ -209,6 +232,7 @@ module _ (s : List ℕ) (d : Parsed) (e : read s ≡ done d) where
       let n : length es ≡ listSize (f ∷ fs) = length-entries (f ∷ fs) in
       let five : size (f ∷ g ∷ fs) ≡ 14 + size (f ∷ fs) = ap size (sum-back (f ∷ g ∷ fs) (st .right)) ∙ omega (arith, length-digits 5 (lineSize f + (14 + size fs))) in
       record {
+        all = all-read s (f ∷ g ∷ fs) (d .rest) 0 (st .sound) w;
         some = omega arith;
         few = st .few;
         long = omega (arith, five, at-least (f ∷ fs) (st .sound .0, st .sound .1 .1));
@@ -222,7 +246,7 @@ entries-are s x e =
     let d = judge-read s x e in
     let a = accepted s (d .0) (d .1) in
     let r = two-lines s (d .0) (d .1) (d .0 .fields) refl (a .standing) (a .bytes) in
-    subst (λ (y : Shape). Entries s y) (sym (d .2)) (record { some = r .some; few = r .few; long = r .long; need = r .need; listed = r .listed })
+    subst (λ (y : Shape). Entries s y) (sym (d .2)) (record { all = r .all; some = r .some; few = r .few; long = r .long; need = r .need; listed = r .listed })
 
 -- ---- the answers
 

@@ -8,9 +8,9 @@ use native.Mathlib.Omega.{arith}
 pub part-length : (from n : ℕ) → from + n - from ≡ n
 part-length from n = omega arith
 
--- the content of a line, told by the line's start and size
-pub slice-length : (at size : ℕ) → 10 ≤ size → at + size - 2 - (at + 7) ≡ size - 9
-slice-length at size h = omega arith
+-- the content of a line, told by the line's start and the content's length
+pub content-length : (at n : ℕ) → at + 7 + n - (at + 7) ≡ n + 9 - 9
+content-length at n = omega arith
 
 -- one more is left, or none
 pub one-more : {k n : ℕ} → k < n → n - k ≡ suc (n - (k + 1))

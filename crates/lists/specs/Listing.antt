@@ -1,5 +1,6 @@
 -- The walk of `put_entries` over a set's bytes, line by line: the entries of the lines, without that of line 2.
 -- Assumes nothing: these are definitions. `entries-are` in proofs/ListLaws ties the walk of an accepted set to its list.
+use mathlib.Core.Path.{_≡_}
 use mathlib.Core.Bool.{cond}
 use mathlib.Core.List.{List, [], _++_}
 use Prim.Native.Nat.{ℕ, zero, suc, _+_}
@@ -10,6 +11,11 @@ use Rattle.lines.specs.declared.Line.{Line}
 use Rattle.lines.specs.declared.Line.the-variants.{Read, Refused}
 use Rattle.lines.specs.Line.{lineAt}
 use Rattle.rules.specs.Walks.{contentOf}
+
+-- the n lines from an offset on are all read
+unfoldable pub AllRead : List ℕ → ℕ → ℕ → Type 0
+AllRead s at zero = Unit
+AllRead s at (suc n) = (l : ℕ) × (m : ℕ) × (lineAt s at ≡ Read l m) × AllRead s (at + m) n
 
 -- the entry of the line that has k lines before it; "8100 has no entry", and it stands in line 2
 unfoldable pub lineEntry : ℕ → ℕ → List ℕ → List ℕ

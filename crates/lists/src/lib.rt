@@ -9,8 +9,7 @@ ghost use Rattle.meaning.specs.Entries.{twoBytes, entryLead, entryThen};
 ghost use Rattle.meaning.specs.Reading as Reading;
 ghost use Rattle.meaning.specs.Answers.{listCall};
 ghost use Rattle.buffers.specs.Places.{over};
-ghost use Rattle.lists.specs.Listing.{lineEntry, entriesFrom};
-use lines::Line;
+ghost use Rattle.lists.specs.Listing.{AllRead, lineEntry, entriesFrom};
 use meaning::Judged;
 use meaning::Made;
 use meaning::Refusal;
@@ -53,8 +52,9 @@ fn put_listed(k: usize, label: usize, content: &[u8], out: &mut [u8], to: usize)
     to + (content.len() + entries::ENTRY_LEAD)
 }
 
-// The entries of the first `lines` lines, entry after entry, nothing between.
+// The entries of the first `lines` lines, entry after entry, nothing between. These lines are those of an accepted set.
 fn put_entries(set: &[u8], lines: usize, out: &mut [u8])
+    requires { ⌜ AllRead (now set) 0 lines ⌝ }
     requires { ⌜ length (entriesFrom (now set) 0 0 lines) ≤ length (now out) ⌝ }
     ensures { λ _. ⌜ now (out .exit) ≡ over 0 (entriesFrom (now (set .entry)) 0 0 lines) (now (out .entry)) ⌝ }
 {
@@ -62,18 +62,12 @@ fn put_entries(set: &[u8], lines: usize, out: &mut [u8])
     let mut to: usize = 0;
     let mut k: usize = 0;
     while k < lines {
-        match lines::line_at(set, at) {
-            Line::Refused(_) => {
-                return;
-            }
-            Line::Read { label, size } => {
-                let from = at + lines::LINE_LEAD;
-                let end = at + size - lines::LINE_END;
-                to = put_listed(k, label, &set[from..end], out, to);
-                at += size;
-                k += 1;
-            }
-        }
+        let length = lines::told_length(set, at);
+        let label = lines::told_label(set, at);
+        let from = at + lines::LINE_LEAD;
+        to = put_listed(k, label, &set[from..from + length], out, to);
+        at += length + lines::LINE_FRAME;
+        k += 1;
     }
 }
 

@@ -7,7 +7,7 @@ use Prim.Native.Nat.{ℕ, zero, suc, pred, _+_, _-_, _≤_, _<_}
 use native.Mathlib.Omega.{arith}
 use native.Mathlib.Numerals.{add-one}
 use native.Mathlib.Nat.{add-zero, zero-add}
-use borrow.Author.Tests.{le-leb, lt-leb, leb-true, leb-false}
+use borrow.Author.Tests.{le-leb, lt-leb, ne-eqb, leb-true, leb-false}
 use lib.Dec.{leb, eqb}
 use lib.ListN.{length, take, drop, getD, drop-of-length-le}
 use lib.Seq.{drop-drop, take-all}
@@ -15,45 +15,45 @@ use Rattle.meaning.specs.declared.Shape.{Shape}
 use Rattle.meaning.specs.Field.{Field, noField, labelAtLine, contentAtLine}
 use Rattle.meaning.specs.Refusals.{Spot, Fault, atLine, atByte, ask, refused, done, refusal, verdict, badByte, badContent, noSuchLine, fixedLine}
 use Rattle.meaning.specs.Pieces.{Parsed}
-use Rattle.meaning.specs.Lines.{lengthDigits, leastByte, lineLead, lineEnd, lineSize, lineThen, lowBytes, minLineBytes, offset, render, size}
+use Rattle.meaning.specs.Lines.{leastByte, lineLead, lineEnd, lineSize, lineThen, lowBytes, minLineBytes, offset, render, size}
 use Rattle.meaning.specs.FieldTable.{fitsLabel}
 use Rattle.meaning.specs.Rules.{fits}
 use Rattle.meaning.specs.Reading.{shape, read}
 use Rattle.meaning.specs.Corrections.{fixed, changeFaults}
 use Rattle.meaning.proofs.Bools.{and-left, and-right, Every, every-at}
-use Rattle.meaning.proofs.DigitLaws.{digits-all}
-use Rattle.meaning.proofs.LineLaws.{Sound, size-line, length-line, length-render}
+use Rattle.meaning.proofs.LineLaws.{Sound, length-render}
 use Rattle.meaning.proofs.PlaceLaws.{drop-lineThen, content-at}
 use Rattle.meaning.proofs.SetLaws.{accepted}
 use Rattle.meaning.proofs.CorrectionLaws.{Change, change}
-use Rattle.lines.specs.declared.Number.the-variants.{Is}
-use Rattle.lines.specs.Number.{numberAt}
 use Rattle.lines.specs.Line.{firstLow}
+use Rattle.lines.specs.Told.{toldLength, toldLabel}
 use Rattle.lines.proofs.Laws.{byte-then}
-use Rattle.lines.proofs.Bridge.{number-is, read-line}
+use Rattle.lines.proofs.Bridge.{read-line}
+use Rattle.lines.proofs.ToldLaws.{read-told}
 use Rattle.offers.specs.declared.OneLine.{OneLine}
 use Rattle.offers.specs.declared.Offer.{Offer}
 use Rattle.offers.specs.Offered.{oneLine, lineFrom, lineAfter, told, behindAll, offeredTo, offered, offerLine, offerSpot, offerFaults}
 
 -- ---- where a line stands
 
--- a line that is written tells its length
-length-there : (s : List ℕ) (at : ℕ) (f : Field) (t : List ℕ) → drop at s ≡ lineThen f t → Sound f → numberAt s at lengthDigits ≡ Is (lineSize f)
-length-there s at f t w h =
-    number-is s at lengthDigits (omega arith) (omega arith)
-    ∙ rw (w, le-leb lengthDigits (length (lineThen f t)) (omega (arith, length-line f t)), digits-all lengthDigits (lineSize f), size-line f t h)
+-- a line that is written tells its label and the length of its content
+written-told : (s : List ℕ) (at : ℕ) (f : Field) (t : List ℕ) → drop at s ≡ lineThen f t → Sound f → (toldLength s at ≡ length (f .content)) × (toldLabel s at ≡ f .label)
+written-told s at f t w h =
+    let r = read-told s at (read-line s at f t w h) in
+    (r .0 ∙ omega arith, r .1)
 
 -- the line that k of the lines fs stand before, where these are written from offset `at` on
 line-from-is : (s : List ℕ) (fs : List Field) (t : List ℕ) (at k : ℕ) → Every Sound fs → drop at s ≡ render fs t → k < length fs
     → lineFrom s at k ≡ oneLine (labelAtLine fs k) (at + offset fs k) (lineSize (getD fs k noField))
 unfolding lineFrom
 line-from-is s [] t at k h w l = absurd (omega arith)
-line-from-is s (f ∷ fs) t at zero h w l = rw (read-line s at f (render fs t) w (h .0), add-zero at)
+line-from-is s (f ∷ fs) t at zero h w l = let r = written-told s at f (render fs t) w (h .0) in rw (r .0, r .1, add-zero at)
 line-from-is s (f ∷ fs) t at (suc k) h w l =
+    let r = written-told s at f (render fs t) w (h .0) in
     let on : drop (at + lineSize f) s ≡ render fs t =
     sym (drop-drop (lineSize f) at s) ∙ (ap (drop (lineSize f)) w ∙ drop-lineThen f (render fs t)) in
     let q : (at + lineSize f) + offset fs k ≡ at + (lineSize f + offset fs k) = omega arith in
-    rw (length-there s at f (render fs t) w (h .0)) (line-from-is s fs t (at + lineSize f) k (h .1) on (omega arith) ∙ rw q)
+    rw (r .0, ne-eqb (length (f .content)) 0 (λ z. omega (arith, h .0 .some-byte))) (line-from-is s fs t (at + lineSize f) k (h .1) on (omega arith) ∙ rw q)
 
 -- a line lies within the lines
 line-within : (fs : List Field) (k : ℕ) → k < length fs → offset fs k + lineSize (getD fs k noField) ≤ size fs

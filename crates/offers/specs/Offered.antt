@@ -7,15 +7,11 @@ use lib.ListN.{length}
 use lib.Dec.{leb, eqb}
 use Rattle.meaning.specs.declared.Shape.{Shape}
 use Rattle.meaning.specs.Refusals.{Spot, start, byte, Fault, badByte, badContent, noSuchLine, fixedLine}
-use Rattle.meaning.specs.Lines.{lengthDigits}
+use Rattle.meaning.specs.Lines.{lineLead, lineEnd}
 use Rattle.meaning.specs.FieldTable.{fitsLabel}
 use Rattle.meaning.specs.Corrections.{fixed}
-use Rattle.lines.specs.declared.Line.{Line}
-use Rattle.lines.specs.declared.Line.the-variants.{Read, Refused}
-use Rattle.lines.specs.declared.Number.{Number}
-use Rattle.lines.specs.declared.Number.the-variants.{Is, None}
-use Rattle.lines.specs.Number.{numberAt}
-use Rattle.lines.specs.Line.{firstLow, lineAt}
+use Rattle.lines.specs.Line.{firstLow}
+use Rattle.lines.specs.Told.{toldLength, toldLabel}
 use Rattle.offers.specs.declared.OneLine.{OneLine}
 use Rattle.offers.specs.declared.Offer.{Offer}
 
@@ -24,24 +20,14 @@ use Rattle.offers.specs.declared.Offer.{Offer}
 abbrev pub oneLine : ℕ → ℕ → ℕ → OneLine
 oneLine l at n = record { label = l; at = at; size = n }
 
--- what is told where no line is read
+-- where no line is told
 abbrev pub noLine : OneLine
 noLine = oneLine 0 0 0
 
--- by what was read at an offset
-abbrev pub lineBy : ℕ → Line → OneLine
-lineBy at (Read l n) = oneLine l at n
-lineBy at (Refused r) = noLine
-
--- what stands behind a line whose length is told
-abbrev pub lengthThen : Number → (ℕ → OneLine) → OneLine
-lengthThen (Is n) f = f n
-lengthThen None f = noLine
-
--- the line that k lines from offset `at` on stand before
+-- the line that k lines from offset `at` on stand before, by what their bytes tell
 unfoldable pub lineFrom : List ℕ → ℕ → ℕ → OneLine
-lineFrom s at zero = lineBy at (lineAt s at)
-lineFrom s at (suc k) = lengthThen (numberAt s at lengthDigits) (λ n. lineFrom s (at + n) k)
+lineFrom s at zero = oneLine (toldLabel s at) at (toldLength s at + (lineLead + lineEnd))
+lineFrom s at (suc k) = let n = toldLength s at in cond (eqb n 0) noLine (lineFrom s (at + (n + (lineLead + lineEnd))) k)
 
 unfoldable pub lineAfter : List ℕ → ℕ → OneLine
 lineAfter s k = lineFrom s 0 k

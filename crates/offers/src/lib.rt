@@ -4,8 +4,6 @@ ghost use mathlib.Core.Path.{_≡_};
 ghost use Rattle.meaning.specs.Refusals.{noSuchLine};
 ghost use Rattle.meaning.specs.Corrections.{fixed};
 ghost use Rattle.offers.specs.Offered.{noLine, lineAfter, behindAll, told, offeredTo, offered};
-use lines::Line;
-use lines::Number;
 use meaning::Refusal;
 use meaning::Shape;
 
@@ -37,27 +35,23 @@ fn no_line() -> OneLine
     }
 }
 
-// The line that so many lines stand before. Of these only the lengths are read; where one of them tells none, there is no line.
+// The line that so many lines stand before, by what the bytes of the lines tell. Where one of those before it tells no length, there is no line.
 pub fn line_after(set: &[u8], before: usize) -> OneLine
     ensures { λ r. ⌜ r ≡ lineAfter (now (set .entry)) before ⌝ }
 {
     let mut at = 0;
     let mut left = before;
     while 0 < left {
-        match lines::number_at(set, at, lines::LENGTH_DIGITS) {
-            Number::None => {
-                return no_line();
-            }
-            Number::Is(size) => {
-                at += size;
-                left -= 1;
-            }
+        let length = lines::told_length(set, at);
+        if length == 0 {
+            return no_line();
         }
+        at += length + lines::LINE_FRAME;
+        left -= 1;
     }
-    match lines::line_at(set, at) {
-        Line::Refused(_) => no_line(),
-        Line::Read { label, size } => OneLine { label, at, size },
-    }
+    let label = lines::told_label(set, at);
+    let size = lines::told_length(set, at) + lines::LINE_FRAME;
+    OneLine { label, at, size }
 }
 
 // 20, FixedLine: "line is 8000, 8100 or 9218".

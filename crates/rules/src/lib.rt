@@ -76,7 +76,7 @@ fn next_line(s: &[u8], at: usize, before: usize) -> Next
             size: 0,
         };
     }
-    match lines::line_at(s, at) {
+    match lines::usual_line(s, at) {
         Line::Read { label, size } => Next { label, size },
         Line::Refused(_) => Next {
             label: 8000,

@@ -4,13 +4,12 @@ use mathlib.Core.Path.{_≡_, refl, sym, ap, _∙_}
 use mathlib.Core.Bool.{true, false, cond}
 use mathlib.Core.List.{List, [], _∷_}
 use mathlib.Core.Option.{Option}
-use Prim.Native.Nat.{ℕ, _+_, _-_, _≤_, _<_}
+use Prim.Native.Nat.{ℕ, _+_, _≤_, _<_}
 use native.Mathlib.Omega.{arith}
 use lib.ListN.{length, drop}
 use borrow.Author.Tests.{le-leb, lt-leb, ne-eqb}
 use Rattle.meaning.specs.declared.Entry.{Entry}
 use Rattle.meaning.specs.declared.Row.{Row}
-use Rattle.meaning.specs.declared.Refusal.{Refusal}
 use Rattle.meaning.specs.declared.Known.the-variants.{Of}
 use Rattle.meaning.specs.declared.SetType.{SetType}
 use Rattle.meaning.specs.Limits.{maxLines}
@@ -29,9 +28,9 @@ use Rattle.meaning.proofs.LineLaws.{Sound}
 use Rattle.meaning.proofs.SetLaws.{accepted}
 use Rattle.tables.specs.LookUp.{Found, At, Nothing, findFrom, justRow}
 use Rattle.tables.proofs.Laws.{find-is}
-use Rattle.lines.specs.declared.Line.the-variants.{Read, Refused}
-use Rattle.lines.specs.Line.{lineAt}
+use Rattle.lines.specs.Told.{toldLength, toldLabel}
 use Rattle.lines.proofs.Bridge.{read-line}
+use Rattle.lines.proofs.ToldLaws.{read-told}
 use Rattle.rules.proofs.PassLaws.{reads-on}
 use Rattle.sets.specs.declared.Walk.{Walk}
 use Rattle.sets.specs.declared.Next.{Next}
@@ -83,19 +82,20 @@ module _ (kind : SetType) (w : Walk) (l : ℕ) where
 -- ---- one line
 
 module _ (s : List ℕ) (kind : SetType) (w : Walk) where
-  -- no line is read at the walk
-  pub next-unread : (r : Refusal) → lineAt s (w .at) ≡ Refused r → record { entry = noEntry; walk = w } ≡ nextEntry s kind w
-  unfolding nextEntry
-  next-unread r e = rw e
+  module _ (n : ℕ) (e : n ≡ toldLength s (w .at)) where
+    -- no length is told at the walk
+    pub next-none : n ≡ 0 → record { entry = noEntry; walk = w } ≡ nextEntry s kind w
+    unfolding nextEntry
+    next-none z = rw (← e, z)
 
-  -- a line is read there
-  pub next-read : (l n : ℕ) → lineAt s (w .at) ≡ Read l n → (m : Mark) → m ≡ markAt kind w l → (lines : ℕ) → lines ≡ counted (w .lines)
-      → record {
-        entry = record { label = l; place = w .at + lineLead; length = n - (lineLead + lineEnd); header = m .under };
-        walk = record { at = w .at + n; lines = lines; header = m .header; line = m .line };
-      } ≡ nextEntry s kind w
-  unfolding nextEntry
-  next-read l n e m p lines q = rw (e, p, q)
+    -- a line tells its length and its label there
+    pub next-told : (n ≡ 0 → ⊥) → (l : ℕ) → l ≡ toldLabel s (w .at) → (m : Mark) → m ≡ markAt kind w l → (lines : ℕ) → lines ≡ counted (w .lines)
+        → record {
+          entry = record { label = l; place = w .at + lineLead; length = n; header = m .under };
+          walk = record { at = w .at + (n + (lineLead + lineEnd)); lines = lines; header = m .header; line = m .line };
+        } ≡ nextEntry s kind w
+    unfolding nextEntry
+    next-told z l f m p lines q = rw (← e, ← f, ne-eqb n 0 z, p, q)
 
 -- ---- the walk over the lines of a set
 
@@ -133,8 +133,15 @@ module _ (s : List ℕ) (kind : SetType) where
       }
   unfolding nextEntry markAt
   step-is f u at k st h w c b =
-      let n : lineSize f - 9 ≡ length (f .content) = omega arith in
-      rw (read-line s at f u w h, mark-is (roleIn profileOf st f) at k (f .label) st (omega arith), counted-on k c, n)
+      let t = read-told s at (read-line s at f u w h) in
+      let n : toldLength s at ≡ length (f .content) = omega (arith, t .0) in
+      rw (
+        n,
+        t .1,
+        ne-eqb (length (f .content)) 0 (λ z. omega (arith, h .some-byte)),
+        mark-is (roleIn profileOf st f) at k (f .label) st (omega arith),
+        counted-on k c,
+      )
 
   -- the lines fs from offset `at` on, with k lines before them: by induction on fs, one `step-is` for each line
   walk-is : (fs : List Field) (t : List ℕ) (at k : ℕ) (st : State) → Every Sound fs → drop at s ≡ render fs t → k + length fs ≤ maxLines → st .line ≤ k

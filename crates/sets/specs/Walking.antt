@@ -2,17 +2,15 @@
 -- Assumes nothing: these are definitions. `entries-are` in proofs/EntryWalk ties the walk of an accepted set to its index.
 use mathlib.Core.Bool.{cond}
 use mathlib.Core.List.{List, [], _∷_}
-use Prim.Native.Nat.{ℕ, zero, suc, _+_, _-_}
-use lib.Dec.{leb}
+use Prim.Native.Nat.{ℕ, zero, suc, _+_}
+use lib.Dec.{leb, eqb}
 use Rattle.meaning.specs.declared.Entry.{Entry}
 use Rattle.meaning.specs.declared.SetType.{SetType}
 use Rattle.meaning.specs.Limits.{maxLines}
 use Rattle.meaning.specs.Lines.{lineLead, lineEnd}
 use Rattle.meaning.specs.Tables.{table, isPairLabel, find}
 use Rattle.meaning.specs.Groups.{Role, unknown, strayed, atSetLevel, member, role, noHeader}
-use Rattle.lines.specs.declared.Line.{Line}
-use Rattle.lines.specs.declared.Line.the-variants.{Read, Refused}
-use Rattle.lines.specs.Line.{lineAt}
+use Rattle.lines.specs.Told.{toldLength, toldLabel}
 use Rattle.sets.specs.declared.Walk.{Walk}
 use Rattle.sets.specs.declared.Next.{Next}
 use Rattle.sets.specs.declared.Mark.{Mark}
@@ -44,25 +42,23 @@ markAt kind w l = markOf (role (find (table kind) l) (w .header) l) w l
 
 -- ---- from line to line
 
--- a line of n bytes with label l, and the walk behind it
+-- a line with label l and n bytes of content, and the walk behind it
 abbrev pub entryThen : Mark → Walk → ℕ → ℕ → Next
 entryThen m w l n = record {
-  entry = record { label = l; place = w .at + lineLead; length = n - (lineLead + lineEnd); header = m .under };
-  walk = record { at = w .at + n; lines = counted (w .lines); header = m .header; line = m .line };
+  entry = record { label = l; place = w .at + lineLead; length = n; header = m .under };
+  walk = record { at = w .at + (n + (lineLead + lineEnd)); lines = counted (w .lines); header = m .header; line = m .line };
 }
 
--- the entry where no line is read
+-- the entry where there is no line
 abbrev pub noEntry : Entry
 noEntry = record { label = 0; place = 0; length = 0; header = 0 }
 
--- by what was read at the walk
-abbrev pub entryBy : SetType → Walk → Line → Next
-entryBy kind w (Read l n) = entryThen (markAt kind w l) w l n
-entryBy kind w (Refused r) = record { entry = noEntry; walk = w }
-
--- the entry of the line at the walk and the walk behind that line; where no line is read, an entry of zeros and the same walk
+-- the entry of the line at the walk, by what its bytes tell, and the walk behind that line; where they tell no length, an entry of zeros and the same walk
 unfoldable pub nextEntry : List ℕ → SetType → Walk → Next
-nextEntry s kind w = entryBy kind w (lineAt s (w .at))
+nextEntry s kind w =
+    let n = toldLength s (w .at) in
+    let l = toldLabel s (w .at) in
+    cond (eqb n 0) (record { entry = noEntry; walk = w }) (entryThen (markAt kind w l) w l n)
 
 -- the n entries from a walk on
 unfoldable pub entriesOf : List ℕ → SetType → Walk → ℕ → List Entry

@@ -2,7 +2,6 @@
 // Assumes nothing: no function has a `requires`. Contracts cite specs/Walking, and `entries-are` in proofs/EntryWalk says what the walk of an accepted set gives.
 ghost use mathlib.Core.Path.{_≡_};
 ghost use Rattle.sets.specs.Walking.{begin, counted, closedMark, markAt, nextEntry};
-use lines::Line;
 use meaning::Entry;
 use meaning::SetType;
 
@@ -88,13 +87,14 @@ fn mark_at(kind: SetType, walk: Walk, label: usize) -> Mark
     closed()
 }
 
-// The entry of the line at the walk and the walk behind it; where no line is read, an entry of zeros and the same walk.
+// The entry of the line at the walk, by what its bytes tell, and the walk behind it; where they tell no length, an entry of zeros and the same walk.
 pub fn next_entry(set: &[u8], kind: SetType, walk: Walk) -> Next
     ensures { λ r. ⌜ r ≡ nextEntry (now (set .entry)) kind walk ⌝ }
 {
     let at = walk.at;
-    match lines::line_at(set, at) {
-        Line::Refused(_) => Next {
+    let length = lines::told_length(set, at);
+    if length == 0 {
+        return Next {
             entry: Entry {
                 label: 0,
                 place: 0,
@@ -102,24 +102,23 @@ pub fn next_entry(set: &[u8], kind: SetType, walk: Walk) -> Next
                 header: 0,
             },
             walk,
+        };
+    }
+    let label = lines::told_label(set, at);
+    let mark = mark_at(kind, walk, label);
+    let lines = one_more(walk.lines);
+    Next {
+        entry: Entry {
+            label,
+            place: at + lines::LINE_LEAD,
+            length,
+            header: mark.under,
         },
-        Line::Read { label, size } => {
-            let mark = mark_at(kind, walk, label);
-            let lines = one_more(walk.lines);
-            Next {
-                entry: Entry {
-                    label,
-                    place: at + lines::LINE_LEAD,
-                    length: size - lines::LINE_FRAME,
-                    header: mark.under,
-                },
-                walk: Walk {
-                    at: at + size,
-                    lines,
-                    header: mark.header,
-                    line: mark.line,
-                },
-            }
-        }
+        walk: Walk {
+            at: at + (length + lines::LINE_FRAME),
+            lines,
+            header: mark.header,
+            line: mark.line,
+        },
     }
 }

@@ -1,24 +1,77 @@
--- `first_low` is the walk `firstLow`, by either way.
+-- `first_low` is the walk `firstLow`: the search among the bytes behind clean blocks finds what the search among all finds.
 -- Assumes nothing.
-use mathlib.Core.Path.{sym}
+use mathlib.Core.Path.{_≡_, sym, ap, _∙_}
+use Prim.Native.Nat.{_-_, _≤_}
+use native.Mathlib.Omega.{arith}
 use borrow.Author.Needs.{needs}
+use Rattle.lines.specs.Line.{firstLow}
+use Rattle.lines.proofs.Laws.{low-on}
 use Rattle.lines.proofs.first_low.Statement.{statement}
 use Rattle.lines.proofs.first_low.Tie as tie
 
-clean-requires : tie.Need-clean-requires
+abbrev Inv-loop : tie.InvT-loop
+Inv-loop s at k end i₀ i = (i ≤ end) × (firstLow s i (end - i) ≡ firstLow s at k)
+
+abbrev μ-loop : tie.MeasureT-loop
+μ-loop s at k end i₀ i = end - i
+
+add-end : tie.Need-add-end Inv-loop μ-loop
+add-end c = search needs
+
+loop-holds : tie.Need-loop-holds Inv-loop μ-loop
+loop-holds c = (omega arith, ap (firstLow _ _) (omega arith))
+
+sub-loop : tie.Need-sub-loop Inv-loop μ-loop
+sub-loop c = search needs
+
+clean-requires : tie.Need-clean-requires Inv-loop μ-loop
 clean-requires c κs = search needs
 
-add-result : tie.Need-add-result
-add-result c = search needs
+add-i : tie.Need-add-i Inv-loop μ-loop
+add-i c = search needs
 
-returns : tie.Need-returns
-returns c = sym (c .before .clean .ensures (c .if1 .taken))
+loop-less : tie.Need-loop-less Inv-loop μ-loop
+loop-less c = search needs
 
-seek-low-requires : tie.Need-seek-low-requires
+loop-again : tie.Need-loop-again Inv-loop μ-loop
+loop-again c =
+    let l = c .before .before .before .loop in
+    (omega arith, sym (low-on _ _ (l .i) _ (omega arith) (c .before .clean .ensures (c .if1 .taken))) ∙ l .inv .1)
+
+sub-seek-low : tie.Need-sub-seek-low Inv-loop μ-loop
+sub-seek-low c = search needs
+
+seek-low-requires : tie.Need-seek-low-requires Inv-loop μ-loop
 seek-low-requires c κs = search needs
 
-returns-2 : tie.Need-returns-2
-returns-2 c = search needs
+returns : tie.Need-returns Inv-loop μ-loop
+returns c = c .seek-low .ensures ∙ c .before .before .before .before .loop .inv .1
+
+sub-seek-low-2 : tie.Need-sub-seek-low-2 Inv-loop μ-loop
+sub-seek-low-2 c = search needs
+
+seek-low-requires-2 : tie.Need-seek-low-requires-2 Inv-loop μ-loop
+seek-low-requires-2 c κs = search needs
+
+returns-2 : tie.Need-returns-2 Inv-loop μ-loop
+returns-2 c = c .seek-low2 .ensures ∙ c .before .before .loop .inv .1
 
 pub first-low-spec : {M : Type 1} → statement M
-first-low-spec = tie.close (tie.spec clean-requires add-result returns seek-low-requires returns-2)
+first-low-spec =
+    tie.close
+    (tie.spec
+    Inv-loop
+    μ-loop
+    add-end
+    loop-holds
+    sub-loop
+    clean-requires
+    add-i
+    loop-less
+    loop-again
+    sub-seek-low
+    seek-low-requires
+    returns
+    sub-seek-low-2
+    seek-low-requires-2
+    returns-2)

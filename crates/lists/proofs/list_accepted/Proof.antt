@@ -46,7 +46,7 @@ put-entries-requires : tie.Need-put-entries-requires
 put-entries-requires c κs =
     let b6 = c .before .before .before .before .before .before in
     let e = entries-are (b6 .args .set .now) (b6 .args .shape) (b6 .pre) in
-    omega (arith, e .need, c .before .if1 .left)
+    (e .all, omega (arith, e .need, c .before .if1 .left))
 
 sub-clear : tie.Need-sub-clear
 sub-clear c = search needs

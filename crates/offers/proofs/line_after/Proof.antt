@@ -1,11 +1,11 @@
 -- `line_after` is the walk `lineFrom`: the line behind those that are left is the line behind all.
 -- Assumes nothing.
-use mathlib.Core.Path.{_≡_, refl, sym, _∙_}
+use mathlib.Core.Path.{_≡_, refl, _∙_}
 use native.Mathlib.Omega.{arith}
 use borrow.Author.Needs.{needs}
-use lib.ListN.{set}
+use Rattle.lines.proofs.ToldLaws.{told-there}
 use Rattle.offers.specs.Offered.{lineFrom, lineAfter}
-use Rattle.offers.proofs.WalkLaws.{line-lost, line-next, line-unread, line-here, length-back}
+use Rattle.offers.proofs.WalkLaws.{line-lost, line-next, line-here}
 use Rattle.offers.proofs.line_after.Statement.{statement}
 use Rattle.offers.proofs.line_after.Tie as tie
 
@@ -19,29 +19,24 @@ loop-holds : tie.Need-loop-holds Inv-loop μ-loop
 unfolding lineAfter
 loop-holds c = refl
 
-number-at-requires : tie.Need-number-at-requires Inv-loop μ-loop
-number-at-requires c κs = search needs
-
-enum-told : tie.Need-enum-told Inv-loop μ-loop
-enum-told c = search needs
+told-length-requires : tie.Need-told-length-requires Inv-loop μ-loop
+told-length-requires c κs = search needs
 
 no-line-requires : tie.Need-no-line-requires Inv-loop μ-loop
 no-line-requires c κs = search needs
 
 returns : tie.Need-returns Inv-loop μ-loop
 returns c =
-    let b = c .before .before .before .before in
-    let e = sym (c .before .before .before .number-at .ensures) ∙ c .before .enum-told .given .1 in
-    c .no-line .ensures ∙ (line-lost _ _ (b .before .loop .left) (b .loop-test .taken) e ∙ b .before .loop .inv)
-
-enum-known-size : tie.Need-enum-known-size Inv-loop μ-loop
-enum-known-size c = search needs
+    let l = c .before .before .before .before .loop in
+    c .no-line .ensures ∙ (line-lost _ _ (l .left) _ (c .before .before .told-length .ensures .0) (c .before .before .before .loop-test .taken) (c .before .if1 .taken) ∙ l .inv)
 
 add-at : tie.Need-add-at Inv-loop μ-loop
-add-at c =
-    let e = sym (c .before .before .before .number-at .ensures) ∙ c .before .size .given .1 in
-    let r = length-back (c .before .before .before .before .before .before .before .args .set .now) (c .before .before .before .before .before .loop .at) _ e in
-    omega (arith, r .there, r .most, c .before .before .before .before .before .before .before .fits, c .before .before .before .before .before .before .before .good)
+add-at c = search needs
+
+add-at-2 : tie.Need-add-at-2 Inv-loop μ-loop
+add-at-2 c =
+    let b5 = c .before .before .before .before .before in
+    omega (arith, told-there (b5 .args .set .now) (c .before .before .before .loop .at) _ (c .before .told-length .ensures .0) (c .if1 .left), c .before .told-length .ensures .1, b5 .fits, b5 .good)
 
 sub-left : tie.Need-sub-left Inv-loop μ-loop
 sub-left c = search needs
@@ -51,31 +46,22 @@ loop-less c = search needs
 
 loop-again : tie.Need-loop-again Inv-loop μ-loop
 loop-again c =
-    let b = c .before .before .before .before in
-    let e = sym (c .before .before .before .number-at .ensures) ∙ c .before .size .given .1 in
-    line-next _ _ (b .before .loop .left) (b .loop-test .taken) _ e ∙ b .before .loop .inv
+    let l = c .before .before .before .loop in
+    line-next _ _ (l .left) _ (c .before .told-length .ensures .0) (c .before .before .loop-test .taken) (c .if1 .left) ∙ l .inv
 
-line-at-requires : tie.Need-line-at-requires Inv-loop μ-loop
-line-at-requires c κs = search needs
+told-label-requires : tie.Need-told-label-requires Inv-loop μ-loop
+told-label-requires c κs = search needs
 
-enum-told-2 : tie.Need-enum-told-2 Inv-loop μ-loop
-enum-told-2 c = search needs
+told-length-requires-2 : tie.Need-told-length-requires-2 Inv-loop μ-loop
+told-length-requires-2 c κs = search needs
 
-no-line-requires-2 : tie.Need-no-line-requires-2 Inv-loop μ-loop
-no-line-requires-2 c κs = search needs
-
-enum-known-label : tie.Need-enum-known-label Inv-loop μ-loop
-enum-known-label c = search needs
+add-size : tie.Need-add-size Inv-loop μ-loop
+add-size c = search needs
 
 returns-2 : tie.Need-returns-2 Inv-loop μ-loop
 returns-2 c =
-    let e = sym (c .before .before .before .line-at .ensures) ∙ c .before .enum-told2 .given .1 in
-    c .no-line2 .ensures ∙ (line-unread _ _ (c .before .before .before .before .before .loop .left) (omega arith) _ e ∙ c .before .before .before .before .before .loop .inv)
-
-returns-3 : tie.Need-returns-3 Inv-loop μ-loop
-returns-3 c =
-    let e = sym (c .before .before .before .line-at .ensures) ∙ c .before .label .given .1 in
-    line-here _ _ (c .before .before .before .before .before .loop .left) (omega arith) _ _ e ∙ c .before .before .before .before .before .loop .inv
+    let l = c .before .before .before .loop in
+    line-here _ _ (l .left) _ (c .told-length2 .ensures .0) (omega arith) _ (c .before .told-label .ensures) ∙ l .inv
 
 pub line-after-spec : {M : Type 1} → statement M
 line-after-spec =
@@ -84,18 +70,15 @@ line-after-spec =
     Inv-loop
     μ-loop
     loop-holds
-    number-at-requires
-    enum-told
+    told-length-requires
     no-line-requires
     returns
-    enum-known-size
     add-at
+    add-at-2
     sub-left
     loop-less
     loop-again
-    line-at-requires
-    enum-told-2
-    no-line-requires-2
-    enum-known-label
-    returns-2
-    returns-3)
+    told-label-requires
+    told-length-requires-2
+    add-size
+    returns-2)

@@ -1,21 +1,20 @@
--- `next_entry`: a line that is read lies within the set, so the sums fit; each return by the law of what `line_at` told.
+-- `next_entry`: where a length is told seven bytes stand, so the sums fit; each return by the law of what is told.
 -- Assumes nothing.
-use mathlib.Core.Path.{sym, _∙_}
 use native.Mathlib.Omega.{arith}
 use borrow.Author.Needs.{needs}
-use Rattle.sets.proofs.EntryWalk.{next-unread, next-read}
-use Rattle.lines.proofs.Bridge.{read-back}
+use Rattle.lines.proofs.ToldLaws.{told-there}
+use Rattle.sets.proofs.EntryWalk.{next-none, next-told}
 use Rattle.sets.proofs.next_entry.Statement.{statement}
 use Rattle.sets.proofs.next_entry.Tie as tie
 
-line-at-requires : tie.Need-line-at-requires
-line-at-requires c κs = search needs
+told-length-requires : tie.Need-told-length-requires
+told-length-requires c κs = search needs
 
-enum-told : tie.Need-enum-told
-enum-told c = search needs
+returns : tie.Need-returns
+returns c = next-none _ _ _ _ (c .before .told-length .ensures .0) (c .if1 .taken)
 
-enum-known-label : tie.Need-enum-known-label
-enum-known-label c = search needs
+told-label-requires : tie.Need-told-label-requires
+told-label-requires c κs = search needs
 
 mark-at-requires : tie.Need-mark-at-requires
 mark-at-requires c κs = search needs
@@ -23,32 +22,34 @@ mark-at-requires c κs = search needs
 one-more-requires : tie.Need-one-more-requires
 one-more-requires c κs = search needs
 
-add-t12 : tie.Need-add-t12
-add-t12 c = let r = read-back _ _ (sym (c .before .before .before .before .before .line-at .ensures) ∙ c .before .before .before .label .given .1) in omega (arith, r .least, r .within, c .before .before .before .before .before .before .before .good)
+add-t11 : tie.Need-add-t11
+add-t11 c =
+    let b4 = c .before .before .before .before in
+    omega (arith, told-there _ _ _ (b4 .told-length .ensures .0) (c .before .before .before .if1 .left), b4 .before .before .good)
 
-sub-t13 : tie.Need-sub-t13
-sub-t13 c = let r = read-back _ _ (sym (c .before .before .before .before .before .line-at .ensures) ∙ c .before .before .before .label .given .1) in omega (arith, r .least)
+add-t13 : tie.Need-add-t13
+add-t13 c = search needs
 
-add-t15 : tie.Need-add-t15
-add-t15 c = let r = read-back _ _ (sym (c .before .before .before .before .before .line-at .ensures) ∙ c .before .before .before .label .given .1) in omega (arith, r .least, r .within, c .before .before .before .before .before .before .before .good)
-
-returns : tie.Need-returns
-returns c = next-unread _ _ _ _ (sym (c .before .before .line-at .ensures) ∙ c .enum-told .given .1)
+add-t14 : tie.Need-add-t14
+add-t14 c =
+    let b4 = c .before .before .before .before in
+    omega (arith, told-there _ _ _ (b4 .told-length .ensures .0) (c .before .before .before .if1 .left), b4 .before .before .good)
 
 returns-2 : tie.Need-returns-2
-returns-2 c = next-read _ _ _ _ _ (sym (c .before .before .before .before .before .line-at .ensures) ∙ c .before .before .before .label .given .1) _ (c .before .mark-at .ensures) _ (c .one-more .ensures)
+returns-2 c =
+    let b4 = c .before .before .before .before in
+    next-told _ _ _ _ (b4 .told-length .ensures .0) (c .before .before .before .if1 .left) _ (c .before .before .told-label .ensures) _ (c .before .mark-at .ensures) _ (c .one-more .ensures)
 
 pub next-entry-spec : {M : Type 1} → statement M
 next-entry-spec =
     tie.close
     (tie.spec
-    line-at-requires
-    enum-told
-    enum-known-label
+    told-length-requires
+    returns
+    told-label-requires
     mark-at-requires
     one-more-requires
-    add-t12
-    sub-t13
-    add-t15
-    returns
+    add-t11
+    add-t13
+    add-t14
     returns-2)
