@@ -1,21 +1,21 @@
 -- The walk of specs/ step by step: one law for each way that the code takes.
 -- Assumes nothing.
-use mathlib.Core.Path.{_≡_, refl, ap}
+use mathlib.Core.Path.{_≡_, refl, sym, ap, _∙_}
 use mathlib.Core.Bool.{Bool, true, false, cond}
 use mathlib.Core.List.{List}
 use Prim.Native.Nat.{ℕ, zero, suc, pred, _+_, _-_, _≤_, _<_}
 use native.Mathlib.Omega.{arith}
 use native.Mathlib.Nat.{add-zero}
 use borrow.Author.Tests.{le-leb, lt-leb, eq-eqb, ne-eqb}
-use lib.Dec.{eqb}
+use lib.Dec.{leb, eqb}
 use lib.ListN.{length, take, drop, length-take}
 use Rattle.meaning.specs.declared.Part.{Part}
 use Rattle.meaning.specs.declared.Refusal.{Refusal}
 use Rattle.meaning.specs.declared.Shape.{Shape}
 use Rattle.meaning.specs.declared.Judged.the-variants.{Accepted}
 use Rattle.meaning.specs.declared.Viewed.{Viewed}
-use Rattle.meaning.specs.declared.Viewed.the-variants.{Sheet, Refused}
-use Rattle.meaning.specs.Refusals.{behind, refusal, badByte, badUse, noSuchLine, badList}
+use Rattle.meaning.specs.declared.Viewed.the-variants.{Sheet, Set, Refused}
+use Rattle.meaning.specs.Refusals.{behind, refusal, badByte, badUse, noSuchLine, badList, tooManyLines}
 use Rattle.meaning.specs.Lines.{minLineBytes}
 use Rattle.meaning.specs.Entries.{entryLead}
 use Rattle.meaning.specs.Reading.{judge}
@@ -31,7 +31,7 @@ use Rattle.offers.specs.Offered.{lineAfter, offered, offerSpot}
 use Rattle.offers.proofs.OfferLaws.{line-stands, offer-byte}
 use Rattle.views.specs.declared.Checked.{Checked}
 use Rattle.views.specs.declared.Checked.the-variants.{Good}
-use Rattle.views.specs.Showing.{byOffer, byHead, checkedAt, newer, shownFrom, shownUnder, shownAlone}
+use Rattle.views.specs.Showing.{byOffer, byHead, checkedAt, newer, setPart, checkedThen, shownFrom, shownBySheet, shownUnder, shownAlone}
 
 -- ---- one entry of the sheet
 
@@ -132,6 +132,45 @@ module _ (s : List ℕ) (x : Shape) (h : List ℕ) (n m at : ℕ) (v : Viewed) w
         go : (i : ℕ) → length h ≤ at + i → shownFrom s x h n (pred i) at′ v′ ≡ shownFrom s x h n i at v
         go zero w = absurd (omega arith)
         go (suc i) w = rw (lt-leb (length h) at l, e, p, q)
+
+-- the part of the set that is shown where the sheet has no entry for the line
+abbrev pub withSet : Part → Viewed → Viewed
+withSet p (Sheet q) = Sheet q
+withSet p (Set q) = Set p
+withSet p (Refused r) = Refused r
+
+newer-set : (p q : Part) (v : Viewed) (k n : ℕ) → withSet p (newer v q k n) ≡ newer (withSet p v) q k n
+unfolding newer
+newer-set p q v k n = go (eqb k n)
+  where
+    go : (b : Bool) → withSet p (cond b (Sheet q) v) ≡ cond b (Sheet q) (withSet p v)
+    go true = refl
+    go false = refl
+
+module _ (s : List ℕ) (x : Shape) (h : List ℕ) (n : ℕ) (p : Part) where
+  -- no entry looks at that part, so it may be put in before them or behind them
+  shown-set : (m at : ℕ) (v : Viewed) → withSet p (shownFrom s x h n m at v) ≡ shownFrom s x h n m at (withSet p v)
+  unfolding shownFrom
+  shown-set zero at v = go (leb (length h) at)
+    where
+      go : (b : Bool) → withSet p (cond b v (Refused (refusal tooManyLines at 0))) ≡ cond b (withSet p v) (Refused (refusal tooManyLines at 0))
+      go true = refl
+      go false = refl
+  shown-set (suc m) at v = go (λ at′ v′. shown-set m at′ v′) (leb (length h) at) (checkedAt s x h at)
+    where
+      go : ((at′ : ℕ) (v′ : Viewed) → withSet p (shownFrom s x h n m at′ v′) ≡ shownFrom s x h n m at′ (withSet p v′)) → (b : Bool) (y : Checked)
+          → withSet p (cond b v (checkedThen y (λ k l. shownFrom s x h n m (at + (entryLead + l)) (newer v (part (at + entryLead) l) k n))))
+          ≡ cond b (withSet p v) (checkedThen y (λ k l. shownFrom s x h n m (at + (entryLead + l)) (newer (withSet p v) (part (at + entryLead) l) k n)))
+      go ih true y = refl
+      go ih false (Good k l) =
+          ih (at + (entryLead + l)) (newer v (part (at + entryLead) l) k n)
+          ∙ ap (shownFrom s x h n m (at + (entryLead + l))) (newer-set p (part (at + entryLead) l) v k n)
+      go ih false (Checked.Refused r) = refl
+
+-- so what the sheet shows is looked at first
+pub under-by : (s : List ℕ) (x : Shape) (h : List ℕ) (n : ℕ) (v : Viewed) → shownBySheet s x h n ≡ v → withSet (setPart s n) v ≡ shownUnder s x h n
+unfolding shownBySheet shownUnder
+under-by s x h n v e = ap (withSet (setPart s n)) (sym e) ∙ shown-set s x h n (setPart s n) (length h) 0 (Set (part 0 0))
 
 -- ---- an accepted set
 

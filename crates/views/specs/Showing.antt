@@ -58,7 +58,11 @@ shownFrom s x h n (suc m) at v =
     cond (leb (length h) at) v
     (checkedThen (checkedAt s x h at) (λ k l. shownFrom s x h n m (at + (entryLead + l)) (newer v (part (at + entryLead) l) k n)))
 
--- a sheet never has more entries than bytes
+-- what the whole sheet shows, or nothing of the set; a sheet never has more entries than bytes
+unfoldable pub shownBySheet : List ℕ → Shape → List ℕ → ℕ → Viewed
+shownBySheet s x h n = shownFrom s x h n (length h) 0 (Set (part 0 0))
+
+-- the part of the set where the sheet has no entry for the line
 unfoldable pub shownUnder : List ℕ → Shape → List ℕ → ℕ → Viewed
 shownUnder s x h n = shownFrom s x h n (length h) 0 (Set (setPart s n))
 

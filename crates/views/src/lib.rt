@@ -5,7 +5,7 @@ ghost use Prim.Native.Nat.{_≤_};
 ghost use Rattle.meaning.specs.Refusals.{refusal};
 ghost use Rattle.meaning.specs.Reading.{judge};
 ghost use Rattle.meaning.specs.Views as Views;
-ghost use Rattle.views.specs.Showing.{setPart, newer, checkedAt, shownUnder, shownAlone};
+ghost use Rattle.views.specs.Showing.{setPart, newer, checkedAt, shownBySheet, shownUnder, shownAlone};
 use entries::Head;
 use meaning::Judged;
 use meaning::Part;
@@ -72,13 +72,14 @@ fn part_of_set(set: &[u8], shape: Shape, line: usize) -> Part
     }
 }
 
-// What a line of an accepted set shows under a sheet: "the part of the sheet if the line has an entry there, else the part of the set". Each entry is judged.
-fn shown_under(set: &[u8], shape: Shape, sheet: &[u8], line: usize) -> Viewed
-    requires { ⌜ judge (now set) ≡ Judged.Accepted shape ⌝ }
-    requires { ⌜ (1 ≤ line) × (line ≤ shape .lines) ⌝ }
-    ensures { λ r. ⌜ r ≡ shownUnder (now (set .entry)) shape (now (sheet .entry)) line ⌝ }
+// What the sheet shows for a line: the part of the last entry for it, or nothing of the set where it has none. Each entry is judged.
+fn shown_by_sheet(set: &[u8], shape: Shape, sheet: &[u8], line: usize) -> Viewed
+    ensures { λ r. ⌜ r ≡ shownBySheet (now (set .entry)) shape (now (sheet .entry)) line ⌝ }
 {
-    let mut shown = Viewed::Set(part_of_set(set, shape, line));
+    let mut shown = Viewed::Set(Part {
+        place: 0,
+        length: 0,
+    });
     let mut at = 0;
     while at < sheet.len() {
         match check_entry(set, shape, sheet, at) {
@@ -93,6 +94,19 @@ fn shown_under(set: &[u8], shape: Shape, sheet: &[u8], line: usize) -> Viewed
         }
     }
     shown
+}
+
+// What a line of an accepted set shows under a sheet: "the part of the sheet if the line has an entry there, else the part of the set".
+fn shown_under(set: &[u8], shape: Shape, sheet: &[u8], line: usize) -> Viewed
+    requires { ⌜ judge (now set) ≡ Judged.Accepted shape ⌝ }
+    requires { ⌜ (1 ≤ line) × (line ≤ shape .lines) ⌝ }
+    ensures { λ r. ⌜ r ≡ shownUnder (now (set .entry)) shape (now (sheet .entry)) line ⌝ }
+{
+    match shown_by_sheet(set, shape, sheet, line) {
+        Viewed::Refused(r) => Viewed::Refused(r),
+        Viewed::Sheet(part) => Viewed::Sheet(part),
+        Viewed::Set(_) => Viewed::Set(part_of_set(set, shape, line)),
+    }
 }
 
 // A refusal that concerns the set: "the label 0, unless said otherwise".

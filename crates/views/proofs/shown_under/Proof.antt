@@ -1,108 +1,45 @@
--- `shown_under` is the walk `shownFrom`: what the entries that are left show behind those before them is what all show.
+-- `shown_under`: what the sheet shows, and the part of the set where it shows none.
 -- Assumes nothing.
-use mathlib.Core.Path.{_≡_, sym, ap, _∙_}
-use Prim.Native.Nat.{ℕ, _+_, _-_, _≤_, pred}
-use native.Mathlib.Omega.{arith}
+use mathlib.Core.Path.{sym, ap, _∙_}
 use borrow.Author.Needs.{needs}
-use lib.ListN.{length}
-use Rattle.meaning.specs.declared.Part.{Part}
 use Rattle.meaning.specs.declared.Viewed.the-variants.{Set}
-use Rattle.views.specs.Showing.{shownFrom, shownUnder}
-use Rattle.views.proofs.WalkLaws.{check-within, shown-end, shown-bad, shown-next}
+use Rattle.views.proofs.WalkLaws.{under-by}
 use Rattle.views.proofs.shown_under.Statement.{statement}
 use Rattle.views.proofs.shown_under.Tie as tie
 
-abbrev Inv-loop : tie.InvT-loop
-Inv-loop set shape sheet line shown₀ at₀ shown at =
-    (at ≤ length sheet) × (k : ℕ) × (length sheet ≤ at + k) × (shownFrom set shape sheet line k at shown ≡ shownUnder set shape sheet line)
+shown-by-sheet-requires : tie.Need-shown-by-sheet-requires
+shown-by-sheet-requires c κs = search needs
 
-abbrev μ-loop : tie.MeasureT-loop
-μ-loop set shape sheet line shown₀ at₀ shown at = length sheet - at
-
-part-of-set-requires : tie.Need-part-of-set-requires Inv-loop μ-loop
-part-of-set-requires c κs = search needs
-
-loop-holds : tie.Need-loop-holds Inv-loop μ-loop
-unfolding shownUnder
-loop-holds c =
-    let a = c .before .before .before .args in
-    let h = a .sheet .now in
-    (omega arith, length h, omega arith, ap (λ (p : Part). shownFrom (a .set .now) (a .shape) h (a .line) (length h) 0 (Set p)) (c .part-of-set .ensures))
-
-check-entry-requires : tie.Need-check-entry-requires Inv-loop μ-loop
-check-entry-requires c κs = search needs
-
-enum-known-r : tie.Need-enum-known-r Inv-loop μ-loop
+enum-known-r : tie.Need-enum-known-r
 enum-known-r c = search needs
 
-returns : tie.Need-returns Inv-loop μ-loop
-returns c =
-    let l = c .before .before .before .before .before .loop in
-    let e = sym (c .before .before .before .check-entry .ensures) ∙ c .before .r .given .1 in
-    shown-bad _ _ _ _ (l .inv .1) (l .at) (l .shown) (c .before .before .before .before .loop-test .taken) (l .inv .2) _ e ∙ l .inv .3
+enum-known-part : tie.Need-enum-known-part
+enum-known-part c = search needs
 
-enum-known-kind : tie.Need-enum-known-kind Inv-loop μ-loop
-enum-known-kind c = search needs
+enum-told : tie.Need-enum-told
+enum-told c = search needs
 
-add-place : tie.Need-add-place Inv-loop μ-loop
-add-place c =
-    let b = c .before .before .before .before .before in
-    let a = b .before .before .before .before .args in
-    let e = sym (c .before .before .before .check-entry .ensures) ∙ c .before .kind .given .1 in
-    let w = check-within (a .set .now) (a .shape) (a .sheet .now) (b .loop .at) _ _ e in
-    omega (arith, w, b .before .before .before .before .fits, b .before .before .before .before .good)
+part-of-set-requires : tie.Need-part-of-set-requires
+part-of-set-requires c κs = search needs
 
-newer-part-requires : tie.Need-newer-part-requires Inv-loop μ-loop
-newer-part-requires c κs = search needs
+returns : tie.Need-returns
+returns c = under-by _ _ _ _ _ (sym (c .before .before .before .shown-by-sheet .ensures) ∙ c .before .r .given .1)
 
-add-at : tie.Need-add-at Inv-loop μ-loop
-add-at c =
-    let b = c .before .before .before .before in
-    let a = b .before .before .before .before .before .before .args in
-    let e = sym (b .check-entry .ensures) ∙ c .before .before .kind .given .1 in
-    let w = check-within (a .set .now) (a .shape) (a .sheet .now) (b .before .before .loop .at) _ _ e in
-    omega (arith, w, b .before .before .before .before .before .before .fits, b .before .before .before .before .before .before .good)
+returns-2 : tie.Need-returns-2
+returns-2 c = under-by _ _ _ _ _ (sym (c .before .before .before .shown-by-sheet .ensures) ∙ c .before .part .given .1)
 
-loop-less : tie.Need-loop-less Inv-loop μ-loop
-loop-less c =
-    let a = c .before .before .before .before .before .before .before .before .before .before .args in
-    let e = sym (c .before .before .before .before .check-entry .ensures) ∙ c .before .before .kind .given .1 in
-    let w = check-within (a .set .now) (a .shape) (a .sheet .now) (c .before .before .before .before .before .before .loop .at) _ _ e in
-    omega (arith, w, c .before .before .before .before .before .loop-test .taken)
-
-loop-again : tie.Need-loop-again Inv-loop μ-loop
-loop-again c =
-    let a = c .before .before .before .before .before .before .before .before .before .before .args in
-    let l = c .before .before .before .before .before .before .loop in
-    let t = c .before .before .before .before .before .loop-test .taken in
-    let e = sym (c .before .before .before .before .check-entry .ensures) ∙ c .before .before .kind .given .1 in
-    let w = check-within (a .set .now) (a .shape) (a .sheet .now) (c .before .before .before .before .before .before .loop .at) _ _ e in (
-      omega (arith, w),
-      pred (l .inv .1),
-      omega (arith, w, l .inv .2, t),
-      shown-next _ _ _ _ (l .inv .1) (l .at) (l .shown) t (l .inv .2) _ _ e _ (omega arith) _ (c .newer-part .ensures) ∙ l .inv .3,
-    )
-
-returns-2 : tie.Need-returns-2 Inv-loop μ-loop
-returns-2 c =
-    let l = c .before .loop in
-    shown-end _ _ _ _ (l .inv .1) (l .at) (l .shown) (c .loop-test .left) ∙ l .inv .3
+returns-3 : tie.Need-returns-3
+returns-3 c = ap Set (c .part-of-set .ensures) ∙ under-by _ _ _ _ _ (sym (c .before .before .before .shown-by-sheet .ensures) ∙ c .before .enum-told .given .1)
 
 pub shown-under-spec : {M : Type 1} → statement M
 shown-under-spec =
     tie.close
     (tie.spec
-    Inv-loop
-    μ-loop
-    part-of-set-requires
-    loop-holds
-    check-entry-requires
+    shown-by-sheet-requires
     enum-known-r
+    enum-known-part
+    enum-told
+    part-of-set-requires
     returns
-    enum-known-kind
-    add-place
-    newer-part-requires
-    add-at
-    loop-less
-    loop-again
-    returns-2)
+    returns-2
+    returns-3)
