@@ -1,4 +1,1 @@
-pub mod CheckLaws
-pub mod EntryPass
-pub mod OnceLaws
 pub mod WriteLaws

@@ -33,14 +33,15 @@ use Rattle.entries.specs.Head.{entryAt}
 use Rattle.lacks.proofs.FirstLaws.{firstOf, Real}
 use Rattle.buffers.specs.Places.{over}
 use Rattle.buffers.proofs.LendLaws.{length-over}
-use Rattle.writer.specs.declared.Checked.{Checked}
-use Rattle.writer.specs.declared.Checked.the-variants.{Done as Counted, Refused as Unchecked}
-use Rattle.writer.specs.Writing.{byHead, contentOf, checkFrom, judgeEntries, doneUnless, ruled, judgedList, entryLines, linesFrom, linesLeft}
+use Rattle.checks.specs.declared.Checked.{Checked}
+use Rattle.checks.specs.declared.Checked.the-variants.{Done as Counted, Refused as Unchecked}
+use Rattle.checks.specs.Judging.{byHead, contentOf, checkFrom, judgeEntries, doneUnless, ruled, judgedList}
+use Rattle.checks.proofs.CheckLaws.{Reads, check-entered, check-refused}
+use Rattle.checks.proofs.EntryPass.{entries-found, rules-real}
+use Rattle.writer.specs.Writing.{entryLines, linesFrom, linesLeft}
 use Rattle.lists.proofs.PartLaws.{one-more}
 use Rattle.lists.proofs.OverLaws.{over-then, front-then-zeros}
 use Rattle.lists.proofs.ListLaws.{sizes}
-use Rattle.writer.proofs.CheckLaws.{Reads, check-entered, check-refused}
-use Rattle.writer.proofs.EntryPass.{entries-found, rules-real}
 
 -- ---- one line
 

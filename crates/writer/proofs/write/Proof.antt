@@ -17,8 +17,8 @@ returns c =
     let a = b4 .args in
     let r = answer-empty (a .list .now) (a .out .now) (c .before .if1 .taken) in (ap Refused (c .refused-at .ensures) ∙ r .0, r .1)
 
-judge-entries-requires : tie.Need-judge-entries-requires
-judge-entries-requires c κs = search needs
+judge-list-requires : tie.Need-judge-list-requires
+judge-list-requires c κs = search needs
 
 enum-known-r : tie.Need-enum-known-r
 enum-known-r c = search needs
@@ -30,7 +30,7 @@ write-entries-requires : tie.Need-write-entries-requires
 write-entries-requires c κs =
     let b4 = c .before .before .before .before in
     let b5 = b4 .before in
-    (omega (arith, b5 .if1 .left), sym (b4 .judge-entries .ensures) ∙ c .before .before .n .given .1)
+    (omega (arith, b5 .if1 .left), sym (b4 .judge-list .ensures) ∙ c .before .before .n .given .1)
 
 returns-2 : tie.Need-returns-2
 returns-2 c =
@@ -38,7 +38,7 @@ returns-2 c =
     let b4 = b3 .before in
     let b7 = b4 .before .before .before in
     let a = b7 .args in
-    answer-refused (a .list .now) (a .out .now) _ (omega (arith, b4 .if1 .left)) (sym (b3 .judge-entries .ensures) ∙ c .before .r .given .1)
+    answer-refused (a .list .now) (a .out .now) _ (omega (arith, b4 .if1 .left)) (sym (b3 .judge-list .ensures) ∙ c .before .r .given .1)
 
 same-length : tie.Need-same-length
 same-length c = search needs
@@ -52,7 +52,7 @@ write-spec =
     (tie.spec
     refused-at-requires
     returns
-    judge-entries-requires
+    judge-list-requires
     enum-known-r
     enum-known-n
     write-entries-requires

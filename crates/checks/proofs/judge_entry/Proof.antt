@@ -1,11 +1,11 @@
 -- `judge_entry`: a refusal that waits, or the step of the entry.
 -- Assumes nothing.
 use borrow.Author.Needs.{needs}
-use Rattle.writer.specs.Writing.{contentOf}
-use Rattle.writer.proofs.EntryPass.{step-entry}
-use Rattle.writer.proofs.OnceLaws.{turn-waits, turn-steps}
-use Rattle.writer.proofs.judge_entry.Statement.{statement}
-use Rattle.writer.proofs.judge_entry.Tie as tie
+use Rattle.checks.specs.Judging.{contentOf}
+use Rattle.checks.proofs.EntryPass.{step-entry}
+use Rattle.checks.proofs.OnceLaws.{turn-waits, turn-steps}
+use Rattle.checks.proofs.judge_entry.Statement.{statement}
+use Rattle.checks.proofs.judge_entry.Tie as tie
 
 returns : tie.Need-returns
 returns c =

@@ -1,11 +1,11 @@
--- `judge_entries`: by the head of the first entry.
+-- `judge_list`: by the head of the first entry.
 -- Assumes nothing.
 use mathlib.Core.Path.{sym, ap, _∙_}
 use borrow.Author.Needs.{needs}
-use Rattle.writer.specs.declared.Checked.the-variants.{Refused}
-use Rattle.writer.proofs.OnceLaws.{list-cut, list-whole}
-use Rattle.writer.proofs.judge_entries.Statement.{statement}
-use Rattle.writer.proofs.judge_entries.Tie as tie
+use Rattle.checks.specs.declared.Checked.the-variants.{Refused}
+use Rattle.checks.proofs.OnceLaws.{list-cut, list-whole}
+use Rattle.checks.proofs.judge_list.Statement.{statement}
+use Rattle.checks.proofs.judge_list.Tie as tie
 
 entry-at-requires : tie.Need-entry-at-requires
 entry-at-requires c κs = search needs
@@ -34,8 +34,8 @@ returns-2 c =
     let b6 = b4 .before .before in
     c .first-entry .ensures ∙ list-whole (b6 .args .list .now) (sym (b4 .entry-at .ensures) ∙ c .before .before .kind .given .1)
 
-pub judge-entries-spec : {M : Type 1} → statement M
-judge-entries-spec =
+pub judge-list-spec : {M : Type 1} → statement M
+judge-list-spec =
     tie.close
     (tie.spec
     entry-at-requires

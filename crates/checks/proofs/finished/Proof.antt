@@ -1,9 +1,9 @@
 -- `finished`: a refusal that waits, then what is lacking.
 -- Assumes nothing.
 use borrow.Author.Needs.{needs}
-use Rattle.writer.proofs.OnceLaws.{ends-late, ends-lacking, ends-good}
-use Rattle.writer.proofs.finished.Statement.{statement}
-use Rattle.writer.proofs.finished.Tie as tie
+use Rattle.checks.proofs.OnceLaws.{ends-late, ends-lacking, ends-good}
+use Rattle.checks.proofs.finished.Statement.{statement}
+use Rattle.checks.proofs.finished.Tie as tie
 
 returns : tie.Need-returns
 returns c =

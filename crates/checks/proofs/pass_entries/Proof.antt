@@ -8,12 +8,12 @@ use lib.ListN.{length}
 use Rattle.meaning.specs.declared.Refusal.{Refusal}
 use Rattle.meaning.specs.Limits.{maxEntries}
 use Rattle.lacks.specs.Lacks.{stateOf}
-use Rattle.writer.specs.declared.Checked.the-variants.{Refused}
-use Rattle.writer.specs.Writing.{started, entriesLeft}
-use Rattle.writer.proofs.CheckLaws.{checked-within}
-use Rattle.writer.proofs.OnceLaws.{left-end, left-full, left-unchecked, left-on}
-use Rattle.writer.proofs.pass_entries.Statement.{statement}
-use Rattle.writer.proofs.pass_entries.Tie as tie
+use Rattle.checks.specs.declared.Checked.the-variants.{Refused}
+use Rattle.checks.specs.Judging.{started, entriesLeft}
+use Rattle.checks.proofs.CheckLaws.{checked-within}
+use Rattle.checks.proofs.OnceLaws.{left-end, left-full, left-unchecked, left-on}
+use Rattle.checks.proofs.pass_entries.Statement.{statement}
+use Rattle.checks.proofs.pass_entries.Tie as tie
 
 abbrev Inv-loop : tie.InvT-loop
 Inv-loop list kind start before members₀ top₀ turn₀ at₀ n₀ members top turn at n = (at ≤ length list) × (n ≤ maxEntries) × (entriesLeft list kind (turn .late) (stateOf (turn .group) members top) (turn .group .lack) at n ≡ entriesLeft list kind (turn₀ .late) (stateOf (turn₀ .group) members₀ top₀) (turn₀ .group .lack) start before)

@@ -4,14 +4,13 @@ use mathlib.Core.Path.{sym, ap, _∙_}
 use native.Mathlib.Omega.{arith}
 use borrow.Author.Needs.{needs}
 use Rattle.entries.proofs.HeadLaws.{whole-back}
-use Rattle.lists.proofs.PartLaws.{part-length}
 use Rattle.meaning.specs.declared.Refusal.{Refusal}
 use Rattle.meaning.specs.declared.SetType.the-variants.{T6300}
 use Rattle.meaning.specs.Answers.{noRefusal}
-use Rattle.writer.specs.Writing.{started, entriesLeft}
-use Rattle.writer.proofs.OnceLaws.{list-other, list-unknown, list-known}
-use Rattle.writer.proofs.first_entry.Statement.{statement}
-use Rattle.writer.proofs.first_entry.Tie as tie
+use Rattle.checks.specs.Judging.{started, entriesLeft}
+use Rattle.checks.proofs.OnceLaws.{list-other, list-unknown, list-known}
+use Rattle.checks.proofs.first_entry.Statement.{statement}
+use Rattle.checks.proofs.first_entry.Tie as tie
 
 refused-at-requires : tie.Need-refused-at-requires
 refused-at-requires c κs = search needs
@@ -58,7 +57,7 @@ returns-2 c =
     let b6 = b4 .before .before in
     let b8 = b6 .before .before in
     let a = b8 .args in
-    c .check-then2 .ensures ∙ (ap (λ (r : Refusal). entriesLeft (a .list .now) T6300 r started noRefusal 0 0) (c .before .refused-at2 .ensures) ∙ list-unknown (a .list .now) (a .label) (a .bytes) (b6 .if1 .left) _ (part-length _ _) (sym (b4 .type-of .ensures) ∙ c .before .before .enum-told .given .1))
+    c .check-then2 .ensures ∙ (ap (λ (r : Refusal). entriesLeft (a .list .now) T6300 r started noRefusal 0 0) (c .before .refused-at2 .ensures) ∙ list-unknown (a .list .now) (a .label) (a .bytes) (b6 .if1 .left) (sym (b4 .type-of .ensures) ∙ c .before .before .enum-told .given .1))
 
 nothing-requires : tie.Need-nothing-requires
 nothing-requires c κs = search needs
@@ -75,7 +74,7 @@ returns-3 c =
     let b7 = b5 .before .before in
     let b9 = b7 .before .before in
     let a = b9 .args in
-    c .pass-entries .ensures ∙ list-known (a .list .now) (a .label) (a .bytes) (b7 .if1 .left) _ (part-length _ _) _ (c .before .nothing .ensures) (b9 .pre) (sym (b5 .type-of .ensures) ∙ b3 .kind .given .1)
+    c .pass-entries .ensures ∙ list-known (a .list .now) (a .label) (a .bytes) (b7 .if1 .left) _ (c .before .nothing .ensures) (b9 .pre) (sym (b5 .type-of .ensures) ∙ b3 .kind .given .1)
 
 pub first-entry-spec : {M : Type 1} → statement M
 first-entry-spec =

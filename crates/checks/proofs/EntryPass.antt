@@ -36,10 +36,9 @@ use Rattle.lacks.proofs.FlagLaws.{Same, begin-same}
 use Rattle.steps.specs.declared.Step.{Step}
 use Rattle.steps.specs.Steps.{rowOf, againNo, placeNo, labelNo, versionNo, contentNo, lineNo, nextState, staysIn, Stepped}
 use Rattle.steps.proofs.SameLaws.{whole, pass-line, pass-finish}
-use Rattle.lists.proofs.PartLaws.{part-length}
 use Rattle.rules.proofs.JudgeLaws.{middle, real-middle, ofType, starts, real-starts, whole-found}
-use Rattle.writer.specs.Writing.{contentOf, stepThen, entriesPass, row8000, started, byKnown, firstEntry, judgeEntries}
-use Rattle.writer.proofs.CheckLaws.{Reads}
+use Rattle.checks.specs.Judging.{contentOf, stepThen, entriesPass, row8000, started, byKnown, firstEntry, judgeEntries}
+use Rattle.checks.proofs.CheckLaws.{Reads}
 
 -- ---- one line, as the code takes it
 
@@ -55,7 +54,8 @@ module _ (kind : SetType) (st : State) (lack : Refusal) (at l : ℕ) (c : List �
 pub step-entry : (l : List ℕ) (at m : ℕ) {o : Found} {kind : SetType} {st : State} {lack : Refusal} {label : ℕ} {r : Step} {members top : List Bool}
     → Stepped o kind st lack at label (take (at + entryLead + m - (at + entryLead)) (drop (at + entryLead) l)) r members top → Stepped o kind st lack at label (contentOf l at m) r members top
 step-entry l at m {o} {kind} {st} {lack} {label} {r} {members} {top} e =
-    subst (λ (n : ℕ). Stepped o kind st lack at label (take n (drop (at + entryLead) l)) r members top) (part-length (at + entryLead) m) e
+    let w : at + entryLead + m - (at + entryLead) ≡ m = omega arith in
+    subst (λ (n : ℕ). Stepped o kind st lack at label (take n (drop (at + entryLead) l)) r members top) w e
 
 -- ---- an entry behind the first: it is refused, or the pass goes on
 
@@ -120,14 +120,14 @@ module _ (l : List ℕ) (label m n : ℕ) where
   unfolding firstEntry
   first-other h = rw (ne-eqb label 8000 h)
 
-  module _ (h : label ≡ 8000) (w : ℕ) (v : w ≡ m) where
-    pub first-unknown : typeNamed (take w (drop entryLead l)) ≡ Nothing → firstEntry l label m n ≡ refusal unknownSet 0 0
+  module _ (h : label ≡ 8000) where
+    pub first-unknown : typeNamed (contentOf l 0 m) ≡ Nothing → firstEntry l label m n ≡ refusal unknownSet 0 0
     unfolding firstEntry
-    first-unknown e = rw (eq-eqb label 8000 h, ← v, e)
+    first-unknown e = rw (eq-eqb label 8000 h, e)
 
-    pub first-known : {kind : SetType} → typeNamed (take w (drop entryLead l)) ≡ Of kind → firstEntry l label m n ≡ entriesPass l kind (entryLead + m) started noRefusal (n - 1)
+    pub first-known : {kind : SetType} → typeNamed (contentOf l 0 m) ≡ Of kind → firstEntry l label m n ≡ entriesPass l kind (entryLead + m) started noRefusal (n - 1)
     unfolding firstEntry
-    first-known e = rw (eq-eqb label 8000 h, ← v, e)
+    first-known e = rw (eq-eqb label 8000 h, e)
 
 -- ---- what the pass finds
 

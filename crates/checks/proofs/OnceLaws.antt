@@ -1,7 +1,7 @@
 -- One loop checks the entries and judges them: what each `return` of it has to show, and that what is left behind an entry is what was left before it.
 -- Assumes nothing.
 use mathlib.Core.Path.{_≡_, refl, sym, ap, _∙_}
-use mathlib.Core.Bool.{Bool, true, false, cond}
+use mathlib.Core.Bool.{Bool, true, false}
 use mathlib.Core.List.{List}
 use Prim.Native.Nat.{ℕ, suc, _+_, _-_, _≤_, _<_}
 use native.Mathlib.Omega.{arith}
@@ -13,7 +13,6 @@ use Rattle.meaning.specs.declared.Known.the-variants.{Of, Nothing}
 use Rattle.meaning.specs.declared.SetType.{SetType}
 use Rattle.meaning.specs.declared.SetType.the-variants.{T6300}
 use Rattle.meaning.specs.Limits.{maxEntries}
-use Rattle.meaning.specs.Digits.{allDigits}
 use Rattle.meaning.specs.Refusals.{refusal, tooManyLines, noStart, unknownSet, badList}
 use Rattle.meaning.specs.Entries.{entryLead}
 use Rattle.meaning.specs.Rules.{typeNamed}
@@ -25,15 +24,14 @@ use Rattle.lacks.specs.Lacks.{orElse, State, finish, stateOf}
 use Rattle.lacks.proofs.FirstLaws.{or-zero, or-bad}
 use Rattle.steps.specs.declared.Step.{Step}
 use Rattle.steps.specs.Steps.{rowOf, Stepped}
-use Rattle.lists.proofs.PartLaws.{one-more}
-use Rattle.writer.specs.declared.Item.{Item}
-use Rattle.writer.specs.declared.Item.the-variants.{Read}
-use Rattle.writer.specs.declared.Turn.{Turn}
-use Rattle.writer.specs.declared.Checked.{Checked}
-use Rattle.writer.specs.declared.Checked.the-variants.{Done, Refused}
-use Rattle.writer.specs.Writing.{contentOf, checkEntry, checkFrom, Turned, entriesPass, started, firstEntry, judgeEntries, doneUnless, ruled, entriesLeft, judgedList}
-use Rattle.writer.proofs.CheckLaws.{entry-cut, check-done, check-full, check-bad, check-further, checked-head, Counts, check-counts, digits-kept}
-use Rattle.writer.proofs.EntryPass.{pass-bad, pass-on, type-digits, first-other, first-unknown, first-known}
+use Rattle.checks.specs.declared.Item.{Item}
+use Rattle.checks.specs.declared.Item.the-variants.{Read}
+use Rattle.checks.specs.declared.Turn.{Turn}
+use Rattle.checks.specs.declared.Checked.{Checked}
+use Rattle.checks.specs.declared.Checked.the-variants.{Done, Refused}
+use Rattle.checks.specs.Judging.{contentOf, checkEntry, checkFrom, Turned, entriesPass, started, firstEntry, judgeEntries, doneUnless, ruled, entriesLeft, judgedList}
+use Rattle.checks.proofs.CheckLaws.{entry-cut, check-done, check-full, check-bad, check-further, checked-head, Counts, check-counts, digits-kept}
+use Rattle.checks.proofs.EntryPass.{pass-bad, pass-on, type-digits, first-other, first-unknown, first-known}
 
 -- ---- what a check leaves to be judged
 
@@ -129,7 +127,10 @@ module _ (l : List ℕ) (kind : SetType) (at n : ℕ) (h : at < length l) (g : n
   left-on =
       rw (check-further l at n h g q)
       (ruled-same (checkFrom l (at + (entryLead + m)) (n + 1) (maxEntries - (n + 1))) (n + 1) _ _ (check-counts l (maxEntries - (n + 1)) (at + (entryLead + m)) (n + 1))
-      (λ k z. ap (λ (j : ℕ). orElse (t .late) (entriesPass l kind at (stateOf (t .group) members top) (t .group .lack) j)) (one-more (omega arith)) ∙ one (k - (n + 1))))
+      (λ k z. ap (λ (j : ℕ). orElse (t .late) (entriesPass l kind at (stateOf (t .group) members top) (t .group .lack) j)) (later k z) ∙ one (k - (n + 1))))
+    where
+      later : (k : ℕ) → n + 1 ≤ k → k - n ≡ suc (k - (n + 1))
+      later k z = omega arith
 
 -- ---- 8 and 9: what the loop finds is what the whole list is
 
@@ -138,23 +139,28 @@ module _ (l : List ℕ) (label m : ℕ) where
   unfolding entriesLeft orElse
   list-other h = all-same l (λ n. refusal noStart 0 0) (λ n. firstEntry l label m n) (λ n. sym (first-other l label m n h))
 
-  module _ (h : label ≡ 8000) (w : ℕ) (v : w ≡ m) where
-    pub list-unknown : typeNamed (take w (drop entryLead l)) ≡ Nothing
+  -- the content as the code cuts it out
+  cut-out : typeNamed (take (entryLead + m - entryLead) (drop entryLead l)) ≡ typeNamed (contentOf l 0 m)
+  cut-out = let w : entryLead + m - entryLead ≡ m = omega arith in ap (λ (n : ℕ). typeNamed (take n (drop entryLead l))) w
+
+  module _ (h : label ≡ 8000) where
+    pub list-unknown : typeNamed (take (entryLead + m - entryLead) (drop entryLead l)) ≡ Nothing
         → entriesLeft l T6300 (refusal unknownSet 0 0) started noRefusal 0 0 ≡ ruled (checkFrom l 0 0 maxEntries) (λ n. firstEntry l label m n)
     unfolding entriesLeft orElse
-    list-unknown e = all-same l (λ n. refusal unknownSet 0 0) (λ n. firstEntry l label m n) (λ n. sym (first-unknown l label m n h w v e))
+    list-unknown e = all-same l (λ n. refusal unknownSet 0 0) (λ n. firstEntry l label m n) (λ n. sym (first-unknown l label m n h (sym cut-out ∙ e)))
 
-    pub list-known : {kind : SetType} (late : Refusal) → late ≡ noRefusal → entryAt l 0 ≡ Whole label m → typeNamed (take w (drop entryLead l)) ≡ Of kind
+    pub list-known : {kind : SetType} (late : Refusal) → late ≡ noRefusal → entryAt l 0 ≡ Whole label m
+        → typeNamed (take (entryLead + m - entryLead) (drop entryLead l)) ≡ Of kind
         → entriesLeft l kind late started noRefusal (entryLead + m) 1 ≡ ruled (checkFrom l 0 0 maxEntries) (λ n. firstEntry l label m n)
     unfolding entriesLeft orElse
     list-known {kind} late z q e =
-        let d = type-digits (take w (drop entryLead l)) e in
+        let t : typeNamed (contentOf l 0 m) ≡ Of kind = sym cut-out ∙ e in
         let s : 0 < length l = omega (arith, whole-back l 0 q .within) in
-        let c : checkEntry l 0 ≡ Read label m = digits-kept l 0 q (omega arith) (ap (λ (k : ℕ). allDigits (take k (drop entryLead l))) (sym v) ∙ d .all-digits) in
+        let c : checkEntry l 0 ≡ Read label m = digits-kept l 0 q (omega arith) (type-digits (contentOf l 0 m) t .all-digits) in
         let x : checkFrom l 0 0 maxEntries ≡ checkFrom l (entryLead + m) 1 (maxEntries - 1) =
         check-further l 0 0 s (omega arith) c ∙ ap (λ (k : ℕ). checkFrom l k 1 (maxEntries - 1)) (omega arith) in
         rw z (ap (λ (y : Checked). ruled y (λ n. entriesPass l kind (entryLead + m) started noRefusal (n - 1))) (sym x))
-        ∙ all-same l (λ n. entriesPass l kind (entryLead + m) started noRefusal (n - 1)) (λ n. firstEntry l label m n) (λ n. sym (first-known l label m n h w v e))
+        ∙ all-same l (λ n. entriesPass l kind (entryLead + m) started noRefusal (n - 1)) (λ n. firstEntry l label m n) (λ n. sym (first-known l label m n h t))
 
 -- ---- the whole list, by the head of its first entry
 

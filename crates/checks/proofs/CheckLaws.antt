@@ -27,12 +27,18 @@ use Rattle.entries.specs.declared.Head.{Head}
 use Rattle.entries.specs.declared.Head.the-variants.{Whole, Cut}
 use Rattle.entries.specs.Head.{entryAt}
 use Rattle.entries.proofs.HeadLaws.{headOf, entry-is, whole-back}
-use Rattle.writer.specs.declared.Item.{Item}
-use Rattle.writer.specs.declared.Item.the-variants.{Read}
-use Rattle.writer.specs.declared.Checked.{Checked}
-use Rattle.writer.specs.declared.Checked.the-variants.{Done, Refused}
-use Rattle.writer.specs.Writing.{byHead, contentOf, checkContent, checkEntry, afterEntry, checkFrom}
-use Rattle.lists.proofs.PartLaws.{one-more, none-left}
+use Rattle.checks.specs.declared.Item.{Item}
+use Rattle.checks.specs.declared.Item.the-variants.{Read}
+use Rattle.checks.specs.declared.Checked.{Checked}
+use Rattle.checks.specs.declared.Checked.the-variants.{Done, Refused}
+use Rattle.checks.specs.Judging.{byHead, contentOf, checkContent, checkEntry, afterEntry, checkFrom}
+
+-- how many entries may still come
+one-more : {n most : ℕ} → n < most → most - n ≡ suc (most - (n + 1))
+one-more h = omega arith
+
+none-left : {n most : ℕ} → most ≤ n → most - n ≡ 0
+none-left h = omega arith
 
 -- ---- one entry, as the code takes it
 

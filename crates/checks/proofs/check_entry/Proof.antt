@@ -4,10 +4,10 @@ use mathlib.Core.Path.{sym, ap, _∙_}
 use native.Mathlib.Omega.{arith}
 use borrow.Author.Needs.{needs}
 use Rattle.entries.proofs.HeadLaws.{whole-back}
-use Rattle.writer.specs.declared.Item.the-variants.{Refused}
-use Rattle.writer.proofs.CheckLaws.{entry-cut, label-over, content-low, content-clean}
-use Rattle.writer.proofs.check_entry.Statement.{statement}
-use Rattle.writer.proofs.check_entry.Tie as tie
+use Rattle.checks.specs.declared.Item.the-variants.{Refused}
+use Rattle.checks.proofs.CheckLaws.{entry-cut, label-over, content-low, content-clean}
+use Rattle.checks.proofs.check_entry.Statement.{statement}
+use Rattle.checks.proofs.check_entry.Tie as tie
 
 entry-at-requires : tie.Need-entry-at-requires
 entry-at-requires c κs = search needs
