@@ -1,5 +1,6 @@
 // Which rows were seen, as flags by row number, and rule 16: what a group and the set lack.
-// Assumes nothing: `finish_at` has no `requires`. Each contract cites a walk of specs/, and proofs/LackLaws says what the walks mean.
+// Assumes nothing: `finish_at` has no `requires`; `has` and `mark`, which only other crates here call, assume that a row has the number that they are given. Each contract
+// cites a walk of specs/, and proofs/LackLaws says what the walks mean.
 ghost use mathlib.Core.Path.{_≡_};
 ghost use mathlib.Core.Bool.{true, false};
 ghost use Prim.Native.Nat.{_<_};
@@ -92,6 +93,7 @@ pub fn refused_at(no: usize, place: usize) -> Refusal
 
 // ---- which rows were seen
 
+// The row with this number was seen.
 pub fn has(flags: &[bool; ROWS], i: usize) -> bool
     requires { ⌜ i < rowCount ⌝ }
     ensures { λ r. ⌜ r ≡ getD (now (flags .entry)) i false ⌝ }
@@ -99,6 +101,7 @@ pub fn has(flags: &[bool; ROWS], i: usize) -> bool
     flags[i]
 }
 
+// The row with this number is seen now.
 pub fn mark(flags: &mut [bool; ROWS], i: usize)
     requires { ⌜ i < rowCount ⌝ }
     ensures { λ _. ⌜ now (flags .exit) ≡ set (now (flags .entry)) i true ⌝ }
@@ -106,6 +109,7 @@ pub fn mark(flags: &mut [bool; ROWS], i: usize)
     flags[i] = true;
 }
 
+// No row was seen.
 pub fn clear(flags: &mut [bool; ROWS])
     ensures { λ _. ⌜ now (flags .exit) ≡ noFlags ⌝ }
 {
