@@ -23,11 +23,6 @@ const ENTRIES: usize = SetType::LINES - 1;
 // The largest number that four digits write.
 const MAX_LABEL: usize = 9_999;
 
-// The rows of 8000 and 8100 in every table.
-const ROW_8000: usize = 0;
-
-const ROW_8100: usize = 1;
-
 // ---- 7, 21, 6 of each entry
 
 // What reading one entry finds.
@@ -139,8 +134,8 @@ fn pass_entries(list: &[u8], kind: SetType, late: Refusal, start: usize, before:
 {
     let mut members = [false; lacks::ROWS];
     let mut top = [false; lacks::ROWS];
-    top[ROW_8000] = true;
-    top[ROW_8100] = true;
+    top[lacks::ROW_8000] = true;
+    top[lacks::ROW_8100] = true;
     let group = Group {
         header: 8100,
         place: 0,

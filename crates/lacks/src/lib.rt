@@ -41,7 +41,7 @@ const ROW_8462: usize = 53;
 // The numbers of the rows of required labels: these in every table.
 pub const ROW_8000: usize = 0;
 
-const ROW_8100: usize = 1;
+pub const ROW_8100: usize = 1;
 
 const ROW_9218: usize = 5;
 
