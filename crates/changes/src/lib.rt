@@ -23,7 +23,7 @@ use meaning::Shape;
 use offers::Offer;
 
 // The content of line 2, the sum, stands behind line 1, whose content is the set's type, and behind its own line's lead.
-const SUM_PLACE: usize = rules::TYPE_DIGITS + LINE_FRAME + LINE_LEAD;
+const SUM_PLACE: usize = lines::TYPE_DIGITS + LINE_FRAME + LINE_LEAD;
 
 // What a correction comes to.
 enum Plan {
@@ -66,7 +66,7 @@ fn put_content(
 {
     replace_middle(buffer, place + LINE_LEAD, old, content, used);
     buffers::put_digits(buffer, place, LENGTH_DIGITS, content.len() + LINE_FRAME);
-    buffers::put_digits(buffer, SUM_PLACE, rules::SUM_DIGITS, total);
+    buffers::put_digits(buffer, SUM_PLACE, lines::SUM_DIGITS, total);
 }
 
 // A refusal by its three parts.

@@ -35,6 +35,14 @@ pub const LINE_END: usize = 2;
 // "Length = content + 9."
 pub const LINE_FRAME: usize = LINE_LEAD + LINE_END;
 
+// The digits of a set type, the content of line 1.
+pub const TYPE_DIGITS: usize = 4;
+
+// "8100 has five digits", and its line so many bytes.
+pub const SUM_DIGITS: usize = 5;
+
+pub const SUM_LINE: usize = SUM_DIGITS + LINE_FRAME;
+
 // "Content has 1 byte or more, so lengths run 010 to 999."
 const MIN_LINE_BYTES: usize = LINE_FRAME + 1;
 

@@ -76,7 +76,7 @@ fn list_accepted(set: &[u8], shape: Shape, out: &mut [u8]) -> Made
     requires { ⌜ Reading.judge (now set) ≡ Accepted shape ⌝ }
     ensures { λ r. ⌜ (r ≡ listCall (now (set .entry)) (now (out .entry)) .answer) × (now (out .exit) ≡ listCall (now (set .entry)) (now (out .entry)) .buffer) ⌝ }
 {
-    let need = shape.length - rules::SUM_LINE - (shape.lines - 1) * LINE_LOSS;
+    let need = shape.length - lines::SUM_LINE - (shape.lines - 1) * LINE_LOSS;
     // 22, NoRoom: "output needs more than is lent; place: the need"
     if out.len() < need {
         return Made::Refused(lacks::refused_at(Refusal::NO_ROOM, need));

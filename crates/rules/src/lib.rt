@@ -146,22 +146,14 @@ fn pass(s: &[u8], kind: SetType, start: usize) -> Scan
 
 // ---- 8, 9, 10, and 17
 
-// "8100 has five digits", and its line so many bytes.
-pub const SUM_DIGITS: usize = 5;
-
-pub const SUM_LINE: usize = SUM_DIGITS + lines::LINE_FRAME;
-
-// The digits of a set type.
-pub const TYPE_DIGITS: usize = 4;
-
 // The set type that a content of 8000 names.
 pub fn type_of(content: &[u8]) -> Known
     ensures { λ r. ⌜ r ≡ typeNamed (now (content .entry)) ⌝ }
 {
-    if content.len() != TYPE_DIGITS {
+    if content.len() != lines::TYPE_DIGITS {
         return Known::Nothing;
     }
-    match lines::number_at(content, 0, TYPE_DIGITS) {
+    match lines::number_at(content, 0, lines::TYPE_DIGITS) {
         Number::Is(number) => SetType::of(number),
         Number::None => Known::Nothing,
     }
@@ -172,7 +164,7 @@ fn sum_at(s: &[u8], at: usize, total: usize) -> Refusal
     requires { ⌜ at ≤ length (now s) ⌝ }
     ensures { λ r. ⌜ r ≡ sumWalk (now (s .entry)) at total ⌝ }
 {
-    match lines::number_at(s, at + lines::LINE_LEAD, SUM_DIGITS) {
+    match lines::number_at(s, at + lines::LINE_LEAD, lines::SUM_DIGITS) {
         Number::Is(sum) => {
             if sum == total {
                 return lacks::nothing();

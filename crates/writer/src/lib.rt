@@ -48,11 +48,11 @@ fn put_sum(total: usize, out: &mut [u8], to: usize)
     requires { ⌜ to + sumLine ≤ length (now out) ⌝ }
     ensures { λ _. ⌜ now (out .exit) ≡ over to (lineThen (sumField total) []) (now (out .entry)) ⌝ }
 {
-    buffers::put_digits(out, to, lines::LENGTH_DIGITS, rules::SUM_LINE);
+    buffers::put_digits(out, to, lines::LENGTH_DIGITS, lines::SUM_LINE);
     buffers::put_digits(out, to + lines::LENGTH_DIGITS, lines::LABEL_DIGITS, 8100);
     let from = to + lines::LINE_LEAD;
-    buffers::put_digits(out, from, rules::SUM_DIGITS, total);
-    put_end(out, from + rules::SUM_DIGITS);
+    buffers::put_digits(out, from, lines::SUM_DIGITS, total);
+    put_end(out, from + lines::SUM_DIGITS);
 }
 
 // The lines of the entry at `from` in the list, at an offset: its own, and behind the first that of 8100. The offset behind them.
@@ -74,7 +74,7 @@ fn put_lines(
         return end;
     }
     put_sum(total, out, end);
-    end + rules::SUM_LINE
+    end + lines::SUM_LINE
 }
 
 // The lines of the entries of a list, line after line, with that of 8100 for a set of `total` bytes.
@@ -107,7 +107,7 @@ fn write_entries(list: &[u8], n: usize, out: &mut [u8]) -> Made
     ensures { λ r. ⌜ (r ≡ writeCall (now (list .entry)) (now (out .entry)) .answer) × (now (out .exit) ≡ writeCall (now (list .entry)) (now (out .entry)) .buffer) ⌝ }
 {
     // 22, NoRoom: "the new total is over the buffer or over 99,999"; "place: the need"
-    let total = list.len() + n * lists::LINE_LOSS + rules::SUM_LINE;
+    let total = list.len() + n * lists::LINE_LOSS + lines::SUM_LINE;
     if out.len() < total {
         return Made::Refused(lacks::refused_at(Refusal::NO_ROOM, total));
     }
