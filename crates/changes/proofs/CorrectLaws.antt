@@ -8,12 +8,13 @@ use lib.ListN.{length, take}
 use lib.Seq.{length-take-le}
 use borrow.Author.Tests.{le-leb, lt-leb}
 use Rattle.meaning.specs.declared.Refusal.{Refusal}
+use Rattle.meaning.specs.declared.Judged.the-variants.{Refused as RefusedSet}
 use Rattle.meaning.specs.declared.Made.the-variants.{Done, Refused as NotMade}
 use Rattle.meaning.specs.Field.{Field, contentAtLine}
 use Rattle.meaning.specs.Refusals.{Reply, refused, done, thenTo, refusal, badUse}
 use Rattle.meaning.specs.Pieces.{Parsed, parsed}
 use Rattle.meaning.specs.Lines.{lineLead, size, render}
-use Rattle.meaning.specs.Reading.{read}
+use Rattle.meaning.specs.Reading.{judged, read, judge}
 use Rattle.meaning.specs.Lists.{sumDigits}
 use Rattle.meaning.specs.Corrections.{changed, correctLines, correct}
 use Rattle.meaning.specs.Answers.{made, bytesLeft}
@@ -21,12 +22,25 @@ use Rattle.meaning.proofs.LineLaws.{length-render}
 use Rattle.meaning.proofs.RuleLaws.{ruled, begins-of}
 use Rattle.meaning.proofs.SetLaws.{Standing, accepted}
 use Rattle.meaning.proofs.CorrectionLaws.{Change, holds-standing, Corrected, correct-only}
-use Rattle.changes.specs.declared.Plan.{Plan}
-use Rattle.changes.specs.declared.Plan.the-variants.{Refused, Make}
-use Rattle.changes.specs.Middle.{newTotal, sumPlace, recontented}
-use Rattle.changes.specs.Planned.{unless, making, plannedBy, planned}
-use Rattle.changes.proofs.LineChange.{Headed, size-at, total-is, lines-changed}
-use Rattle.changes.proofs.PlanLaws.{headed, not-at}
+use Rattle.contents.specs.Middle.{newTotal, sumPlace, recontented}
+use Rattle.plans.specs.declared.Plan.{Plan}
+use Rattle.plans.specs.declared.Plan.the-variants.{Refused, Make}
+use Rattle.plans.specs.Planned.{unless, making, plannedBy, planned}
+use Rattle.plans.proofs.TotalLaws.{Headed, headed, not-at, size-at, total-is}
+use Rattle.changes.proofs.LineChange.{lines-changed}
+
+-- the set's own refusals
+refused-read : (s : List ℕ) (r : Refusal) → judge s ≡ RefusedSet r → read s ≡ refused r
+unfolding judge
+refused-read s r e = go (read s) refl e
+  where
+    go : (x : Reply Parsed) → read s ≡ x → judged x ≡ RefusedSet r → read s ≡ refused r
+    go (refused y) q h = q ∙ ap refused cc
+    go (done d) q h = let z : _≡_ {A = ℕ} 0 1 = cc in absurd (omega arith)
+
+pub plan-unread : (s c : List ℕ) (room n : ℕ) (r : Refusal) → judge s ≡ RefusedSet r → planned s room n c ≡ Refused r
+unfolding planned
+plan-unread s c room n r e = rw (refused-read s r e)
 
 -- 18: the used length is over the buffer
 pub correct-over : (b c : List ℕ) (used n : ℕ) → length b < used → correct b used n c ≡ refused (refusal badUse (length b) 0)

@@ -1,4 +1,2 @@
-pub mod MiddleLaws
 pub mod LineChange
-pub mod PlanLaws
 pub mod CorrectLaws

@@ -7,7 +7,7 @@ use native.Mathlib.Omega.{arith}
 use lib.ListN.{length, take, drop, getD, set, replicate, length-append, take-append-drop}
 use lib.Seq.{take-at, drop-at, drop-append-add}
 use Rattle.meaning.specs.Digits.{digits}
-use Rattle.meaning.specs.Field.{Field, field, noField, labelAtLine, contentAtLine}
+use Rattle.meaning.specs.Field.{Field, field, noField, contentAtLine}
 use Rattle.meaning.specs.Lines.{lengthDigits, lineLead, lineEnd, lineSize, lineThen, size, offset, render}
 use Rattle.meaning.specs.Lists.{sumField, sumDigits}
 use Rattle.meaning.specs.Corrections.{recontent, resum}
@@ -15,7 +15,8 @@ use Rattle.meaning.proofs.LineLaws.{length-line, length-render, render-split}
 use Rattle.meaning.proofs.CorrectionLaws.{leaves}
 use Rattle.buffers.specs.Places.{over}
 use Rattle.buffers.proofs.LendLaws.{over-behind}
-use Rattle.changes.specs.Middle.{replaced, newTotal, sumPlace, recontented}
+use Rattle.contents.specs.Middle.{replaced, newTotal, sumPlace, recontented}
+use Rattle.plans.proofs.TotalLaws.{Headed, size-at, total-is}
 
 -- ---- the bytes in the middle of some others
 
@@ -52,11 +53,6 @@ render-set (f ∷ fs) zero g t h = refl
 render-set (f ∷ fs) (suc k) g t h =
     ap (lineThen f) (render-set fs k g t (omega arith))
     ∙ line-append f (render (take k fs) []) (lineThen g (render (drop (suc k) fs) t))
-
-size-set : (fs : List Field) (k : ℕ) (g : Field) → k < length fs → size (set fs k g) + lineSize (getD fs k noField) ≡ size fs + lineSize g
-size-set [] k g h = absurd (omega arith)
-size-set (f ∷ fs) zero g h = omega arith
-size-set (f ∷ fs) (suc k) g h = omega (arith, size-set fs k g (omega arith))
 
 -- the content of a line replaced, and its length: the bytes p stand before the line, and t behind the u bytes that are lines
 line-replaced : (p u t c : List ℕ) (f : Field) (place used : ℕ) → length p ≡ place → used ≡ place + lineSize f + length u
@@ -101,17 +97,6 @@ sum-replaced f g fs t n lf lg e =
 
 -- ---- the whole set in its buffer
 
--- how the lines of an accepted set begin: four digits in line 1, 8100 with five in line 2
-pub record Headed (fs : List Field) : Type 0 where
-  pub first-four : length (contentAtLine fs 0) ≡ 4
-  pub second-five : length (contentAtLine fs 1) ≡ sumDigits
-  pub second-label : labelAtLine fs 1 ≡ 8100
-
-pub size-at : (fs : List Field) (k : ℕ) → k < length fs → size fs ≡ offset fs k + lineSize (getD fs k noField) + size (drop (suc k) fs)
-size-at [] k h = absurd (omega arith)
-size-at (f ∷ fs) zero h = omega arith
-size-at (f ∷ fs) (suc k) h = omega (arith, size-at fs k (omega arith))
-
 -- the content and the line's length: the lines with that content, and zeros
 content-replaced : (b c : List ℕ) (fs : List Field) (k used : ℕ) → take used b ≡ render fs [] → used ≡ size fs → k < length fs
     → over (offset fs k) (digits lengthDigits (length c + (lineLead + lineEnd)))
@@ -133,16 +118,6 @@ content-replaced b c fs k used e n h =
     ∙ ap (λ (x : List ℕ). p ++ lineThen (field (f .label) c) (u ++ replicate (length x - newTotal (length (f .content)) c used) 0)) (sym s)
     ∙ ap (λ (x : List ℕ). p ++ lineThen (field (f .label) c) x) (sym (render-split (drop (suc k) fs) z))
     ∙ sym (render-set fs k (field (f .label) c) z h)
-
--- how many bytes the changed lines have
-pub total-is : (c : List ℕ) (fs : List Field) (k : ℕ) → Headed fs → (0 ≡ k → ⊥) → (1 ≡ k → ⊥) → k < length fs
-    → newTotal (length (contentAtLine fs k)) c (size fs) ≡ size (resum (recontent fs k c))
-total-is c [] k q n0 n1 h = absurd (omega arith)
-total-is c (f ∷ []) k q n0 n1 h = absurd (n0 (omega arith))
-total-is c (f ∷ g ∷ fs) zero q n0 n1 h = absurd (n0 refl)
-total-is c (f ∷ g ∷ fs) (suc zero) q n0 n1 h = absurd (n1 refl)
-total-is c (f ∷ g ∷ fs) (suc (suc k)) q n0 n1 h =
-    omega (arith, size-at fs k (omega arith), size-set fs k (field (labelAtLine fs k) c) (omega arith), q .second-five)
 
 -- and the sum
 pub lines-changed : (b c : List ℕ) (fs : List Field) (k used : ℕ) → take used b ≡ render fs [] → used ≡ size fs → Headed fs

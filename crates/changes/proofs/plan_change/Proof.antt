@@ -1,7 +1,7 @@
 -- `plan_change` answers what was planned.
 -- Assumes nothing.
 use mathlib.Core.Path.{sym, _∙_}
-use Rattle.changes.proofs.PlanLaws.{plan-unread}
+use Rattle.changes.proofs.CorrectLaws.{plan-unread}
 use borrow.Author.Needs.{needs}
 use Rattle.changes.proofs.plan_change.Statement.{statement}
 use Rattle.changes.proofs.plan_change.Tie as tie

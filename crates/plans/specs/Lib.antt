@@ -1,2 +1,1 @@
-pub mod Middle
 pub mod Planned

@@ -1,5 +1,5 @@
 -- What a correction comes to, before any byte is written: its first refusal but that of the used length, or where the line stands and how many bytes count then.
--- Assumes nothing: these are definitions. What `correct` answers by it is `plan-refused` and `plan-made` in proofs/CorrectLaws.
+-- Assumes nothing: these are definitions. What `correct` answers by it is `plan-refused` and `plan-made` in proofs/CorrectLaws of `changes`.
 use mathlib.Core.Bool.{cond, _&&_}
 use mathlib.Core.List.{List}
 use Prim.Native.Nat.{ℕ, pred}
@@ -12,8 +12,8 @@ use Rattle.meaning.specs.Pieces.{Parsed}
 use Rattle.meaning.specs.Lines.{size, offset}
 use Rattle.meaning.specs.Reading.{read}
 use Rattle.meaning.specs.Corrections.{changed, correctLines}
-use Rattle.changes.specs.declared.Plan.{Plan}
-use Rattle.changes.specs.declared.Plan.the-variants.{Refused, Make}
+use Rattle.plans.specs.declared.Plan.{Plan}
+use Rattle.plans.specs.declared.Plan.the-variants.{Refused, Make}
 
 -- 22: what is to be done, where the new total is not "over the buffer or over 99,999"
 abbrev pub withinRoom : ℕ → ℕ → ℕ → ℕ → Plan

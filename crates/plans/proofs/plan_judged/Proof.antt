@@ -3,11 +3,11 @@
 use mathlib.Core.Path.{sym, ap, _∙_}
 use Prim.Native.Nat.{ℕ}
 use Rattle.meaning.specs.Refusals.{refusal}
-use Rattle.changes.specs.declared.Plan.the-variants.{Refused}
-use Rattle.changes.proofs.PlanLaws.{Ready, plan-followed, plan-against, plan-ready}
+use Rattle.plans.specs.declared.Plan.the-variants.{Refused}
+use Rattle.plans.proofs.PlanLaws.{Ready, plan-followed, plan-against, plan-ready}
 use borrow.Author.Needs.{needs}
-use Rattle.changes.proofs.plan_judged.Statement.{statement}
-use Rattle.changes.proofs.plan_judged.Tie as tie
+use Rattle.plans.proofs.plan_judged.Statement.{statement}
+use Rattle.plans.proofs.plan_judged.Tie as tie
 
 refused-requires : tie.Need-refused-requires
 refused-requires c κs = search needs

@@ -3,8 +3,8 @@
 use mathlib.Core.Path.{refl, _∙_}
 use borrow.Author.Tests.{le-leb, lt-leb}
 use borrow.Author.Needs.{needs}
-use Rattle.changes.proofs.plan_total.Statement.{statement}
-use Rattle.changes.proofs.plan_total.Tie as tie
+use Rattle.plans.proofs.plan_total.Statement.{statement}
+use Rattle.plans.proofs.plan_total.Tie as tie
 
 refused-requires : tie.Need-refused-requires
 refused-requires c κs = search needs

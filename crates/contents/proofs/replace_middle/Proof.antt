@@ -1,10 +1,10 @@
 -- `replace_middle` leaves what `replaced` says: `three-loans`.
 -- Assumes nothing.
 use mathlib.Core.Path.{refl}
-use Rattle.changes.proofs.MiddleLaws.{three-loans}
+use Rattle.contents.proofs.MiddleLaws.{three-loans}
 use borrow.Author.Needs.{needs}
-use Rattle.changes.proofs.replace_middle.Statement.{statement}
-use Rattle.changes.proofs.replace_middle.Tie as tie
+use Rattle.contents.proofs.replace_middle.Statement.{statement}
+use Rattle.contents.proofs.replace_middle.Tie as tie
 
 add-tail : tie.Need-add-tail
 add-tail c = search needs

@@ -1,84 +1,38 @@
 -- What `planned` is by each of the tests in the code's order.
 -- Assumes nothing.
 use mathlib.Core.Path.{_≡_, refl, sym, ap, _∙_, subst}
-use mathlib.Core.Bool.{Bool, true, false, cond, _&&_, true≢false}
+use mathlib.Core.Bool.{Bool, true, false, cond, _&&_}
 use mathlib.Core.List.{List, [], _∷_}
 use Prim.Native.Nat.{ℕ, pred, _+_, _-_, _≤_, _<_}
 use native.Mathlib.Omega.{arith}
 use lib.Dec.{leb, eqb}
 use lib.ListN.{length}
 use lib.Seq.{take-length}
-use borrow.Author.Tests.{eqb-true, ne-eqb}
-use Rattle.meaning.specs.declared.Refusal.{Refusal}
+use borrow.Author.Tests.{ne-eqb}
 use Rattle.meaning.specs.declared.Shape.{Shape}
-use Rattle.meaning.specs.declared.Judged.the-variants.{Accepted as AcceptedSet, Refused as RefusedSet}
-use Rattle.meaning.specs.declared.Known.the-variants.{Nothing}
-use Rattle.meaning.specs.Limits.{maxSetBytes, typeOf}
-use Rattle.meaning.specs.Digits.{allDigits, number}
+use Rattle.meaning.specs.declared.Judged.the-variants.{Accepted as AcceptedSet}
+use Rattle.meaning.specs.Limits.{maxSetBytes}
 use Rattle.meaning.specs.Field.{Field, labelAtLine, contentAtLine, isNil}
-use Rattle.meaning.specs.Refusals.{start, byte, Reply, refused, done, thenTo, verdict, refusal, badUse, badByte, noRoom, withRoom}
+use Rattle.meaning.specs.Refusals.{start, byte, refused, done, thenTo, verdict, refusal, badUse, badByte, noRoom, withRoom}
 use Rattle.meaning.specs.Pieces.{Parsed}
 use Rattle.meaning.specs.Lines.{lineLead, lineEnd, size, offset, render}
-use Rattle.meaning.specs.Rules.{typeDigits, typeNamed, profile, isKnown, typeKnown}
-use Rattle.meaning.specs.Reading.{judged, read, judge, shape}
-use Rattle.meaning.specs.Lists.{sumDigits, setWithRoom}
-use Rattle.meaning.specs.Corrections.{fixed, resum, changeFaults, inChange, changed, correctLines, correct}
+use Rattle.meaning.specs.Reading.{read, judge, shape}
+use Rattle.meaning.specs.Lists.{setWithRoom}
+use Rattle.meaning.specs.Corrections.{changeFaults, inChange, changed, correctLines}
 use Rattle.meaning.proofs.LineLaws.{length-render}
-use Rattle.meaning.proofs.Bools.{and-left}
 use Rattle.meaning.proofs.RuleLaws.{ruled, begins-of}
-use Rattle.meaning.proofs.SetLaws.{Standing, accepted, sum-back}
+use Rattle.meaning.proofs.SetLaws.{accepted}
 use Rattle.meaning.proofs.CorrectionLaws.{Change, no-change-faults}
 use Rattle.meaning.proofs.Demands.{judge-read}
 use Rattle.offers.specs.declared.Offer.{Offer}
 use Rattle.offers.specs.Offered.{offered, offerLine, offerSpot}
 use Rattle.offers.proofs.OfferLaws.{Stands, offer-verdict, offer-good, offer-at}
-use Rattle.changes.specs.declared.Plan.{Plan}
-use Rattle.changes.specs.declared.Plan.the-variants.{Refused}
-use Rattle.changes.specs.Middle.{newTotal}
-use Rattle.changes.specs.Planned.{withinRoom, unless, making, planned}
-use Rattle.changes.proofs.LineChange.{Headed, total-is}
-
--- ---- the set's own refusals
-
-refused-read : (s : List ℕ) (r : Refusal) → judge s ≡ RefusedSet r → read s ≡ refused r
-unfolding judge
-refused-read s r e = go (read s) refl e
-  where
-    go : (x : Reply Parsed) → read s ≡ x → judged x ≡ RefusedSet r → read s ≡ refused r
-    go (refused y) q h = q ∙ ap refused cc
-    go (done d) q h = let z : _≡_ {A = ℕ} 0 1 = cc in absurd (omega arith)
-
-pub plan-unread : (s c : List ℕ) (room n : ℕ) (r : Refusal) → judge s ≡ RefusedSet r → planned s room n c ≡ Refused r
-unfolding planned
-plan-unread s c room n r e = rw (refused-read s r e)
+use Rattle.plans.specs.declared.Plan.{Plan}
+use Rattle.plans.specs.declared.Plan.the-variants.{Refused}
+use Rattle.plans.specs.Planned.{withinRoom, unless, making, planned}
+use Rattle.plans.proofs.TotalLaws.{Headed, headed, not-at, total-is}
 
 -- ---- an accepted set
-
-known-four : (c : List ℕ) → isKnown (typeNamed c) ≡ true → length c ≡ 4
-unfolding typeNamed
-known-four c e = go (eqb (length c) typeDigits && allDigits c) refl e
-  where
-    go : (t : Bool) → eqb (length c) typeDigits && allDigits c ≡ t → isKnown (cond t (typeOf (number c)) Nothing) ≡ true → length c ≡ 4
-    go true q h = eqb-true (length c) 4 (and-left (eqb (length c) typeDigits) (allDigits c) q)
-    go false q h = absurd (true≢false (sym h))
-
-first-known : (fs : List Field) → typeKnown fs ≡ true → length (contentAtLine fs 0) ≡ 4
-unfolding profile
-first-known fs e = known-four (contentAtLine fs 0) e
-
-second-sum : (fs : List Field) → labelAtLine fs 1 ≡ 8100 → fs ≡ resum fs → length (contentAtLine fs 1) ≡ sumDigits
-second-sum [] l e = absurd (omega arith)
-second-sum (f ∷ []) l e = absurd (omega arith)
-second-sum (f ∷ g ∷ fs) l e = ap (λ (x : List Field). length (contentAtLine x 1)) e
-
-pub headed : (fs : List Field) → Standing fs → Headed fs
-headed fs st =
-    let b = begins-of fs (ruled fs (st .right) .0 .begins) in
-    record { first-four = first-known fs (b .type-known); second-five = second-sum fs (b .second-label) (sum-back fs (st .right)); second-label = b .second-label }
-
--- a line that may be corrected is not line 1 or 2
-pub not-at : (fs : List Field) (k i l : ℕ) → fixed l ≡ true → labelAtLine fs i ≡ l → fixed (labelAtLine fs k) ≡ false → i ≡ k → ⊥
-not-at fs k i l t e h q = true≢false (sym t ∙ (ap fixed (sym e) ∙ (ap (λ (j : ℕ). fixed (labelAtLine fs j)) q ∙ h)))
 
 not-nil : (t : List ℕ) → 0 < length t → isNil t ≡ false
 not-nil [] h = absurd (omega arith)
@@ -142,7 +96,7 @@ pub record Ready (s c : List ℕ) (room n : ℕ) (o : Offer) : Type 0 where
   pub least : lineLead + lineEnd ≤ o .size
   pub within : o .size - (lineLead + lineEnd) ≤ length s
   pub plan :
-      planned s room n c ≡ withinRoom room (o .at) (o .size - (lineLead + lineEnd)) (newTotal (o .size - (lineLead + lineEnd)) c (length s))
+      planned s room n c ≡ withinRoom room (o .at) (o .size - (lineLead + lineEnd)) (length s - (o .size - (lineLead + lineEnd)) + length c)
 
 module _ (s c : List ℕ) (room n : ℕ) (x : Shape) (j : judge s ≡ AcceptedSet x) where
   abbrev what : Parsed
@@ -178,7 +132,7 @@ module _ (s c : List ℕ) (room n : ℕ) (x : Shape) (j : judge s ≡ AcceptedSe
       let hd : Headed fs = headed fs (accepted s what was-read .standing) in
       let b = begins-of fs (ruled fs (accepted s what was-read .standing .right) .0 .begins) in
       let l : length s ≡ size fs = omega (arith, long s c room n what was-read, length-so) in
-      let t : newTotal (length (contentAtLine fs k)) c (size fs) ≡ size (changed fs n c) =
+      let t : size fs - length (contentAtLine fs k) + length c ≡ size (changed fs n c) =
       total-is c fs k hd (not-at fs k 0 8000 refl (b .first-label) (ch .free)) (not-at fs k 1 8100 refl (b .second-label) (ch .free)) (omega (arith, ch .least, ch .most)) in
       let new : List Field = changed fs n c in
       record {

@@ -2,8 +2,8 @@
 -- Assumes nothing.
 use mathlib.Core.Path.{refl}
 use borrow.Author.Tests.{eq-eqb, ne-eqb}
-use Rattle.changes.proofs.place_of.Statement.{statement}
-use Rattle.changes.proofs.place_of.Tie as tie
+use Rattle.plans.proofs.place_of.Statement.{statement}
+use Rattle.plans.proofs.place_of.Tie as tie
 
 returns : tie.Need-returns
 returns c = rw (eq-eqb _ _ (c .if1 .taken)) refl
