@@ -25,7 +25,7 @@ use Rattle.lines.specs.Line.{firstLow}
 use Rattle.lines.proofs.Laws.{byte-then}
 use Rattle.entries.specs.declared.Head.{Head}
 use Rattle.entries.specs.declared.Head.the-variants.{Whole, Cut}
-use Rattle.entries.specs.Head.{entryAt}
+use Rattle.entries.specs.Head.{entryAt, behindHead, headsEnd}
 use Rattle.entries.proofs.HeadLaws.{headOf, entry-is, whole-back}
 use Rattle.checks.specs.declared.Item.{Item}
 use Rattle.checks.specs.declared.Item.the-variants.{Read}
@@ -126,6 +126,36 @@ check-counts l (suc k) at n = go (leb (length l) at) (checkEntry l at) (λ m. ch
     go true x h = omega arith
     go false (Read label m) h = fewer (checkFrom l (at + (entryLead + m)) (n + 1) k) (h m)
     go false (Item.Refused r) h = tt
+
+-- a check that refuses
+abbrev pub Refuses : Checked → Type 0
+Refuses (Done n) = ⊥
+Refuses (Refused r) = Unit
+
+-- the check refuses where the heads do not lead to the end
+pub heads-refuse : (l : List ℕ) (k at n : ℕ) → headsEnd l at k ≡ false → Refuses (checkFrom l at n k)
+unfolding headsEnd checkFrom checkEntry checkContent
+heads-refuse l zero at n e = go (leb (length l) at) e
+  where
+    go : (b : Bool) → b ≡ false → Refuses (cond b (Done n) (Refused (refusal tooManyLines at 0)))
+    go true q = let z : _≡_ {A = ℕ} 0 1 = cc in absurd (omega arith)
+    go false q = tt
+heads-refuse l (suc k) at n e = go (leb (length l) at) (entryAt l at) e (λ m. heads-refuse l k (at + (entryLead + m)) (n + 1))
+  where
+    rest : ℕ → Checked
+    rest m = checkFrom l (at + (entryLead + m)) (n + 1) k
+
+    by : (label m : ℕ) (a b : Bool) (r q : Refusal) → Refuses (rest m) → Refuses (afterEntry (cond a (cond b (Read label m) (Item.Refused r)) (Item.Refused q)) rest)
+    by label m true true r q h = h
+    by label m true false r q h = tt
+    by label m false b r q h = tt
+
+    go : (b : Bool) (h : Head) → cond b true (behindHead h (λ m. headsEnd l (at + (entryLead + m)) k)) ≡ false
+        → ((m : ℕ) → headsEnd l (at + (entryLead + m)) k ≡ false → Refuses (rest m))
+        → Refuses (cond b (Done n) (afterEntry (byHead h (Item.Refused (refusal badList at 0)) (λ label m. checkContent l at label m)) rest))
+    go true h q ih = let z : _≡_ {A = ℕ} 0 1 = cc in absurd (omega arith)
+    go false Cut q ih = tt
+    go false (Whole label m) q ih = by label m (leb label maxLabel) (leb (at + entryLead + m) (firstLow l (at + entryLead) m)) _ _ (ih m q)
 
 -- ---- what the walk means
 

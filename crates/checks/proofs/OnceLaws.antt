@@ -18,7 +18,7 @@ use Rattle.meaning.specs.Entries.{entryLead}
 use Rattle.meaning.specs.Rules.{typeNamed}
 use Rattle.meaning.specs.Answers.{noRefusal}
 use Rattle.entries.specs.declared.Head.the-variants.{Whole, Cut}
-use Rattle.entries.specs.Head.{entryAt}
+use Rattle.entries.specs.Head.{entryAt, headsEnd}
 use Rattle.entries.proofs.HeadLaws.{whole-back}
 use Rattle.lacks.specs.Lacks.{orElse, State, finish, stateOf}
 use Rattle.lacks.proofs.FirstLaws.{or-zero, or-bad}
@@ -30,7 +30,7 @@ use Rattle.checks.specs.declared.Turn.{Turn}
 use Rattle.checks.specs.declared.Checked.{Checked}
 use Rattle.checks.specs.declared.Checked.the-variants.{Done, Refused}
 use Rattle.checks.specs.Judging.{contentOf, checkEntry, checkFrom, Turned, entriesPass, started, firstEntry, judgeEntries, doneUnless, ruled, entriesLeft, judgedList}
-use Rattle.checks.proofs.CheckLaws.{entry-cut, check-done, check-full, check-bad, check-further, checked-head, Counts, check-counts, digits-kept}
+use Rattle.checks.proofs.CheckLaws.{entry-cut, check-done, check-full, check-bad, check-further, checked-head, Counts, check-counts, Refuses, heads-refuse, digits-kept}
 use Rattle.checks.proofs.EntryPass.{pass-bad, pass-on, type-digits, first-other, first-unknown, first-known}
 
 -- ---- what a check leaves to be judged
@@ -176,3 +176,12 @@ module _ (l : List ℕ) where
   pub list-whole : {label m : ℕ} → entryAt l 0 ≡ Whole label m → ruled (checkFrom l 0 0 maxEntries) (λ n. firstEntry l label m n) ≡ judgedList l
   unfolding judgedList judgeEntries
   list-whole {label} {m} e = all-same l (λ n. firstEntry l label m n) (λ n. judgeEntries l n) (λ n. sym (rw e))
+
+  -- a list whose heads do not lead to its end: the check refuses it, and nothing waits for a rule
+  pub list-broken : headsEnd l 0 maxEntries ≡ false → (late : Refusal) → entriesLeft l T6300 late started noRefusal 0 0 ≡ judgedList l
+  unfolding entriesLeft judgedList
+  list-broken e late = go (checkFrom l 0 0 maxEntries) _ _ (heads-refuse l maxEntries 0 0 e)
+    where
+      go : (x : Checked) (f g : ℕ → Refusal) → Refuses x → ruled x f ≡ ruled x g
+      go (Done n) f g h = absurd h
+      go (Refused r) f g h = refl

@@ -1,6 +1,7 @@
 // `judge_list`: what a field list is that a set is written from, or its first refusal by 7, 21, 6, 8, 9, 11 to 16.
 // Assumes nothing: it has no `requires`. The other functions are its parts; each contract cites a walk of specs/, and proofs/EntryPass says what the walks mean.
 ghost use mathlib.Core.Path.{_≡_};
+ghost use mathlib.Core.Bool.{true, false};
 ghost use Prim.Native.Nat.{_+_, _≤_};
 ghost use lib.ListN.{length};
 ghost use Rattle.meaning.specs.declared.SetType.the-variants.{T6300};
@@ -8,7 +9,7 @@ ghost use Rattle.meaning.specs.Limits.{maxEntries};
 ghost use Rattle.meaning.specs.Entries.{entryLead};
 ghost use Rattle.meaning.specs.Answers.{noRefusal};
 ghost use Rattle.entries.specs.declared.Head.the-variants.{Whole};
-ghost use Rattle.entries.specs.Head.{entryAt};
+ghost use Rattle.entries.specs.Head.{entryAt, headsEnd};
 ghost use Rattle.lacks.specs.Lacks.{orElse, finish, stateOf};
 ghost use Rattle.checks.specs.Judging.{contentOf, checkEntry, checkFrom, Turned, started, firstEntry, doneUnless, ruled, entriesLeft, judgedList};
 use entries::Head;
@@ -19,6 +20,9 @@ use meaning::SetType;
 
 // "more than 511 (7)": 8100 has no entry.
 const ENTRIES: usize = SetType::LINES - 1;
+
+// A list of no more bytes than this has no more entries, since each has a head.
+const FEW_BYTES: usize = ENTRIES * entries::ENTRY_LEAD;
 
 // The largest number that four digits write.
 const MAX_LABEL: usize = 9_999;
@@ -187,10 +191,26 @@ fn first_entry(list: &[u8], label: usize, bytes: usize) -> Checked
     pass_entries(list, kind, lacks::nothing(), end, 1)
 }
 
-// "It checks entries in order: more than 511 (7), 21, 6; then 8, 9, and 11 to 16".
+// The heads of a long list do not lead to its end in 511 entries: 7, 21 or 6 refuses it, whatever the rules say of it.
+fn breaks_off(list: &[u8]) -> bool
+    ensures { λ r. ⌜ (r ≡ true → headsEnd (now (list .entry)) 0 maxEntries ≡ false) ⌝ }
+{
+    if list.len() <= FEW_BYTES {
+        return false;
+    }
+    if entries::heads_end(list, ENTRIES) {
+        return false;
+    }
+    true
+}
+
+// "It checks entries in order: more than 511 (7), 21, 6; then 8, 9, and 11 to 16". No rule is asked of a list that is known to be refused before them.
 pub fn judge_list(list: &[u8]) -> Checked
     ensures { λ r. ⌜ r ≡ judgedList (now (list .entry)) ⌝ }
 {
+    if breaks_off(list) {
+        return check_then(list, lacks::refused_at(Refusal::BAD_LIST, 0));
+    }
     match entries::entry_at(list, 0) {
         Head::Cut => Checked::Refused(lacks::refused_at(Refusal::BAD_LIST, 0)),
         Head::Whole { kind, length } => first_entry(list, kind, length),

@@ -3,7 +3,7 @@
 use mathlib.Core.Path.{_≡_, refl, sym, ap, _∙_}
 use mathlib.Core.Bool.{Bool, true, false, cond, _&&_}
 use mathlib.Core.List.{List}
-use Prim.Native.Nat.{ℕ, suc, _+_, _≤_, _<_}
+use Prim.Native.Nat.{ℕ, zero, suc, _+_, _-_, _≤_, _<_}
 use native.Mathlib.Omega.{arith}
 use native.Mathlib.Nat.{add-zero}
 use borrow.Author.Tests.{le-leb, lt-leb, leb-true, leb-false}
@@ -14,7 +14,7 @@ use Rattle.meaning.specs.Entries.{entryLead, twoBytesAt, entryLabel, entryConte
 use Rattle.meaning.proofs.EntryLaws.{entire}
 use Rattle.entries.specs.declared.Head.{Head}
 use Rattle.entries.specs.declared.Head.the-variants.{Whole, Cut}
-use Rattle.entries.specs.Head.{entryAt}
+use Rattle.entries.specs.Head.{entryAt, headsEnd}
 
 -- ---- the ways that the code takes
 
@@ -104,3 +104,26 @@ cut-back s at e = go (entryWhole (drop at s)) refl (sym (entry-is s at) ∙ e)
     go : (b : Bool) → entryWhole (drop at s) ≡ b → headOf b (drop at s) ≡ Cut → b ≡ false
     go true q h = let z : _≡_ {A = ℕ} 0 1 = cc in absurd (omega arith)
     go false q h = refl
+
+-- ---- the heads from an offset on, as the code takes them
+
+module _ (s : List ℕ) (at : ℕ) where
+  pub heads-over : (k : ℕ) → length s ≤ at → headsEnd s at k ≡ true
+  unfolding headsEnd
+  heads-over zero h = le-leb (length s) at h
+  heads-over (suc k) h = rw (le-leb (length s) at h)
+
+  module _ (h : at < length s) where
+    pub heads-many : {k : ℕ} → k ≡ 0 → headsEnd s at k ≡ false
+    unfolding headsEnd
+    heads-many e = rw e (lt-leb (length s) at h)
+
+    pub heads-cut : {k : ℕ} → (k ≡ 0 → ⊥) → entryAt s at ≡ Cut → headsEnd s at k ≡ false
+    unfolding headsEnd
+    heads-cut {k} g e =
+        let q : k ≡ suc (k - 1) = omega (arith, g) in
+        rw (q, lt-leb (length s) at h, e)
+
+    pub heads-further : {k j : ℕ} → k ≡ suc j → {kind n : ℕ} → entryAt s at ≡ Whole kind n → headsEnd s at k ≡ headsEnd s (at + (entryLead + n)) j
+    unfolding headsEnd
+    heads-further q e = rw (q, lt-leb (length s) at h, e)

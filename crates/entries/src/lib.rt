@@ -1,10 +1,10 @@
-// The head of an entry at an offset of a field list or a sheet: "content length in two bytes, kind in two bytes .., both little-endian, then the content".
-// Assumes nothing of the bytes or the offset: the contract cites a walk of specs/, and proofs/HeadLaws says what it means.
+// The head of an entry at an offset of a field list or a sheet: "content length in two bytes, kind in two bytes .., both little-endian, then the content". And where heads lead to.
+// Assumes nothing of the bytes or the offset: the contracts cite walks of specs/, and proofs/HeadLaws says what they mean.
 ghost use mathlib.Core.Path.{_≡_};
 ghost use Prim.Native.Nat.{_+_, _*_, _≤_};
 ghost use lib.ListN.{length};
 ghost use Rattle.meaning.specs.Entries.{byteValues, twoBytesAt};
-ghost use Rattle.entries.specs.Head.{entryAt};
+ghost use Rattle.entries.specs.Head.{entryAt, headsEnd};
 
 // The bytes of a length or a kind.
 pub const NUMBER_BYTES: usize = 2;
@@ -54,4 +54,27 @@ pub fn entry_at(s: &[u8], at: usize) -> Head
     }
     let kind = two_bytes(s, at + NUMBER_BYTES);
     Head::Whole { kind, length }
+}
+
+// The heads lead from entry to entry to the end of the bytes, and there are no more than `most`. Of the contents nothing is asked.
+pub fn heads_end(s: &[u8], most: usize) -> bool
+    ensures { λ r. ⌜ r ≡ headsEnd (now (s .entry)) 0 most ⌝ }
+{
+    let mut at: usize = 0;
+    let mut left = most;
+    while at < s.len() {
+        if left == 0 {
+            return false;
+        }
+        match entry_at(s, at) {
+            Head::Cut => {
+                return false;
+            }
+            Head::Whole { kind: _, length } => {
+                at += ENTRY_LEAD + length;
+                left -= 1;
+            }
+        }
+    }
+    true
 }
