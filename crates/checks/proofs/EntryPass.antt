@@ -36,7 +36,8 @@ use Rattle.lacks.proofs.FlagLaws.{Same, begin-same}
 use Rattle.steps.specs.declared.Step.{Step}
 use Rattle.steps.specs.Steps.{rowOf, againNo, placeNo, labelNo, versionNo, contentNo, lineNo, nextState, staysIn, Stepped}
 use Rattle.steps.proofs.SameLaws.{whole, pass-line, pass-finish}
-use Rattle.rules.proofs.JudgeLaws.{middle, real-middle, ofType, starts, real-starts, whole-found}
+use Rattle.steps.proofs.FoundLaws.{middle, real-middle, ofType, whole-found}
+use Rattle.starts.proofs.Laws.{starts, real-starts}
 use Rattle.checks.specs.Judging.{contentOf, stepThen, entriesPass, row8000, started, byKnown, firstEntry, judgeEntries}
 use Rattle.checks.proofs.CheckLaws.{Reads}
 

@@ -185,7 +185,7 @@ fn first_entry(list: &[u8], label: usize, bytes: usize) -> Checked
     }
     // 9, UnknownSet: "8000 names none of the five"
     let end = entries::ENTRY_LEAD + bytes;
-    let Known::Of(kind) = rules::type_of(&list[entries::ENTRY_LEAD..end]) else {
+    let Known::Of(kind) = starts::type_of(&list[entries::ENTRY_LEAD..end]) else {
         return check_then(list, lacks::refused_at(Refusal::UNKNOWN_SET, 0));
     };
     pass_entries(list, kind, lacks::nothing(), end, 1)

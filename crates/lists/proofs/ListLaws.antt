@@ -36,8 +36,8 @@ use Rattle.lines.specs.Line.{lineAt}
 use Rattle.lines.specs.Told.{toldLength, toldLabel}
 use Rattle.lines.proofs.Bridge.{read-line, read-back}
 use Rattle.lines.proofs.ToldLaws.{read-told}
-use Rattle.rules.specs.Walks.{contentOf}
-use Rattle.rules.proofs.PassLaws.{reads-content, reads-on}
+use Rattle.passes.specs.Pass.{contentOf}
+use Rattle.passes.proofs.PassLaws.{reads-content, reads-on}
 use Rattle.buffers.specs.Places.{over}
 use Rattle.buffers.proofs.LendLaws.{mid-tail, put-tail, length-over}
 use Rattle.lists.specs.Listing.{AllRead, lineEntry, entriesFrom}

@@ -10,7 +10,7 @@ use Rattle.meaning.specs.Entries.{entryThen}
 use Rattle.lines.specs.declared.Line.{Line}
 use Rattle.lines.specs.declared.Line.the-variants.{Read, Refused}
 use Rattle.lines.specs.Line.{lineAt}
-use Rattle.rules.specs.Walks.{contentOf}
+use Rattle.passes.specs.Pass.{contentOf}
 
 -- the n lines from an offset on are all read
 unfoldable pub AllRead : List ℕ → ℕ → ℕ → Type 0

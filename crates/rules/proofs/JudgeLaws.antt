@@ -10,20 +10,17 @@ use lib.Dec.{eqb}
 use lib.ListN.{length, drop, take, length-take}
 use borrow.Author.Tests.{ne-eqb, eqb-true, le-leb}
 use Rattle.meaning.specs.declared.Refusal.{Refusal}
-use Rattle.meaning.specs.declared.Row.{Row}
 use Rattle.meaning.specs.declared.Judged.{Judged}
 use Rattle.meaning.specs.declared.Known.{Known}
 use Rattle.meaning.specs.declared.Known.the-variants.{Of, Nothing}
 use Rattle.meaning.specs.declared.SetType.{SetType}
 use Rattle.meaning.specs.Digits.{number, allDigits}
-use Rattle.meaning.specs.Field.{Field, field, labels, contentAtLine}
+use Rattle.meaning.specs.Field.{Field, field, contentAtLine}
 use Rattle.meaning.specs.Refusals.{Spot, start, Fault, atLine, ask, refusal, noStart, unknownSet, noSum, badSum, Reply, refused, done, verdict}
 use Rattle.meaning.specs.Pieces.{Parsed, parsed}
 use Rattle.meaning.specs.Lines.{lineSize, lineThen, size, render, lineLead}
-use Rattle.meaning.specs.Tables.{table, setLevel}
-use Rattle.meaning.specs.Groups.{first, after}
-use Rattle.meaning.specs.Missing.{lacking, among, groupsLacking, missingFaults}
-use Rattle.meaning.specs.Rules.{Profile, profile, typeNamed, isKnown, rowsOf, fits, startFaults, rulesFrom, sumFaults, ruleFaults, setFaults}
+use Rattle.meaning.specs.Groups.{first}
+use Rattle.meaning.specs.Rules.{Profile, profile, typeNamed, isKnown, fits, startFaults, rulesFrom, sumFaults, ruleFaults, setFaults}
 use Rattle.meaning.specs.Reading.{inSet, scan, byRules, read, judged, judge}
 use Rattle.meaning.specs.Lists.{sumDigits}
 use Rattle.meaning.specs.Answers.{noRefusal}
@@ -36,52 +33,22 @@ use Rattle.lines.specs.declared.Number.the-variants.{Is}
 use Rattle.lines.specs.Number.{numberAt}
 use Rattle.lines.proofs.Bridge.{summary, asNumber, number-is, scan-is, read-line}
 use Rattle.lacks.specs.Lacks.{orElse, begin}
-use Rattle.lacks.proofs.FirstLaws.{firstOf, Real, first-append, real-append, real-ask, real-rule, first-none, or-assoc, or-none, or-bad, or-then}
+use Rattle.lacks.proofs.FirstLaws.{firstOf, Real, first-append, real-append, real-ask, first-none, or-assoc, or-none, or-bad, or-then}
 use Rattle.lacks.proofs.FlagLaws.{begin-same}
-use Rattle.lacks.proofs.LackLaws.{real-lacking, real-groups}
-use Rattle.steps.proofs.SameLaws.{real-rules, whole}
-use Rattle.rules.specs.Walks.{passFrom, sumWalk, secondBy, secondWalk, asJudged, typedBy, firstBy, linesWalk, judgedScan, judgeWalk}
-use Rattle.rules.proofs.PassLaws.{reads-content, reads-on, pass-is}
+use Rattle.steps.proofs.FoundLaws.{middle, real-middle, ofType, whole-found}
+use Rattle.starts.specs.Sum.{sumWalk}
+use Rattle.starts.proofs.Laws.{starts, real-starts}
+use Rattle.passes.specs.Pass.{passFrom}
+use Rattle.passes.proofs.PassLaws.{reads-content, reads-on, pass-is}
+use Rattle.rules.specs.Walks.{secondBy, secondWalk, asJudged, typedBy, firstBy, linesWalk, judgedScan, judgeWalk}
 
 -- ---- 11 to 16, as found
-
-abbrev pub middle : Profile → List Field → List Fault
-middle p fs = rulesFrom p first 0 fs ++ missingFaults (rowsOf p) (labels fs)
-
-real-missing : (rs : List Row) (ls : List ℕ) → Real (missingFaults rs ls)
-unfolding missingFaults
-real-missing rs ls =
-    real-append (lacking rs setLevel 0 (among (after rs first 0 ls .top))) (groupsLacking rs first 0 ls) (real-lacking rs setLevel 0 (among (after rs first 0 ls .top))) (real-groups rs first 0 ls)
-
-pub real-middle : (p : Profile) (fs : List Field) → Real (middle p fs)
-real-middle p fs = real-append (rulesFrom p first 0 fs) _ (real-rules p first 0 fs) (real-missing (rowsOf p) (labels fs))
-
-abbrev pub ofType : SetType → Profile
-ofType kind = record { setType = Of kind }
-
--- what the pass finds over all lines of a set
-pub whole-found : (kind : SetType) (pl : ℕ → Spot → ℕ) (fs : List Field) → whole kind pl first 0 fs noRefusal ≡ firstOf pl (middle (ofType kind) fs)
-unfolding missingFaults
-whole-found kind pl fs =
-    let p : Profile = ofType kind in
-    let tops : List Fault = lacking (table kind) setLevel 0 (among (after (table kind) first 0 (labels fs) .top)) in
-    let groups : List Fault = groupsLacking (table kind) first 0 (labels fs) in
-    ap (λ (x : Refusal). orElse (firstOf pl (rulesFrom p first 0 fs)) (orElse (firstOf pl tops) x)) (or-none (firstOf pl groups))
-    ∙ (ap (orElse (firstOf pl (rulesFrom p first 0 fs))) (sym (first-append pl tops groups (real-lacking (table kind) setLevel 0 (among (after (table kind) first 0 (labels fs) .top)))))
-    ∙ sym (first-append pl (rulesFrom p first 0 fs) (tops ++ groups) (real-rules p first 0 fs)))
 
 pass-found : (s : List ℕ) (kind : SetType) (fs : List Field) (t : List ℕ) → Every Sound fs → s ≡ render fs t
     → passFrom s kind 0 begin noRefusal (length fs) ≡ firstOf (inSet fs) (middle (ofType kind) fs)
 pass-found s kind fs t h w = pass-is s kind fs fs t 0 0 begin first noRefusal h w (omega arith) refl refl (begin-same kind (inSet fs) refl) ∙ whole-found kind (inSet fs) fs
 
 -- ---- all rules, as found
-
-abbrev pub starts : Bool → Bool → Bool → List Fault
-starts a b c = ask a (atLine noStart 0 0) ++ (ask b (atLine unknownSet 0 0) ++ ask c (atLine noSum 1 0))
-
-pub real-starts : (a b c : Bool) → Real (starts a b c)
-real-starts a b c =
-    real-rule a (atLine noStart 0 0) _ (λ z. omega arith) (real-rule b (atLine unknownSet 0 0) (ask c (atLine noSum 1 0)) (λ z. omega arith) (real-ask c (atLine noSum 1 0) (λ z. omega arith)))
 
 module _ (fs : List Field) (a b c : Bool) (e : startFaults fs ≡ starts a b c) where
   real-set : Real (setFaults fs)

@@ -1,13 +1,12 @@
 -- Laws of the walk's ends, 8 to 10 and 17, for the proofs of the functions around the pass: what each `return` has to show.
 -- Assumes nothing.
 use mathlib.Core.Path.{_≡_, refl, sym, ap, _∙_, subst}
-use mathlib.Core.Bool.{Bool, true, false, cond, _&&_}
+use mathlib.Core.Bool.{Bool, true, false, cond}
 use mathlib.Core.List.{List}
 use Prim.Native.Nat.{ℕ, _+_, _-_}
 use native.Mathlib.Omega.{arith}
 use lib.Dec.{leb, eqb}
 use lib.ListN.{length, take, drop}
-use lib.Seq.{take-all}
 use borrow.Author.Tests.{eq-eqb, ne-eqb, le-leb}
 use Rattle.meaning.specs.declared.Refusal.{Refusal}
 use Rattle.meaning.specs.declared.Judged.{Judged}
@@ -15,14 +14,11 @@ use Rattle.meaning.specs.declared.Judged.the-variants.{Accepted}
 use Rattle.meaning.specs.declared.Known.{Known}
 use Rattle.meaning.specs.declared.Known.the-variants.{Of, Nothing}
 use Rattle.meaning.specs.declared.SetType.{SetType}
-use Rattle.meaning.specs.Limits.{maxLines, typeOf, typeNumber}
-use Rattle.meaning.specs.Digits.{number, allDigits}
-use Rattle.meaning.specs.Refusals.{refusal, empty, noStart, unknownSet, noSum, badSum}
-use Rattle.meaning.specs.Lines.{lengthDigits, labelDigits, lineLead}
-use Rattle.meaning.specs.Rules.{typeNamed, typeDigits}
-use Rattle.meaning.specs.Lists.{sumDigits}
+use Rattle.meaning.specs.Limits.{maxLines, typeNumber}
+use Rattle.meaning.specs.Refusals.{refusal, empty, noStart, unknownSet, noSum}
+use Rattle.meaning.specs.Lines.{lengthDigits, labelDigits}
+use Rattle.meaning.specs.Rules.{typeNamed}
 use Rattle.meaning.specs.Answers.{noRefusal}
-use Rattle.lines.specs.declared.Number.{Number}
 use Rattle.lines.specs.declared.Number.the-variants.{Is, None}
 use Rattle.lines.specs.declared.Line.{Line}
 use Rattle.lines.specs.declared.Line.the-variants.{Read, Refused}
@@ -32,56 +28,12 @@ use Rattle.lines.specs.Number.{numberAt}
 use Rattle.lines.specs.Line.{lineAt}
 use Rattle.lines.specs.Scan.{endsAt, scanFrom, scanSet}
 use Rattle.lines.proofs.Laws.{scan-bad, scan-further}
-use Rattle.lines.proofs.Bridge.{asNumber, number-is, read-back}
+use Rattle.lines.proofs.Bridge.{read-back}
 use Rattle.lacks.specs.Lacks.{orElse, begin}
-use Rattle.rules.specs.Walks.{afterLine, contentOf, passFrom, firstUnread, doneUnless, Stops, passed, sumWalk, ruledWalk, secondBy, secondWalk, asJudged, typedBy, firstBy, linesWalk, judgedScan, judgeWalk}
-use Rattle.rules.proofs.OnceLaws.{Counts, scan-counts, label-read, ends-label, stops-unread, scan-first}
-
--- ---- 9: the type that a content names
-
-knownBy : Number → Known
-knownBy (Is n) = typeOf n
-knownBy None = Nothing
-
-pub type-other : (c : List ℕ) → (length c ≡ typeDigits → ⊥) → Nothing ≡ typeNamed c
-unfolding typeNamed
-type-other c h = rw (ne-eqb (length c) typeDigits h)
-
-type-read : (c : List ℕ) → length c ≡ typeDigits → knownBy (numberAt c 0 typeDigits) ≡ typeNamed c
-unfolding typeNamed knownBy
-type-read c h =
-    let t : take typeDigits c ≡ c = take-all typeDigits c (omega arith) in
-    ap knownBy (number-is c 0 typeDigits (omega arith) (omega arith))
-    ∙ (ap (λ (b : Bool). knownBy (asNumber (b && allDigits (take typeDigits c)) (number (take typeDigits c)))) (le-leb typeDigits (length c) (omega arith))
-    ∙ (ap (λ (x : List ℕ). knownBy (asNumber (allDigits x) (number x))) t
-    ∙ (go (allDigits c) ∙ sym (ap (λ (b : Bool). cond (b && allDigits c) (typeOf (number c)) Nothing) (eq-eqb (length c) typeDigits h)))))
-  where
-    go : (b : Bool) → knownBy (asNumber b (number c)) ≡ cond b (typeOf (number c)) Nothing
-    go true = refl
-    go false = refl
-
-pub type-known : (c : List ℕ) → length c ≡ typeDigits → (n : ℕ) → numberAt c 0 typeDigits ≡ Is n → typeOf n ≡ typeNamed c
-unfolding knownBy
-type-known c h n q = sym (ap knownBy q) ∙ type-read c h
-
-pub type-none : (c : List ℕ) → length c ≡ typeDigits → numberAt c 0 typeDigits ≡ None → Nothing ≡ typeNamed c
-unfolding knownBy
-type-none c h q = sym (ap knownBy q) ∙ type-read c h
-
--- ---- 17
-
-module _ (s : List ℕ) (at total : ℕ) where
-  pub sum-none : numberAt s (at + lineLead) sumDigits ≡ None → refusal badSum at 0 ≡ sumWalk s at total
-  unfolding sumWalk
-  sum-none q = rw q
-
-  pub sum-right : (k : ℕ) → numberAt s (at + lineLead) sumDigits ≡ Is k → k ≡ total → noRefusal ≡ sumWalk s at total
-  unfolding sumWalk
-  sum-right k q e = rw (q, eq-eqb k total e)
-
-  pub sum-wrong : (k : ℕ) → numberAt s (at + lineLead) sumDigits ≡ Is k → (k ≡ total → ⊥) → refusal badSum at 0 ≡ sumWalk s at total
-  unfolding sumWalk
-  sum-wrong k q e = rw (q, ne-eqb k total e)
+use Rattle.starts.specs.Sum.{sumWalk}
+use Rattle.passes.specs.Pass.{afterLine, contentOf, passFrom, firstUnread, doneUnless, Stops, passed}
+use Rattle.passes.proofs.OnceLaws.{Counts, scan-counts, label-read, ends-label, stops-unread, scan-first}
+use Rattle.rules.specs.Walks.{ruledWalk, secondBy, secondWalk, asJudged, typedBy, firstBy, linesWalk, judgedScan, judgeWalk}
 
 -- ---- what the scan leaves to be judged
 

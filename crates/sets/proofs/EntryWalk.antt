@@ -31,7 +31,7 @@ use Rattle.tables.proofs.Laws.{find-is}
 use Rattle.lines.specs.Told.{toldLength, toldLabel}
 use Rattle.lines.proofs.Bridge.{read-line}
 use Rattle.lines.proofs.ToldLaws.{read-told}
-use Rattle.rules.proofs.PassLaws.{reads-on}
+use Rattle.passes.proofs.PassLaws.{reads-on}
 use Rattle.sets.specs.declared.Walk.{Walk}
 use Rattle.sets.specs.declared.Next.{Next}
 use Rattle.sets.specs.declared.Mark.{Mark}

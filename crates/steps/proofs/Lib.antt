@@ -2,3 +2,4 @@
 -- Assumes nothing.
 pub mod StepLaws
 pub mod SameLaws
+pub mod FoundLaws

@@ -1,13 +1,13 @@
 -- `first_line`: line 1 is another one, it names no type, it names one.
 -- Assumes nothing.
-use mathlib.Core.Path.{sym, ap, _∙_}
+use mathlib.Core.Path.{ap, _∙_}
 use native.Mathlib.Omega.{arith}
 use borrow.Author.Needs.{needs}
 use Rattle.meaning.specs.declared.Refusal.{Refusal}
 use Rattle.meaning.specs.declared.Judged.{Judged}
 use Rattle.lines.specs.Scan.{scanFrom}
 use Rattle.lines.proofs.Bridge.{read-back}
-use Rattle.rules.specs.Walks.{firstUnread}
+use Rattle.passes.specs.Pass.{firstUnread}
 use Rattle.rules.proofs.StartLaws.{first-other, first-untyped, first-start, first-named, first-typed}
 use Rattle.rules.proofs.first_line.Statement.{statement}
 use Rattle.rules.proofs.first_line.Tie as tie

@@ -7,7 +7,7 @@ use Rattle.meaning.specs.declared.Refusal.{Refusal}
 use Rattle.meaning.specs.declared.Judged.{Judged}
 use Rattle.lines.specs.Scan.{scanFrom}
 use Rattle.lines.proofs.Bridge.{read-back}
-use Rattle.rules.specs.Walks.{firstUnread}
+use Rattle.passes.specs.Pass.{firstUnread}
 use Rattle.rules.proofs.StartLaws.{second-none, second-other, second-summed}
 use Rattle.rules.proofs.second_line.Statement.{statement}
 use Rattle.rules.proofs.second_line.Tie as tie

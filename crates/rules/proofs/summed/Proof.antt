@@ -6,7 +6,8 @@ use borrow.Author.Needs.{needs}
 use Rattle.lines.specs.declared.Scan.{Scan}
 use Rattle.lines.specs.Scan.{scanSet}
 use Rattle.lines.proofs.Bridge.{read-back}
-use Rattle.rules.specs.Walks.{sumWalk, asJudged, judgedScan}
+use Rattle.starts.specs.Sum.{sumWalk}
+use Rattle.rules.specs.Walks.{asJudged, judgedScan}
 use Rattle.rules.proofs.StartLaws.{summed-is, judged-bad, judged-good}
 use Rattle.rules.proofs.summed.Statement.{statement}
 use Rattle.rules.proofs.summed.Tie as tie

@@ -3,9 +3,9 @@
 use mathlib.Core.Path.{sym, ap, _∙_}
 use borrow.Author.Needs.{needs}
 use Rattle.lines.specs.declared.Scan.{Scan}
-use Rattle.rules.specs.Walks.{firstUnread}
-use Rattle.rules.proofs.unless_unread.Statement.{statement}
-use Rattle.rules.proofs.unless_unread.Tie as tie
+use Rattle.passes.specs.Pass.{firstUnread}
+use Rattle.passes.proofs.unless_unread.Statement.{statement}
+use Rattle.passes.proofs.unless_unread.Tie as tie
 
 scan-from-requires : tie.Need-scan-from-requires
 scan-from-requires c κs = search needs

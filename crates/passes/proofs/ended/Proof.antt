@@ -2,10 +2,10 @@
 -- Assumes nothing.
 use mathlib.Core.Path.{sym, ap, _∙_}
 use borrow.Author.Needs.{needs}
-use Rattle.rules.specs.Walks.{finishedScan}
-use Rattle.rules.proofs.OnceLaws.{unless-bad, unless-good}
-use Rattle.rules.proofs.ended.Statement.{statement}
-use Rattle.rules.proofs.ended.Tie as tie
+use Rattle.passes.specs.Pass.{finishedScan}
+use Rattle.passes.proofs.OnceLaws.{unless-bad, unless-good}
+use Rattle.passes.proofs.ended.Statement.{statement}
+use Rattle.passes.proofs.ended.Tie as tie
 
 scan-from-requires : tie.Need-scan-from-requires
 scan-from-requires c κs = search needs

@@ -2,9 +2,9 @@
 -- Assumes nothing.
 use mathlib.Core.Path.{sym, _∙_}
 use borrow.Author.Needs.{needs}
-use Rattle.rules.proofs.StartLaws.{sum-none, sum-right, sum-wrong}
-use Rattle.rules.proofs.sum_at.Statement.{statement}
-use Rattle.rules.proofs.sum_at.Tie as tie
+use Rattle.starts.proofs.Laws.{sum-none, sum-right, sum-wrong}
+use Rattle.starts.proofs.sum_at.Statement.{statement}
+use Rattle.starts.proofs.sum_at.Tie as tie
 
 add-number-at : tie.Need-add-number-at
 add-number-at c = search needs

@@ -1,9 +1,9 @@
 -- `line_step`: the content of the line, and its step.
 -- Assumes nothing.
 use borrow.Author.Needs.{needs}
-use Rattle.rules.proofs.PassLaws.{step-line}
-use Rattle.rules.proofs.line_step.Statement.{statement}
-use Rattle.rules.proofs.line_step.Tie as tie
+use Rattle.passes.proofs.PassLaws.{step-line}
+use Rattle.passes.proofs.line_step.Statement.{statement}
+use Rattle.passes.proofs.line_step.Tie as tie
 
 add-from : tie.Need-add-from
 add-from c = search needs

@@ -28,7 +28,7 @@ use Rattle.lacks.proofs.FlagLaws.{Same}
 use Rattle.steps.specs.declared.Step.{Step}
 use Rattle.steps.specs.Steps.{rowOf, lineNo, Stepped}
 use Rattle.steps.proofs.SameLaws.{whole, pass-line, pass-finish}
-use Rattle.rules.specs.Walks.{contentOf, passFrom}
+use Rattle.passes.specs.Pass.{contentOf, passFrom}
 
 -- ---- the pass: one line more
 

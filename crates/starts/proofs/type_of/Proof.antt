@@ -2,9 +2,9 @@
 -- Assumes nothing.
 use mathlib.Core.Path.{sym, _∙_}
 use borrow.Author.Needs.{needs}
-use Rattle.rules.proofs.StartLaws.{type-other, type-known, type-none}
-use Rattle.rules.proofs.type_of.Statement.{statement}
-use Rattle.rules.proofs.type_of.Tie as tie
+use Rattle.starts.proofs.Laws.{type-other, type-known, type-none}
+use Rattle.starts.proofs.type_of.Statement.{statement}
+use Rattle.starts.proofs.type_of.Tie as tie
 
 returns : tie.Need-returns
 returns c = type-other _ (c .if1 .taken)

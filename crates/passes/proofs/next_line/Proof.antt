@@ -1,11 +1,11 @@
 -- `next_line`: 512 lines are read, the line is read, or it is not.
 -- Assumes nothing.
-use mathlib.Core.Path.{sym, ap, _∙_}
+use mathlib.Core.Path.{sym, _∙_}
 use native.Mathlib.Omega.{arith}
 use borrow.Author.Needs.{needs}
-use Rattle.rules.proofs.OnceLaws.{next-full, next-read, next-unread}
-use Rattle.rules.proofs.next_line.Statement.{statement}
-use Rattle.rules.proofs.next_line.Tie as tie
+use Rattle.passes.proofs.OnceLaws.{next-full, next-read, next-unread}
+use Rattle.passes.proofs.next_line.Statement.{statement}
+use Rattle.passes.proofs.next_line.Tie as tie
 
 returns : tie.Need-returns
 returns c = next-full _ _ _ (c .if1 .taken) 0

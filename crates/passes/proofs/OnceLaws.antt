@@ -39,8 +39,8 @@ use Rattle.lacks.specs.declared.Group.{Group}
 use Rattle.lacks.specs.Lacks.{orElse, State, noFlags, begin, openLack, firstLack, finish, stateOf}
 use Rattle.steps.specs.declared.Step.{Step}
 use Rattle.steps.specs.Steps.{rowOf, againNo, placeNo, labelNo, versionNo, contentNo, lineNo, nextState, staysIn, Stepped}
-use Rattle.rules.specs.Walks.{contentOf, passFrom, firstUnread, doneUnless, Stops, NextAt, finishedScan, passed}
-use Rattle.rules.proofs.PassLaws.{pass-bad, pass-on}
+use Rattle.passes.specs.Pass.{contentOf, passFrom, firstUnread, doneUnless, Stops, NextAt, finishedScan, passed}
+use Rattle.passes.proofs.PassLaws.{pass-bad, pass-on}
 
 -- ---- the scan
 

@@ -7,9 +7,9 @@ use Prim.Native.Nat.{_-_}
 use Rattle.meaning.specs.Limits.{maxLines}
 use Rattle.lines.specs.declared.Scan.the-variants.{Refused}
 use Rattle.lacks.specs.Lacks.{stateOf}
-use Rattle.rules.proofs.OnceLaws.{Along, along-start, along-end, along-few, along-least, along-within, along-bad, along-on}
-use Rattle.rules.proofs.pass.Statement.{statement}
-use Rattle.rules.proofs.pass.Tie as tie
+use Rattle.passes.proofs.OnceLaws.{Along, along-start, along-end, along-few, along-least, along-within, along-bad, along-on}
+use Rattle.passes.proofs.pass.Statement.{statement}
+use Rattle.passes.proofs.pass.Tie as tie
 
 abbrev Inv-loop : tie.InvT-loop
 Inv-loop s kind start members₀ top₀ group₀ at₀ lines₀ members top group at lines =
