@@ -2,7 +2,7 @@
 -- Assumes nothing.
 use mathlib.Core.Path.{_∙_}
 use borrow.Author.Needs.{needs}
-use Rattle.views.proofs.WalkLaws.{alone-follows, alone-zero, alone-beyond, alone-there}
+use Rattle.views.proofs.AloneLaws.{alone-follows, alone-zero, alone-beyond, alone-there}
 use Rattle.views.proofs.shown_alone.Statement.{statement}
 use Rattle.views.proofs.shown_alone.Tie as tie
 

@@ -1,8 +1,8 @@
--- `viewed`: the walk behind `judge`, which shows what the definition says (ShowingLaws).
+-- `viewed`: the walk behind `judge`, which shows what the definition says (AloneLaws).
 -- Assumes nothing.
 use mathlib.Core.Path.{sym, _∙_}
 use borrow.Author.Needs.{needs}
-use Rattle.views.proofs.ShowingLaws.{viewed-refused, viewed-accepted}
+use Rattle.views.proofs.AloneLaws.{viewed-refused, viewed-accepted}
 use Rattle.views.proofs.viewed.Statement.{statement}
 use Rattle.views.proofs.viewed.Tie as tie
 

@@ -1,6 +1,6 @@
--- The walk of `viewed` behind `judge`: the tests of an accepted set, then entry by entry over the bytes of the sheet, in the code's order.
--- Assumes nothing: these are definitions. What they mean is `viewed-accepted` in proofs/ShowingLaws.
-use mathlib.Core.Bool.{cond, _&&_}
+-- The walk of `shown_under`: entry by entry over the bytes of the sheet, in the code's order.
+-- Assumes nothing: these are definitions. What they mean is `under-is` in proofs/ShowingLaws.
+use mathlib.Core.Bool.{cond}
 use mathlib.Core.List.{List}
 use Prim.Native.Nat.{ℕ, zero, suc, pred, _+_, _-_}
 use lib.ListN.{length, take, drop}
@@ -8,8 +8,8 @@ use lib.Dec.{leb, eqb}
 use Rattle.meaning.specs.declared.Part.{Part}
 use Rattle.meaning.specs.declared.Shape.{Shape}
 use Rattle.meaning.specs.declared.Viewed.{Viewed}
-use Rattle.meaning.specs.declared.Viewed.the-variants.{Sheet, Set, Refused}
-use Rattle.meaning.specs.Refusals.{behind, refusal, badUse, noSuchLine, badList, tooManyLines}
+use Rattle.meaning.specs.declared.Viewed.the-variants.{Set, Refused}
+use Rattle.meaning.specs.Refusals.{behind, refusal, badList, tooManyLines}
 use Rattle.meaning.specs.Lines.{lineLead, lineEnd}
 use Rattle.meaning.specs.Entries.{entryLead}
 use Rattle.meaning.specs.Views.{part}
@@ -18,8 +18,9 @@ use Rattle.entries.specs.declared.Head.the-variants.{Whole, Cut}
 use Rattle.entries.specs.Head.{entryAt}
 use Rattle.offers.specs.declared.Offer.{Offer}
 use Rattle.offers.specs.Offered.{lineAfter, offered, offerSpot}
-use Rattle.views.specs.declared.Checked.{Checked}
-use Rattle.views.specs.declared.Checked.the-variants.{Good}
+use Rattle.parts.specs.Parts.{newer}
+use Rattle.sheets.specs.declared.Checked.{Checked}
+use Rattle.sheets.specs.declared.Checked.the-variants.{Good}
 
 -- ---- one entry of the sheet
 
@@ -37,10 +38,6 @@ unfoldable pub checkedAt : List ℕ → Shape → List ℕ → ℕ → Checked
 checkedAt s x h at = byHead s x h at (entryAt h at)
 
 -- ---- what is shown
-
--- "the last for a line counts": the part p of an entry for line k, where line n is asked for
-unfoldable pub newer : Viewed → Part → ℕ → ℕ → Viewed
-newer v p k n = cond (eqb k n) (Sheet p) v
 
 -- the part of the set that holds the content of line n
 unfoldable pub setPart : List ℕ → ℕ → Part
@@ -65,9 +62,3 @@ shownBySheet s x h n = shownFrom s x h n (length h) 0 (Set (part 0 0))
 -- the part of the set where the sheet has no entry for the line
 unfoldable pub shownUnder : List ℕ → Shape → List ℕ → ℕ → Viewed
 shownUnder s x h n = shownFrom s x h n (length h) 0 (Set (setPart s n))
-
--- the set alone (18), the asked line (19), then the sheet
-unfoldable pub shownAlone : List ℕ → Shape → List ℕ → ℕ → Viewed
-shownAlone s x h n =
-    cond (leb (length s) (x .length)) (cond (leb 1 n && leb n (x .lines)) (shownUnder s x h n) (Refused (refusal noSuchLine (x .length) 0)))
-    (Refused (refusal badUse (x .length) 0))

@@ -3,9 +3,9 @@
 use mathlib.Core.Path.{sym, ap, _∙_}
 use borrow.Author.Needs.{needs}
 use Rattle.meaning.specs.declared.Viewed.the-variants.{Set}
-use Rattle.views.proofs.WalkLaws.{under-by}
-use Rattle.views.proofs.shown_under.Statement.{statement}
-use Rattle.views.proofs.shown_under.Tie as tie
+use Rattle.sheets.proofs.WalkLaws.{under-by}
+use Rattle.sheets.proofs.shown_under.Statement.{statement}
+use Rattle.sheets.proofs.shown_under.Tie as tie
 
 shown-by-sheet-requires : tie.Need-shown-by-sheet-requires
 shown-by-sheet-requires c κs = search needs

@@ -1,8 +1,8 @@
 -- `newer_part` is the test of the line number.
 -- Assumes nothing.
-use Rattle.views.proofs.WalkLaws.{newer-this, newer-other}
-use Rattle.views.proofs.newer_part.Statement.{statement}
-use Rattle.views.proofs.newer_part.Tie as tie
+use Rattle.parts.proofs.PartLaws.{newer-this, newer-other}
+use Rattle.parts.proofs.newer_part.Statement.{statement}
+use Rattle.parts.proofs.newer_part.Tie as tie
 
 returns : tie.Need-returns
 returns c = newer-this _ _ _ _ (c .if1 .taken)

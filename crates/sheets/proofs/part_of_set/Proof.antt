@@ -5,10 +5,10 @@ use Prim.Native.Nat.{_-_, pred}
 use native.Mathlib.Omega.{arith}
 use borrow.Author.Needs.{needs}
 use Rattle.offers.specs.declared.OneLine.{OneLine}
-use Rattle.views.specs.Showing.{setPart}
-use Rattle.views.proofs.WalkLaws.{line-inside}
-use Rattle.views.proofs.part_of_set.Statement.{statement}
-use Rattle.views.proofs.part_of_set.Tie as tie
+use Rattle.sheets.specs.Showing.{setPart}
+use Rattle.sheets.proofs.WalkLaws.{line-inside}
+use Rattle.sheets.proofs.part_of_set.Statement.{statement}
+use Rattle.sheets.proofs.part_of_set.Tie as tie
 
 sub-line-after : tie.Need-sub-line-after
 sub-line-after c = search needs

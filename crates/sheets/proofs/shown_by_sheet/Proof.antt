@@ -5,10 +5,10 @@ use Prim.Native.Nat.{ℕ, _+_, _-_, _≤_, pred}
 use native.Mathlib.Omega.{arith}
 use borrow.Author.Needs.{needs}
 use lib.ListN.{length}
-use Rattle.views.specs.Showing.{shownFrom, shownBySheet}
-use Rattle.views.proofs.WalkLaws.{check-within, shown-end, shown-bad, shown-next}
-use Rattle.views.proofs.shown_by_sheet.Statement.{statement}
-use Rattle.views.proofs.shown_by_sheet.Tie as tie
+use Rattle.sheets.specs.Showing.{shownFrom, shownBySheet}
+use Rattle.sheets.proofs.WalkLaws.{check-within, shown-end, shown-bad, shown-next}
+use Rattle.sheets.proofs.shown_by_sheet.Statement.{statement}
+use Rattle.sheets.proofs.shown_by_sheet.Tie as tie
 
 abbrev Inv-loop : tie.InvT-loop
 Inv-loop set shape sheet line shown₀ at₀ shown at =

@@ -15,7 +15,7 @@ use Rattle.meaning.specs.declared.Shape.{Shape}
 use Rattle.meaning.specs.declared.Judged.the-variants.{Accepted}
 use Rattle.meaning.specs.declared.Viewed.{Viewed}
 use Rattle.meaning.specs.declared.Viewed.the-variants.{Sheet, Set, Refused}
-use Rattle.meaning.specs.Refusals.{behind, refusal, badByte, badUse, noSuchLine, badList, tooManyLines}
+use Rattle.meaning.specs.Refusals.{behind, refusal, badByte, badList, tooManyLines}
 use Rattle.meaning.specs.Lines.{minLineBytes}
 use Rattle.meaning.specs.Entries.{entryLead}
 use Rattle.meaning.specs.Reading.{judge}
@@ -29,15 +29,13 @@ use Rattle.offers.specs.declared.Offer.{Offer}
 use Rattle.offers.specs.declared.OneLine.{OneLine}
 use Rattle.offers.specs.Offered.{lineAfter, offered, offerSpot}
 use Rattle.offers.proofs.OfferLaws.{line-stands, offer-byte}
-use Rattle.views.specs.declared.Checked.{Checked}
-use Rattle.views.specs.declared.Checked.the-variants.{Good}
-use Rattle.views.specs.Showing.{byOffer, byHead, checkedAt, newer, setPart, checkedThen, shownFrom, shownBySheet, shownUnder, shownAlone}
+use Rattle.parts.specs.Parts.{newer}
+use Rattle.parts.proofs.PartLaws.{part-length}
+use Rattle.sheets.specs.declared.Checked.{Checked}
+use Rattle.sheets.specs.declared.Checked.the-variants.{Good}
+use Rattle.sheets.specs.Showing.{byOffer, byHead, checkedAt, setPart, checkedThen, shownFrom, shownBySheet, shownUnder}
 
 -- ---- one entry of the sheet
-
--- the length of a part from a on
-pub part-length : (a n : ℕ) → (a + n) - a ≡ n
-part-length a n = omega arith
 
 -- the byte that is told of a content of n bytes at a
 pub byte-within : (s : List ℕ) (x : Shape) (h : List ℕ) (a k n : ℕ) (o : Offer) → o ≡ offered s x k (take ((a + n) - a) (drop a h)) → o .byte ≤ n
@@ -81,15 +79,7 @@ check-within s x h at k n e = go (entryAt h at) refl e
         omega (arith, good-length (eqb (o .no) 0) (refusal (o .no) (at + behind entryLead (offerSpot o)) (o .label)) k n k′ n′ q, whole-back h at w .within)
     go Cut w q = let z : _≡_ {A = ℕ} 0 1 = cc in absurd (omega arith)
 
--- ---- what is shown
-
-pub newer-this : (v : Viewed) (p : Part) (k n : ℕ) → k ≡ n → Sheet p ≡ newer v p k n
-unfolding newer
-newer-this v p k n e = rw (eq-eqb k n e)
-
-pub newer-other : (v : Viewed) (p : Part) (k n : ℕ) → (k ≡ n → ⊥) → v ≡ newer v p k n
-unfolding newer
-newer-other v p k n e = rw (ne-eqb k n e)
+-- ---- the set
 
 -- a line of an accepted set lies within the set
 pub record Inside (s : List ℕ) (x : OneLine) : Type 0 where
@@ -171,23 +161,3 @@ module _ (s : List ℕ) (x : Shape) (h : List ℕ) (n : ℕ) (p : Part) where
 pub under-by : (s : List ℕ) (x : Shape) (h : List ℕ) (n : ℕ) (v : Viewed) → shownBySheet s x h n ≡ v → withSet (setPart s n) v ≡ shownUnder s x h n
 unfolding shownBySheet shownUnder
 under-by s x h n v e = ap (withSet (setPart s n)) (sym e) ∙ shown-set s x h n (setPart s n) (length h) 0 (Set (part 0 0))
-
--- ---- an accepted set
-
-module _ (s : List ℕ) (x : Shape) (h : List ℕ) (n : ℕ) where
-  pub alone-follows : x .length < length s → Refused (refusal badUse (x .length) 0) ≡ shownAlone s x h n
-  unfolding shownAlone
-  alone-follows a = rw (lt-leb (length s) (x .length) a)
-
-  module _ (a : length s ≤ x .length) where
-    pub alone-zero : n < 1 → Refused (refusal noSuchLine (x .length) 0) ≡ shownAlone s x h n
-    unfolding shownAlone
-    alone-zero b = rw (le-leb (length s) (x .length) a, lt-leb 1 n b)
-
-    pub alone-beyond : 1 ≤ n → x .lines < n → Refused (refusal noSuchLine (x .length) 0) ≡ shownAlone s x h n
-    unfolding shownAlone
-    alone-beyond b c = rw (le-leb (length s) (x .length) a, le-leb 1 n b, lt-leb n (x .lines) c)
-
-    pub alone-there : 1 ≤ n → n ≤ x .lines → shownUnder s x h n ≡ shownAlone s x h n
-    unfolding shownAlone
-    alone-there b c = rw (le-leb (length s) (x .length) a, le-leb 1 n b, le-leb n (x .lines) c)

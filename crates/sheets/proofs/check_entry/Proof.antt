@@ -5,9 +5,10 @@ use Prim.Native.Nat.{_+_}
 use native.Mathlib.Omega.{arith}
 use borrow.Author.Needs.{needs}
 use Rattle.entries.proofs.HeadLaws.{whole-back}
-use Rattle.views.proofs.WalkLaws.{part-length, byte-within, check-cut, check-good, check-low, check-bad}
-use Rattle.views.proofs.check_entry.Statement.{statement}
-use Rattle.views.proofs.check_entry.Tie as tie
+use Rattle.parts.proofs.PartLaws.{part-length}
+use Rattle.sheets.proofs.WalkLaws.{byte-within, check-cut, check-good, check-low, check-bad}
+use Rattle.sheets.proofs.check_entry.Statement.{statement}
+use Rattle.sheets.proofs.check_entry.Tie as tie
 
 entry-at-requires : tie.Need-entry-at-requires
 entry-at-requires c κs = search needs

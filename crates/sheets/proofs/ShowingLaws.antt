@@ -1,45 +1,40 @@
 -- What the walk means: entry by entry it shows what the definition of `meaning` shows, and the part that is shown lies within its slice.
 -- Assumes nothing.
-use mathlib.Core.Path.{_≡_, refl, sym, ap, _∙_, subst}
-use mathlib.Core.Bool.{Bool, true, false, cond, _&&_}
+use mathlib.Core.Path.{_≡_, refl, sym, ap, _∙_}
+use mathlib.Core.Bool.{Bool, true, false, cond}
 use mathlib.Core.List.{List, [], _∷_, _++_}
 use mathlib.Core.Option.{Option, none, some}
 use Prim.Native.Nat.{ℕ, zero, suc, pred, _+_, _-_, _≤_}
 use native.Mathlib.Omega.{arith}
 use native.Mathlib.Nat.{add-zero}
-use borrow.Author.Tests.{le-leb, lt-leb, leb-true}
 use lib.Dec.{leb, eqb}
 use lib.ListN.{length, take, drop, length-take, length-drop}
-use lib.Seq.{drop-drop, take-all}
+use lib.Seq.{drop-drop}
 use Rattle.meaning.specs.declared.Part.{Part}
-use Rattle.meaning.specs.declared.Refusal.{Refusal}
 use Rattle.meaning.specs.declared.Shape.{Shape}
-use Rattle.meaning.specs.declared.Judged.{Judged}
-use Rattle.meaning.specs.declared.Judged.the-variants.{Accepted, Refused as RefusedSet}
+use Rattle.meaning.specs.declared.Judged.the-variants.{Accepted}
 use Rattle.meaning.specs.declared.Viewed.{Viewed}
 use Rattle.meaning.specs.declared.Viewed.the-variants.{Sheet, Set, Refused}
 use Rattle.meaning.specs.Field.{Field, field, contentAtLine, isNil}
-use Rattle.meaning.specs.Refusals.{Fault, atLine, ask, behind, Reply, refused, done, thenTo, verdict, refusal, badList, badUse, noSuchLine, tooManyLines}
+use Rattle.meaning.specs.Refusals.{Fault, atLine, ask, behind, Reply, refused, done, thenTo, refusal, badList, tooManyLines}
 use Rattle.meaning.specs.Pieces.{Form, Parsed, parsed, andBefore, pieceThen, pieces}
-use Rattle.meaning.specs.Lines.{lineLead, offset, size}
+use Rattle.meaning.specs.Lines.{lineLead, offset}
 use Rattle.meaning.specs.Entries.{twoBytesAt, entryLead, entryLabel, entryContent, entryWhole}
-use Rattle.meaning.specs.Reading.{shape, inSet, read, judged, judge}
-use Rattle.meaning.specs.Corrections.{aloneFaults, lineNumberFaults, changeFaults}
-use Rattle.meaning.specs.Views.{sheetEntryFaults, sheetForm, sheet, Pending, latest, part, shownPart, viewAnswer, viewing, viewed, view}
-use Rattle.meaning.proofs.Bools.{and-left, and-right}
-use Rattle.meaning.proofs.LineLaws.{length-render}
-use Rattle.meaning.proofs.SetLaws.{accepted}
+use Rattle.meaning.specs.Reading.{shape, read, judge}
+use Rattle.meaning.specs.Corrections.{changeFaults}
+use Rattle.meaning.specs.Views.{sheetEntryFaults, sheetForm, sheet, Pending, latest, part, shownPart, viewAnswer}
 use Rattle.meaning.proofs.EntryLaws.{entire}
-use Rattle.meaning.proofs.Demands.{judge-read}
 use Rattle.lines.proofs.Bridge.{nil-is}
 use Rattle.entries.proofs.HeadLaws.{headOf, entry-is}
 use Rattle.offers.specs.declared.Offer.{Offer}
 use Rattle.offers.specs.Offered.{offered, offerLine, offerSpot, offerFaults}
 use Rattle.offers.proofs.OfferLaws.{line-stands, offer-is}
-use Rattle.views.specs.declared.Checked.{Checked}
-use Rattle.views.specs.declared.Checked.the-variants.{Good}
-use Rattle.views.specs.Showing.{byOffer, byHead, checkedAt, newer, setPart, checkedThen, shownFrom, shownUnder, shownAlone}
-use Rattle.views.proofs.WalkLaws.{part-length, check-within, line-inside}
+use Rattle.parts.specs.Parts.{newer, Within}
+use Rattle.parts.proofs.PartLaws.{newer-within}
+use Rattle.sheets.specs.declared.Checked.{Checked}
+use Rattle.sheets.specs.declared.Checked.the-variants.{Good}
+use Rattle.sheets.specs.Showing.{byOffer, byHead, checkedAt, setPart, checkedThen, shownFrom, shownUnder}
+use Rattle.sheets.proofs.WalkLaws.{check-within, line-inside}
 
 -- ---- the sheet
 
@@ -155,68 +150,15 @@ module _ (s h : List ℕ) (d : Parsed) (r : read s ≡ done d) (n : ℕ) where
       let st = line-stands s d (pred n) r (omega arith) in
       rw (st .at-so, st .content-length)
 
-  under-is : 1 ≤ n → n ≤ length fs → shownUnder s (shape fs) h n ≡ shownBehind (sheet fs h) 0 none
+  -- what is shown under the whole sheet
+  pub under-is : 1 ≤ n → n ≤ length (d .fields)
+      → shownUnder s (shape (d .fields)) h n ≡ viewAnswer (thenTo (sheet (d .fields) h) (λ y. done (shownPart (d .fields) n (latest n 0 (y .fields) none))))
   unfolding shownUnder
   under-is lo hi = sym (sheet-is (length h) 0 none ∙ ap (λ (q : Part). shownFrom s (shape fs) h n (length h) 0 (Set q)) (part-is lo hi))
 
-  -- the set fills its slice where no byte follows it
-  fills : leb (length s) (size fs) ≡ isNil (d .rest)
-  fills = go (d .rest) (ap length (accepted s d r .bytes) ∙ length-render fs (d .rest))
-    where
-      go : (t : List ℕ) → length s ≡ size fs + length t → leb (length s) (size fs) ≡ isNil t
-      go [] e = le-leb (length s) (size fs) (omega arith)
-      go (b ∷ t) e = lt-leb (length s) (size fs) (omega arith)
-
-  -- behind all lines stands the set's length
-  behind-all : offset fs (length fs) + 0 ≡ size fs
-  behind-all = add-zero (offset fs (length fs)) ∙ ap size (take-all (length fs) fs (omega arith))
-
-  alone-is : shownAlone s (shape fs) h n ≡ viewed s h n
-  unfolding viewed viewing shownAlone
-  alone-is = rw (r, fills) (go (isNil (d .rest)) (leb 1 n && leb n (length fs)) refl)
-    where
-      go : (a b : Bool) → leb 1 n && leb n (length fs) ≡ b
-          → cond a (cond b (shownUnder s (shape fs) h n) (Refused (refusal noSuchLine (size fs) 0))) (Refused (refusal badUse (size fs) 0))
-          ≡ viewAnswer (thenTo (verdict (inSet fs) (ask a (atLine badUse (length fs) 0) ++ ask b (atLine noSuchLine (length fs) 0)) fs) (λ gs.
-          thenTo (sheet gs h) (λ e. done (shownPart gs n (latest n 0 (e .fields) none)))))
-      go false b q = rw behind-all
-      go true false q = rw behind-all
-      go true true q = under-is (leb-true 1 n (and-left (leb 1 n) _ q)) (leb-true n (length fs) (and-right (leb 1 n) _ q))
-
--- ---- the answer
-
--- a set that is refused
-pub viewed-refused : (s h : List ℕ) (n : ℕ) (x : Refusal) → judge s ≡ RefusedSet x → Refused x ≡ viewed s h n
-unfolding judge viewed viewing
-viewed-refused s h n x j = go (read s) j
-  where
-    go : (e : Reply Parsed) → judged e ≡ RefusedSet x
-        → Refused x ≡ viewAnswer (thenTo e (λ d.
-        thenTo (verdict (inSet (d .fields)) (aloneFaults d ++ lineNumberFaults (d .fields) n) (d .fields)) (λ gs.
-        thenTo (sheet gs h) (λ y. done (shownPart gs n (latest n 0 (y .fields) none))))))
-    go (refused y) q = let z : x ≡ y = cc in ap Refused z
-    go (done d) q = let z : _≡_ {A = ℕ} 0 1 = cc in absurd (omega arith)
-
--- a set that is accepted
-pub viewed-accepted : (s h : List ℕ) (n : ℕ) (x : Shape) → judge s ≡ Accepted x → shownAlone s x h n ≡ viewed s h n
-viewed-accepted s h n x j = let d = judge-read s x j in rw (d .2) (alone-is s h (d .0) (d .1) n)
-
 -- ---- the part that is shown lies within its slice
 
-unfoldable pub Within : List ℕ → List ℕ → Viewed → Type 0
-Within s h (Sheet q) = q .place + q .length ≤ length h
-Within s h (Set q) = q .place + q .length ≤ length s
-Within s h (Refused r) = Unit
-
 module _ (s : List ℕ) (x : Shape) (h : List ℕ) (n : ℕ) where
-  newer-within : (at k l : ℕ) (v : Viewed) → at + (entryLead + l) ≤ length h → Within s h v → Within s h (newer v (part (at + entryLead) l) k n)
-  unfolding newer Within
-  newer-within at k l v g w = go (eqb k n)
-    where
-      go : (b : Bool) → Within s h (cond b (Sheet (part (at + entryLead) l)) v)
-      go true = omega arith
-      go false = w
-
   shown-within : (m at : ℕ) (v : Viewed) → Within s h v → Within s h (shownFrom s x h n m at v)
   unfolding shownFrom Within
   shown-within zero at v w = go (leb (length h) at)
@@ -229,7 +171,7 @@ module _ (s : List ℕ) (x : Shape) (h : List ℕ) (n : ℕ) where
       go : ((at′ : ℕ) (v′ : Viewed) → Within s h v′ → Within s h (shownFrom s x h n m at′ v′)) → (b : Bool) (y : Checked) → checkedAt s x h at ≡ y
           → Within s h (cond b v (checkedThen y (λ k l. shownFrom s x h n m (at + (entryLead + l)) (newer v (part (at + entryLead) l) k n))))
       go ih true y e = w
-      go ih false (Good k l) e = ih (at + (entryLead + l)) (newer v (part (at + entryLead) l) k n) (newer-within at k l v (check-within s x h at k l e) w)
+      go ih false (Good k l) e = ih (at + (entryLead + l)) (newer v (part (at + entryLead) l) k n) (newer-within s h v (part (at + entryLead) l) k n (omega (arith, check-within s x h at k l e)) w)
       go ih false (Checked.Refused r) e = tt
 
   -- the content of a line of an accepted set
@@ -240,48 +182,6 @@ module _ (s : List ℕ) (x : Shape) (h : List ℕ) (n : ℕ) where
       let i = rw e at (line-inside s x n j lo hi) in
       omega (arith, i .least, i .within)
 
-  alone-within : judge s ≡ Accepted x → Within s h (shownAlone s x h n)
-  unfolding Within shownAlone shownUnder
-  alone-within j = go (leb (length s) (x .length)) (leb 1 n && leb n (x .lines)) refl
-    where
-      go : (a b : Bool) → leb 1 n && leb n (x .lines) ≡ b
-          → Within s h (cond a (cond b (shownFrom s x h n (length h) 0 (Set (setPart s n))) (Refused (refusal noSuchLine (x .length) 0)))
-          (Refused (refusal badUse (x .length) 0)))
-      go false b q = tt
-      go true false q = tt
-      go true true q =
-          shown-within (length h) 0 (Set (setPart s n))
-          (set-within j (leb-true 1 n (and-left (leb 1 n) _ q)) (leb-true n (x .lines) (and-right (leb 1 n) _ q)))
-
-pub viewed-within : (s h : List ℕ) (n : ℕ) → Within s h (viewed s h n)
-unfolding Within
-viewed-within s h n = go (judge s) refl
-  where
-    go : (y : Judged) → judge s ≡ y → Within s h (viewed s h n)
-    go (RefusedSet x) j = subst (λ (v : Viewed). Within s h v) (viewed-refused s h n x j) tt
-    go (Accepted x) j = subst (λ (v : Viewed). Within s h v) (viewed-accepted s h n x j) (alone-within s x h n j)
-
--- ---- the part itself
-
-module _ (s h : List ℕ) (n : ℕ) where
-  module _ (q : Part) (e : viewed s h n ≡ Sheet q) where
-    pub sheet-ends : q .place + q .length ≤ length h
-    unfolding Within
-    sheet-ends = subst (λ (v : Viewed). Within s h v) e (viewed-within s h n)
-
-    pub view-sheet : take ((q .place + q .length) - q .place) (drop (q .place) h) ≡ view s h n
-    unfolding view
-    view-sheet = rw (e, part-length (q .place) (q .length))
-
-  module _ (q : Part) (e : viewed s h n ≡ Set q) where
-    pub set-ends : q .place + q .length ≤ length s
-    unfolding Within
-    set-ends = subst (λ (v : Viewed). Within s h v) e (viewed-within s h n)
-
-    pub view-set : take ((q .place + q .length) - q .place) (drop (q .place) s) ≡ view s h n
-    unfolding view
-    view-set = rw (e, part-length (q .place) (q .length))
-
-  pub view-refused : (r : Refusal) → viewed s h n ≡ Refused r → [] ≡ view s h n
-  unfolding view
-  view-refused r e = rw e
+  pub under-within : judge s ≡ Accepted x → 1 ≤ n → n ≤ x .lines → Within s h (shownUnder s x h n)
+  unfolding shownUnder
+  under-within j lo hi = shown-within (length h) 0 (Set (setPart s n)) (set-within j lo hi)
