@@ -6,8 +6,3 @@ pub mod RulesExact
 pub mod Exact
 pub mod WriterExact
 pub mod CorrectionExact
-pub mod FirstLine
-pub mod FirstRule
-pub mod FirstMissing
-pub mod FirstBreach
-pub mod FirstOnly

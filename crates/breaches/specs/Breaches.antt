@@ -1,5 +1,5 @@
 -- Refusals: every breach of a rule with its number, its place and its label, and the paper's order of breaches, stated once.
--- Assumes nothing: these are definitions, by the words of Keeps. proofs/FirstBreach: what is answered is a breach of its rule, and no breach comes before it.
+-- Assumes nothing: these are definitions, by the words of Keeps in crate `keeps`. proofs/FirstBreach: what is answered is a breach of its rule, and no breach comes before it.
 use mathlib.Core.Path.{_≡_}
 use mathlib.Core.Bool.{false}
 use mathlib.Core.List.{List, [], _∷_, _++_}

@@ -21,10 +21,10 @@ use Rattle.meaning.specs.Reading.{scan}
 use Rattle.meaning.proofs.Bools.{and-left, and-right, Every, every-at}
 use Rattle.meaning.proofs.FaultLaws.{ask-none, refused-done}
 use Rattle.meaning.proofs.LineLaws.{Sound, NoStart, LaterLine, Whole, whole, faults-line, drop-line, line-back, sound-back, no-start-back, size-back}
 use Rattle.keeps.specs.Keeps.{LinesWellFormed, StartsSet}
-use Rattle.keeps.specs.Breaches.{LineStarts, LineBreach, too-many, bad-length, cut-line, bad-end, bad-label, low-byte, lineRefusal, lineRank, Rank, rank, Before}
 use Rattle.keeps.proofs.TableFacts.{le-cases, lt-or-le, no-absurd}
 use Rattle.keeps.proofs.Exact.{every-of, well-formed-of, sound-of, over-of, line-start, start-label, label-start, none-earlier}
+use Rattle.breaches.specs.Breaches.{LineStarts, LineBreach, too-many, bad-length, cut-line, bad-end, bad-label, low-byte, lineRefusal, lineRank, Rank, rank, Before}
 
 -- ---- the first of a list of faults
 

@@ -30,16 +30,16 @@ use Rattle.meaning.proofs.FaultLaws.{append-none, done-same}
 use Rattle.meaning.proofs.LineLaws.{Sound, NoStart, LaterLine, length-render}
 use Rattle.meaning.proofs.RuleLaws.{begins-of}
 use Rattle.meaning.proofs.SetLaws.{scan-render, Scanned, scanned, later-sound}
 use Rattle.keeps.specs.Keeps.{StartsWith, GroupHas, KeepsRules, Keeps}
-use Rattle.keeps.specs.Breaches.{lineRank, SetLines, StartBreach, no-start, unknown-set, no-sum, RuleBreach, ruleNumber, always, with-value, with-8438, MissingBreach, of-set, of-group, of-name, TypedLines, Breach, no-bytes, in-line, in-start, in-rules, in-missing, in-sum, startRank, missingRank, Rank, rank, Before, rankOf, FirstBreach}
 use Rattle.keeps.proofs.TableFacts.{no-absurd}
 use Rattle.keeps.proofs.StateLaws.{stateAt}
 use Rattle.keeps.proofs.LackLaws.{after-all}
 use Rattle.keeps.proofs.RulesExact.{of-same, type-digits, type-named, known-type, typed, profile-typed, label-is, faultsAt, rules-each, typed-rules, labels-fine-at, faults-none}
 use Rattle.keeps.proofs.Exact.{over-cases, over-of, none-earlier, alone-of, accepted-exactly}
-use Rattle.keeps.proofs.FirstLine.{same-head, head-append, ask-head, refused-same, done-refused, ScanRefused, scan-refused, line-none-before, scanned-no-breach, before-stage, stage-of, sounds, wells}
-use Rattle.keeps.proofs.FirstRule.{RuleFirst, rule-first, FirstFault, first-fault, fine-line, behind-line}
-use Rattle.keeps.proofs.FirstMissing.{MissingFirst, in-set, in-group, in-name, missing-first}
+use Rattle.breaches.specs.Breaches.{lineRank, SetLines, StartBreach, no-start, unknown-set, no-sum, RuleBreach, ruleNumber, always, with-value, with-8438, MissingBreach, of-set, of-group, of-name, TypedLines, Breach, no-bytes, in-line, in-start, in-rules, in-missing, in-sum, startRank, missingRank, Rank, rank, Before, rankOf, FirstBreach}
+use Rattle.breaches.proofs.FirstLine.{same-head, head-append, ask-head, refused-same, done-refused, ScanRefused, scan-refused, line-none-before, scanned-no-breach, before-stage, stage-of, sounds, wells}
+use Rattle.breaches.proofs.FirstRule.{RuleFirst, rule-first, FirstFault, first-fault, fine-line, behind-line}
+use Rattle.breaches.proofs.FirstMissing.{MissingFirst, in-set, in-group, in-name, missing-first}
 
 -- ---- ranks
 

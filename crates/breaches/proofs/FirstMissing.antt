@@ -17,13 +17,13 @@ use Rattle.meaning.specs.Tables.{setLevel, isPairLabel, rowLabel, table}
 use Rattle.meaning.specs.Groups.{State, first, noHeader}
 use Rattle.meaning.specs.Missing.{needed, rowsUnder, insert, ascending, missingLabel, lackingOf, lacking, among, openLacking, stays, groupsLacking}
 use Rattle.meaning.proofs.Bools.{Every}
 use Rattle.keeps.specs.Keeps.{HasRow, AtSetLevel, Required, MemberOf, IsName, GroupHas, SetComplete}
-use Rattle.keeps.specs.Breaches.{RequiredIn, always, with-value, with-8438, MissingBreach, of-set, of-group, of-name, missingRank, Rank, rank, Before}
 use Rattle.keeps.proofs.TableFacts.{Paired, inside, below, above, paired, le-cases, no-absurd, label-of, name-of, Regular, row-regular, row-label, one-row, every-row, row-every}
 use Rattle.keeps.proofs.StateLaws.{stateAt, OpenAt, Opened, open-at, at-start, behind-odd, Stands, at-set-level, in-open, behind-name, role-top, role-open, role-odd}
 use Rattle.keeps.proofs.LabelLaws.{LabelFine, alone, member-plain, all-stand, all-behind}
 use Rattle.keeps.proofs.LackLaws.{Met, HasValue, needed-required, needed-8421, needed-8437, Why, by-row, by-value, by-8438, why, into, sorted, unsorted, chosen, unchosen, conditional-label, lackAt, step-lack, end-lack, header-there, header-row-label, ClearTo, set-has, groups-have, values-have-units, has-8437-with-8438, names-have-odds, group-before, seen-group, value-group, name-open}
-use Rattle.keeps.proofs.FirstLine.{same-head, head-append}
+use Rattle.breaches.specs.Breaches.{RequiredIn, always, with-value, with-8438, MissingBreach, of-set, of-group, of-name, missingRank, Rank, rank, Before}
+use Rattle.breaches.proofs.FirstLine.{same-head, head-append}
 
 -- ---- rows in the order of their labels
 
