@@ -1,27 +1,39 @@
 -- What the code's tests say of the walks, where the proof of a function needs more than its own tests.
 -- Assumes nothing.
-use mathlib.Core.Path.{_≡_, refl, sym, _∙_}
-use mathlib.Core.Bool.{Bool, true, false, cond, not}
+use mathlib.Core.Path.{_≡_, refl, sym, ap, _∙_}
+use mathlib.Core.Bool.{Bool, true, false, not, true≢false}
 use mathlib.Core.List.{List, [], _∷_}
 use Prim.Native.Nat.{ℕ, _+_, _%_, _≤_, _<_}
 use native.Mathlib.Omega.{arith}
 use lib.Dec.{leb}
-use borrow.Author.Tests.{leb-true, not-false}
+use borrow.Author.Tests.{ne-eqb, leb-true, not-false}
 use Rattle.meaning.specs.declared.Refusal.{Refusal}
 use Rattle.meaning.specs.Tables.{rows6300, rows6301, rows6302, rows6311, rowLabel, isPairLabel}
 use Rattle.meaning.specs.Answers.{noRefusal}
 use Rattle.meaning.proofs.Bools.{and-right, not-true}
 use Rattle.tables.specs.LookUp.{findFrom}
-use Rattle.lacks.specs.Lacks.{lackHere, lackAll, fixedLabels, basicLabels, flagged}
+use Rattle.lacks.specs.Lacks.{lackHere, lackName, lackUnder, lackAll, fixedLabels, basicLabels, flagged}
 
--- a name has four digits, and so has the label one higher
-pub name-below : (h : ℕ) → rowLabel h ≡ 6330 → h < 10000
-unfolding rowLabel
-name-below h = go (isPairLabel h) refl
-  where
-    go : (b : Bool) → isPairLabel h ≡ b → cond b (6330 + h % 2) h ≡ 6330 → h < 10000
-    go true e q = let z : h ≤ 6399 = leb-true h 6399 (and-right (leb 6330 h) (leb h 6399) e) in omega arith
-    go false e q = omega arith
+-- ---- what the group of a header lacks, by the header itself
+
+module _ (h : ℕ) where
+  -- a name, and so the label one higher, has four digits
+  pub name-below : isPairLabel h ≡ true → h < 10000
+  name-below p = let z : h ≤ 6399 = leb-true h 6399 (and-right (leb 6330 h) (leb h 6399) p) in omega arith
+
+  module _ (has : ℕ → Bool) (place : ℕ) where
+    pub under-name : isPairLabel h ≡ true → h % 2 ≡ 0 → lackName has h place ≡ lackUnder (rowLabel h) has h place
+    unfolding lackUnder rowLabel
+    under-name p e = rw (p, e)
+
+    -- nothing stands under the odd label behind a name, nor under any other label
+    pub under-odd : isPairLabel h ≡ true → (h % 2 ≡ 0 → ⊥) → noRefusal ≡ lackUnder (rowLabel h) has h place
+    unfolding lackUnder rowLabel
+    under-odd p n = rw (p, ne-eqb (6330 + h % 2) 8410 (λ q. omega arith), ne-eqb (6330 + h % 2) 6302 (λ q. omega arith), ne-eqb (6330 + h % 2) 6330 (λ q. n (omega arith)))
+
+    pub under-other : (h ≡ 8410 → ⊥) → (h ≡ 6302 → ⊥) → isPairLabel h ≡ false → noRefusal ≡ lackUnder (rowLabel h) has h place
+    unfolding lackUnder rowLabel
+    under-other a b p = rw (p, ne-eqb h 8410 a, ne-eqb h 6302 b, ne-eqb h 6330 (λ q. true≢false (sym (ap isPairLabel q) ∙ p)))
 
 -- ---- what the set lacks, one required label more
 

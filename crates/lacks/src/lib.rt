@@ -197,15 +197,17 @@ fn lack_name(members: &[bool; ROWS], name: usize, place: usize) -> Refusal
 fn lack_under(members: &[bool; ROWS], header: usize, place: usize) -> Refusal
     ensures { λ r. ⌜ r ≡ lackUnder (rowLabel header) (flagged rows6310 (now (members .entry))) header place ⌝ }
 {
-    let row = fields::row_label(header);
-    if row == 8410 {
+    if header == 8410 {
         return lack_8410(members, place);
     }
-    if row == 6302 {
+    if header == 6302 {
         return lack_6302(members, place);
     }
-    if row == 6330 {
-        return lack_name(members, header, place);
+    // "Even labels 6330 to 6398 are names"
+    if fields::is_pair(header) {
+        if header % 2 == 0 {
+            return lack_name(members, header, place);
+        }
     }
     nothing()
 }
