@@ -97,7 +97,7 @@ fn judge_entry(
     let from = at + entries::ENTRY_LEAD;
     let end = from + bytes;
     let group = turn.group;
-    let step = steps::step_at(kind, at, label, &list[from..end], group, members, top);
+    let step = steps::step_at(kind, at, label, list, from, end, group, members, top);
     let no = step.no;
     let late = Refusal {
         no,

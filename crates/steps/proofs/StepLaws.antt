@@ -1,30 +1,33 @@
 -- Laws of one line's step, for the proofs of `step_at` and its parts: what each `return` has to show.
 -- Assumes nothing.
 use mathlib.Core.Path.{_≡_, refl, sym, ap, _∙_}
-use mathlib.Core.Bool.{Bool, true, false, cond, not}
-use mathlib.Core.List.{List}
-use Prim.Native.Nat.{ℕ, _+_, _-_, _≤_}
+use mathlib.Core.Bool.{Bool, true, false, cond, not, _&&_}
+use mathlib.Core.List.{List, map}
+use Prim.Native.Nat.{ℕ, _+_, _-_, _%_, _≤_}
 use native.Mathlib.Omega.{arith}
 use lib.Dec.{eqb}
-use lib.ListN.{length, set}
-use borrow.Author.Tests.{ne-eqb, eqb-true, eqb-false, eq-eqb}
+use lib.ListN.{length, getD, set, drop, length-drop, List·getD-map}
+use lib.Seq.{length-take-le}
+use borrow.Author.Tests.{le-leb, ne-eqb, eqb-true, eqb-false, eq-eqb}
 use Rattle.meaning.specs.declared.Refusal.{Refusal}
 use Rattle.meaning.specs.declared.Row.{Row}
 use Rattle.meaning.specs.declared.SetType.{SetType}
 use Rattle.meaning.specs.Refusals.{notInSet, badContent}
-use Rattle.meaning.specs.Tables.{isPairLabel, rowLabel}
+use Rattle.meaning.specs.Tables.{setLevel, single, K, row, rows6300, rows6301, rows6302, rows6310, rows6311, table, isPairLabel, rowLabel}
 use Rattle.meaning.specs.Kinds.{isAlnum, ofKind}
-use Rattle.meaning.specs.FieldTable.{fieldTable, fieldRowIn, fieldRow}
+use Rattle.meaning.specs.FieldTable.{fieldTable, fieldRowIn, fieldRow, fitsLabel}
+use Rattle.meaning.specs.Groups.{namesRow}
 use Rattle.fields.specs.Codes.{kindNumber, kindOf, fieldCode, kindIn}
 use Rattle.kinds.specs.Fitting.{lengthFits}
 use Rattle.kinds.proofs.Laws.{fits-not, fits-kind}
-use Rattle.tables.specs.LookUp.{Found, At, Nothing}
-use Rattle.tables.specs.Codes.{numberIn}
+use Rattle.tables.specs.LookUp.{Found, At, Nothing, findFrom}
+use Rattle.tables.specs.Codes.{numberIn, underIn}
+use Rattle.tables.proofs.Laws.{table-all, found-row, found-here}
 use Rattle.tables.proofs.CodeLaws.{Coded}
 use Rattle.lacks.specs.declared.Group.{Group}
 use Rattle.lacks.specs.Lacks.{State, noFlags, firstLack}
 use Rattle.steps.specs.declared.Step.{Step}
-use Rattle.steps.specs.Steps.{rowOf, placeNo, labelNo, versionNo, contentNo, lineNo, nextState, staysIn, lackThen, openedGroup, joinedGroup, Stepped}
+use Rattle.steps.specs.Steps.{rowOf, placeNo, labelNo, versionNo, fitNo, contentNo, between, lineNo, nextState, staysIn, lackThen, openedGroup, joinedGroup, Stepped}
 
 -- ---- names and their odd labels
 
@@ -42,6 +45,47 @@ behind-name h l p = go (eqb h (l - 1)) refl
 pub row-at : {kind : SetType} {l c i : ℕ} (h : Coded kind l c) → i ≡ numberIn c → rowOf kind l ≡ At i (h .row)
 row-at h e = h .is ∙ ap (λ (k : ℕ). At k (h .row)) (sym e)
 
+-- ---- a member's row
+
+-- a row that is a member's and a name's or an odd label's, and a row under 6330
+abbrev pairMember : Row → Bool
+pairMember r = not (eqb (r .under) setLevel) && isPairLabel (r .label)
+
+abbrev underName : Row → Bool
+underName r = eqb (r .under) namesRow
+
+-- they are the same rows, in every table
+pairs-test : (kind : SetType) → map pairMember (table kind) ≡ map underName (table kind)
+unfolding rows6300 rows6301 rows6302 rows6310 rows6311
+pairs-test = table-all (λ rs. map pairMember rs ≡ map underName rs) refl refl refl refl refl
+
+abbrev noRow : Row
+noRow = row 0 setLevel single K
+
+found-pair : (kind : SetType) (l i : ℕ) (r : Row) → findFrom (table kind) l 0 ≡ At i r → pairMember r ≡ underName r
+found-pair kind l i r e =
+    let here : getD (table kind) i noRow ≡ r = found-here (table kind) l i r e noRow in
+    ap pairMember (sym here)
+    ∙ (sym (List·getD-map pairMember (table kind) i noRow) ∙ (ap (λ (x : List Bool). getD x i false) (pairs-test kind) ∙ List·getD-map underName (table kind) i noRow))
+    ∙ ap underName here
+
+-- the row of a label is a name's or an odd label's where the label is one
+pair-row : (l : ℕ) → isPairLabel (rowLabel l) ≡ isPairLabel l
+unfolding rowLabel
+pair-row l = go (isPairLabel l) refl
+  where
+    go : (b : Bool) → isPairLabel l ≡ b → isPairLabel (cond b (6330 + l % 2) l) ≡ b
+    go true e = rw (le-leb 6330 (6330 + l % 2) (omega arith), le-leb (6330 + l % 2) 6399 (omega arith))
+    go false e = e
+
+-- so a member is the odd label of a pair exactly where its row stands under 6330
+pub member-pair : {kind : SetType} {l c under : ℕ} (h : Coded kind l c) → under ≡ underIn c → (under ≡ 0 → ⊥) → isPairLabel l ≡ eqb under namesRow
+member-pair {kind} {l} {c} {under} h e n =
+    let u : h .row .under ≡ under = h .under-so ∙ sym e in
+    let p : pairMember (h .row) ≡ underName (h .row) = found-pair kind (rowLabel l) (numberIn c) (h .row) (h .is) in
+    let m : isPairLabel (h .row .label) ≡ isPairLabel l = ap isPairLabel (found-row (table kind) (rowLabel l) (numberIn c) (h .row) (h .is)) ∙ pair-row l in
+    sym m ∙ (sym (ap (λ (b : Bool). not b && isPairLabel (h .row .label)) (ne-eqb (h .row .under) 0 (λ z. n (sym u ∙ z)))) ∙ p) ∙ ap (λ (x : ℕ). eqb x namesRow) u
+
 -- ---- 14 and 15 by the field of a label
 
 -- the version has a kind of its own
@@ -51,25 +95,31 @@ version-kind field l e z v =
     let w : kindIn field ≡ 9 = ap kindIn (e ∙ ap (λ (x : ℕ). fieldCode (fieldRow x)) v) in
     omega arith
 
-module _ (field l : ℕ) (c : List ℕ) (e : field ≡ fieldCode (fieldRow l)) where
-  pub content-short : lengthFits field (length c) ≡ false → badContent ≡ contentNo l c
-  unfolding contentNo
-  content-short n = rw (fits-not field l c e n)
+-- the content between two offsets of some bytes
+module _ (field l : ℕ) (s : List ℕ) (from end : ℕ) (h : from ≤ end) (g : end ≤ length s) (e : field ≡ fieldCode (fieldRow l)) where
+  abbrev content : List ℕ
+  content = between s from end
 
-  module _ (n : lengthFits field (length c) ≡ true) (kind : ℕ) (k : kind ≡ kindIn field) where
-    pub content-any : kind ≡ 0 → 0 ≡ contentNo l c
+  same-length : lengthFits field (length content) ≡ lengthFits field (end - from)
+  same-length = ap (lengthFits field) (length-take-le (end - from) (drop from s) (omega (arith, length-drop from s)))
+
+  pub content-short : lengthFits field (end - from) ≡ false → badContent ≡ contentNo l content
+  unfolding contentNo
+  content-short f = rw (fits-not field l content e (same-length ∙ f))
+
+  module _ (f : lengthFits field (end - from) ≡ true) (kind : ℕ) (k : kind ≡ kindIn field) where
+    by-kind : fitsLabel l content ≡ ofKind (kindOf kind) content
+    by-kind = fits-kind field l content e (same-length ∙ f) kind (ofKind (kindOf kind) content) k refl
+
+    pub content-any : kind ≡ 0 → 0 ≡ contentNo l content
     unfolding contentNo versionNo ofKind isAlnum kindOf
     content-any z =
-        let t : true ≡ ofKind (kindOf kind) c = rw z in
-        rw (fits-kind field l c e n kind true k t, ne-eqb l 9218 (version-kind field l e (sym k ∙ z)))
+        let t : ofKind (kindOf kind) content ≡ true = rw z in
+        rw (by-kind ∙ t, ne-eqb l 9218 (version-kind field l e (sym k ∙ z)))
 
-    pub content-fits : (b : Bool) → b ≡ ofKind (kindOf kind) c → b ≡ true → (m : ℕ) → m ≡ versionNo l c → m ≡ contentNo l c
-    unfolding contentNo
-    content-fits b q t m v = rw (fits-kind field l c e n kind b k q ∙ t) v
-
-    pub content-unfit : (b : Bool) → b ≡ ofKind (kindOf kind) c → b ≡ false → badContent ≡ contentNo l c
-    unfolding contentNo
-    content-unfit b q t = rw (fits-kind field l c e n kind b k q ∙ t)
+    pub content-fits : fitNo kind l content ≡ contentNo l content
+    unfolding contentNo fitNo
+    content-fits = rw by-kind
 
 -- ---- one line
 
@@ -119,25 +169,28 @@ module _ {o : Found} {kind : SetType} {st : State} {lack : Refusal} {at l : ℕ}
   }
 
   pub step-joined : (i : ℕ) (row : Row) → o ≡ At i row → (p : ℕ) → p ≡ placeNo i row (st .header) (st .members) (st .top) l → p ≡ 0
-      → (u : ℕ) → u ≡ contentNo l c → u ≡ 0 → (row .under ≡ 0 → ⊥) → r .no ≡ 0
-      → r .group ≡ record { header = cond (isPairLabel l) 0 (st .header); place = st .place; lack = lack }
+      → (u : ℕ) → u ≡ contentNo l c → u ≡ 0 → (under : ℕ) → row .under ≡ under → (under ≡ 0 → ⊥) → isPairLabel l ≡ eqb under namesRow → r .no ≡ 0
+      → r .group ≡ record { header = cond (eqb under namesRow) 0 (st .header); place = st .place; lack = lack }
       → members ≡ set (st .members) i true → top ≡ st .top → Stepped o kind st lack at l c r members top
   unfolding nextState staysIn
-  step-joined i row q p e z u d y v g h a b = record {
-    number = g ∙ (sym y ∙ (d ∙ sym (placed-number o st l c i row q (sym e ∙ z))));
-    state = λ x.
-        (λ j. record { header = h j .header; place = h j .place; members = a j; top = b j })
-        ∙ (sym (ap (λ (w : Bool). cond {A = State} w (record { header = l; place = at; members = noFlags; top = set (st .top) i true })
-        (record { header = cond (isPairLabel l) 0 (st .header); place = st .place; members = set (st .members) i true; top = st .top })) (ne-eqb (row .under) 0 v))
-        ∙ ap (λ (x : Found). nextState x st at l) (sym q));
-    lack-so = λ x.
-        ap (λ (w : Group). w .lack) h ∙ (sym (ap (λ (w : Bool). lackThen (not w) kind st lack) (ne-eqb (row .under) 0 v)) ∙ ap (λ (x : Found). lackThen (staysIn x) kind st lack) (sym q));
-  }
+  step-joined i row q p e z u d y under v n pair g h a b =
+      let w : eqb (row .under) 0 ≡ false = ne-eqb (row .under) 0 (λ x. n (sym v ∙ x)) in
+      record {
+        number = g ∙ (sym y ∙ (d ∙ sym (placed-number o st l c i row q (sym e ∙ z))));
+        state = λ x.
+            (λ j. record { header = h j .header; place = h j .place; members = a j; top = b j })
+            ∙ ((λ j. record { header = cond (sym pair j) 0 (st .header); place = st .place; members = set (st .members) i true; top = st .top })
+            ∙ (sym (ap (λ (w : Bool). cond {A = State} w (record { header = l; place = at; members = noFlags; top = set (st .top) i true })
+            (record { header = cond (isPairLabel l) 0 (st .header); place = st .place; members = set (st .members) i true; top = st .top })) w)
+            ∙ ap (λ (x : Found). nextState x st at l) (sym q)));
+        lack-so = λ x.
+            ap (λ (w : Group). w .lack) h ∙ (sym (ap (λ (w : Bool). lackThen (not w) kind st lack) w) ∙ ap (λ (x : Found). lackThen (staysIn x) kind st lack) (sym q));
+      }
 
 -- what is open behind a set-level line, and behind a member
 pub opened-is : (kind : SetType) (at l : ℕ) (g : Group) (members : List Bool) (lack : Refusal) → lack ≡ firstLack kind (g .header) (g .place) members (g .lack)
     → record { header = l; place = at; lack = lack } ≡ openedGroup kind at l g members
 opened-is kind at l g members lack e = λ j. record { header = l; place = at; lack = e j }
 
-pub joined-is : (l header : ℕ) (g : Group) → header ≡ cond (isPairLabel l) 0 (g .header) → record { header = header; place = g .place; lack = g .lack } ≡ joinedGroup l g
-joined-is l header g e = λ j. record { header = e j; place = g .place; lack = g .lack }
+pub joined-is : (under header : ℕ) (g : Group) → header ≡ cond (eqb under namesRow) 0 (g .header) → record { header = header; place = g .place; lack = g .lack } ≡ joinedGroup under g
+joined-is under header g e = λ j. record { header = e j; place = g .place; lack = g .lack }

@@ -3,17 +3,18 @@
 use mathlib.Core.Bool.{Bool, true, false, cond, not}
 use mathlib.Core.Path.{_≡_}
 use mathlib.Core.List.{List}
-use Prim.Native.Nat.{ℕ}
-use lib.ListN.{getD, set}
+use Prim.Native.Nat.{ℕ, _-_}
+use lib.ListN.{getD, set, take, drop}
 use lib.Dec.{eqb}
 use Rattle.meaning.specs.declared.Refusal.{Refusal}
 use Rattle.meaning.specs.declared.Row.{Row}
 use Rattle.meaning.specs.declared.SetType.{SetType}
 use Rattle.meaning.specs.Refusals.{notInSet, stray, repeated, badContent, otherVersion}
-use Rattle.meaning.specs.Kinds.{is0210}
+use Rattle.meaning.specs.Kinds.{is0210, ofKind}
 use Rattle.meaning.specs.FieldTable.{fitsLabel}
 use Rattle.meaning.specs.Tables.{table, rowLabel, isPairLabel, setLevel}
-use Rattle.meaning.specs.Groups.{belongs, noHeader}
+use Rattle.meaning.specs.Groups.{belongs, noHeader, namesRow}
+use Rattle.fields.specs.Codes.{kindOf}
 use Rattle.tables.specs.LookUp.{Found, At, Nothing as NoRow, findFrom}
 use Rattle.lacks.specs.declared.Group.{Group}
 use Rattle.lacks.specs.Lacks.{State, noFlags, firstLack, stateOf}
@@ -37,8 +38,16 @@ unfoldable pub labelNo : Found → State → ℕ → ℕ
 labelNo NoRow st l = notInSet
 labelNo (At i r) st l = placeNo i r (st .header) (st .members) (st .top) l
 
+-- the bytes from one offset to another
+abbrev pub between : List ℕ → ℕ → ℕ → List ℕ
+between s from end = take (end - from) (drop from s)
+
 unfoldable pub versionNo : ℕ → List ℕ → ℕ
 versionNo l c = cond (eqb l 9218) (cond (is0210 c) 0 otherVersion) 0
+
+-- of a content whose length fits, by the number of the kind that is asked
+unfoldable pub fitNo : ℕ → ℕ → List ℕ → ℕ
+fitNo kind l c = cond (ofKind (kindOf kind) c) (versionNo l c) badContent
 
 unfoldable pub contentNo : ℕ → List ℕ → ℕ
 contentNo l c = cond (fitsLabel l c) (versionNo l c) badContent
@@ -62,12 +71,12 @@ staysIn (At i r) = not (eqb (r .under) setLevel)
 abbrev pub lackThen : Bool → SetType → State → Refusal → Refusal
 lackThen stays kind st lack = cond stays lack (firstLack kind (st .header) (st .place) (st .members) lack)
 
--- what is open behind a set-level line, and behind a member, as the code holds it
+-- what is open behind a set-level line, and behind a member whose row stands under a label, as the code holds it
 abbrev pub openedGroup : SetType → ℕ → ℕ → Group → List Bool → Group
 openedGroup kind at l g members = record { header = l; place = at; lack = firstLack kind (g .header) (g .place) members (g .lack) }
 
 abbrev pub joinedGroup : ℕ → Group → Group
-joinedGroup l g = record { header = cond (isPairLabel l) noHeader (g .header); place = g .place; lack = g .lack }
+joinedGroup under g = record { header = cond (eqb under namesRow) noHeader (g .header); place = g .place; lack = g .lack }
 
 -- what a line's step and the flags behind it say: its number, and where that is 0 the next state and the first group's lack
 pub record Stepped (o : Found) (kind : SetType) (st : State) (lack : Refusal) (at l : ℕ) (c : List ℕ) (r : Step) (members top : List Bool) : Type 0 where

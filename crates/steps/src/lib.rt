@@ -1,16 +1,17 @@
 // One line's step: 11 to 15 of the line, and what is open behind it.
-// Assumes nothing: `step_at` has no `requires`. Each contract cites a walk of specs/, and proofs/SameLaws says what the walks mean.
+// `step_at`, which only other crates here call, assumes that its two offsets lie in order within the bytes that it is given. Each contract cites a walk of specs/, and
+// proofs/SameLaws says what the walks mean.
 ghost use mathlib.Core.Path.{_≡_};
 ghost use mathlib.Core.Bool.{true, cond};
-ghost use Prim.Native.Nat.{_<_};
-ghost use lib.ListN.{set};
-ghost use Rattle.meaning.specs.Tables.{isPairLabel};
+ghost use Prim.Native.Nat.{_≤_, _<_};
+ghost use lib.Dec.{eqb};
+ghost use lib.ListN.{length, set};
 ghost use Rattle.meaning.specs.declared.Row.{Row};
 ghost use Rattle.meaning.specs.FieldTable.{fieldRow};
-ghost use Rattle.meaning.specs.Groups.{belongs};
+ghost use Rattle.meaning.specs.Groups.{belongs, namesRow};
 ghost use Rattle.fields.specs.Codes.{fieldCode};
 ghost use Rattle.lacks.specs.Lacks.{rowCount, noFlags, stateOf};
-ghost use Rattle.steps.specs.Steps.{rowOf, againNo, placeNo, versionNo, contentNo, openedGroup, joinedGroup, Stepped};
+ghost use Rattle.steps.specs.Steps.{rowOf, againNo, placeNo, versionNo, fitNo, contentNo, between, openedGroup, joinedGroup, Stepped};
 use lacks::Group;
 use lacks::ROWS;
 use meaning::Refusal;
@@ -21,6 +22,9 @@ pub struct Step {
     pub no: usize,
     pub group: Group,
 }
+
+// The row under which the table puts the odd labels 6331 to 6399.
+const NAMES_ROW: usize = 6330;
 
 // ---- 11 to 15 of one line
 
@@ -38,10 +42,10 @@ fn again_no(many: bool, seen: bool) -> usize
 }
 
 // A label whose row stands under this one belongs to the open header: an odd label right behind its name, any other member under the header that its row names.
-pub fn belongs_to(under: usize, header: usize, label: usize) -> bool
+fn belongs_to(under: usize, header: usize, label: usize) -> bool
     ensures { λ b. ⌜ ((r : Row) → r .under ≡ under → b ≡ belongs r header label) ⌝ }
 {
-    if under != 6330 {
+    if under != NAMES_ROW {
         return under == header;
     }
     if label < 1 {
@@ -85,20 +89,28 @@ fn version_no(label: usize, content: &[u8]) -> usize
     Refusal::OTHER_VERSION
 }
 
-// 14, BadContent, and 15, or 0, of a label with this field.
-fn content_no(field: u16, label: usize, content: &[u8]) -> usize
-    ensures { λ n. ⌜ (field ≡ fieldCode (fieldRow label) → n ≡ contentNo label (now (content .entry))) ⌝ }
+// 14, BadContent, and 15, or 0, of a label with this kind and a content of fitting length.
+fn fit_no(kind: u16, label: usize, content: &[u8]) -> usize
+    ensures { λ n. ⌜ n ≡ fitNo kind label (now (content .entry)) ⌝ }
 {
-    if kinds::has_length(field, content.len()) {
+    if kinds::of_kind(kind, content) {
+        return version_no(label, content);
+    }
+    Refusal::BAD_CONTENT
+}
+
+// 14 and 15, or 0, of a label with this field and the content from one offset to another.
+fn content_no(field: u16, label: usize, s: &[u8], from: usize, end: usize) -> usize
+    requires { ⌜ (from ≤ end) × (end ≤ length (now s)) ⌝ }
+    ensures { λ n. ⌜ (field ≡ fieldCode (fieldRow label) → n ≡ contentNo label (between (now (s .entry)) from end)) ⌝ }
+{
+    if kinds::has_length(field, end - from) {
         let kind = fields::kind_of(field);
         // "alnum: any content bytes."
         if kind == fields::ALNUM {
             return 0;
         }
-        if kinds::of_kind(kind, content) {
-            return version_no(label, content);
-        }
-        return Refusal::BAD_CONTENT;
+        return fit_no(kind, label, &s[from..end]);
     }
     Refusal::BAD_CONTENT
 }
@@ -112,11 +124,11 @@ fn refused_step(no: usize, group: Group) -> Step
     Step { no, group }
 }
 
-// The open header behind a member: "an odd label 6331 to 6399 stands nowhere else", so nothing follows it in its pair.
-pub fn header_after(label: usize, header: usize) -> usize
-    ensures { λ r. ⌜ r ≡ cond (isPairLabel label) 0 header ⌝ }
+// The open header behind a member whose row stands under this label: "an odd label 6331 to 6399 stands nowhere else", so nothing follows it in its pair.
+fn header_after(under: usize, header: usize) -> usize
+    ensures { λ r. ⌜ r ≡ cond (eqb under namesRow) 0 header ⌝ }
 {
-    if fields::is_pair(label) {
+    if under == NAMES_ROW {
         return 0;
     }
     header
@@ -145,13 +157,13 @@ fn opened(
     }
 }
 
-// What is open behind a member with row number i.
-fn joined(label: usize, i: usize, group: Group, members: &mut [bool; ROWS]) -> Group
+// What is open behind a member with row number i that stands under this label.
+fn joined(under: usize, i: usize, group: Group, members: &mut [bool; ROWS]) -> Group
     requires { ⌜ i < rowCount ⌝ }
-    ensures { λ r. ⌜ (r ≡ joinedGroup label group) × (now (members .exit) ≡ set (now (members .entry)) i true) ⌝ }
+    ensures { λ r. ⌜ (r ≡ joinedGroup under group) × (now (members .exit) ≡ set (now (members .entry)) i true) ⌝ }
 {
     lacks::mark(members, i);
-    let header = header_after(label, group.header);
+    let header = header_after(under, group.header);
     let lack = group.lack;
     Group {
         header,
@@ -160,17 +172,20 @@ fn joined(label: usize, i: usize, group: Group, members: &mut [bool; ROWS]) -> G
     }
 }
 
-// One line: 11, 12, 13, 14, 15; else what is then open, and the flags.
+// One line with its content from one offset to another: 11, 12, 13, 14, 15; else what is then open, and the flags.
 pub fn step_at(
     kind: SetType,
     at: usize,
     label: usize,
-    content: &[u8],
+    s: &[u8],
+    from: usize,
+    end: usize,
     group: Group,
     members: &mut [bool; ROWS],
     top: &mut [bool; ROWS],
 ) -> Step
-    ensures { λ r. ⌜ Stepped (rowOf kind label) kind (stateOf group (now (members .entry)) (now (top .entry))) (group .lack) at label (now (content .entry)) r (now (members .exit)) (now (top .exit)) ⌝ }
+    requires { ⌜ (from ≤ end) × (end ≤ length (now s)) ⌝ }
+    ensures { λ r. ⌜ Stepped (rowOf kind label) kind (stateOf group (now (members .entry)) (now (top .entry))) (group .lack) at label (between (now (s .entry)) from end) r (now (members .exit)) (now (top .exit)) ⌝ }
 {
     let code = tables::find_row(kind, label);
     if code == tables::NOTHING {
@@ -183,7 +198,7 @@ pub fn step_at(
     if misplaced != 0 {
         return refused_step(misplaced, group);
     }
-    let unfit = content_no(tables::field_of(code), label, content);
+    let unfit = content_no(tables::field_of(code), label, s, from, end);
     if unfit != 0 {
         return refused_step(unfit, group);
     }
@@ -191,6 +206,6 @@ pub fn step_at(
         let group = opened(kind, at, label, i, group, members, top);
         return Step { no: 0, group };
     }
-    let group = joined(label, i, group, members);
+    let group = joined(under, i, group, members);
     Step { no: 0, group }
 }

@@ -19,24 +19,15 @@ add-from c = search needs
 add-end : tie.Need-add-end
 add-end c = search needs
 
-sub-step-at : tie.Need-sub-step-at
-sub-step-at c = search needs
-
-part-step-at-start : tie.Need-part-step-at-start
-part-step-at-start c = search needs
-
-part-step-at-end : tie.Need-part-step-at-end
-part-step-at-end c = search needs
-
 step-at-requires : tie.Need-step-at-requires
 step-at-requires c κs = search needs
 
 returns-2 : tie.Need-returns-2
 returns-2 c =
-    let b6 = c .before .before .before .before .before .before in
-    let b10 = b6 .before .before .before .before in
-    let a = b10 .args in
-    turn-steps (a .kind) (a .at) (a .label) (contentOf (a .list .now) (a .at) (a .bytes)) (a .turn) (a .members .now) (a .top .now) (b6 .if1 .left) _ _ _ (step-entry (a .list .now) (a .at) (a .bytes) (c .before .step-at .ensures))
+    let b5 = c .before .before .before .before .before in
+    let b9 = b5 .before .before .before .before in
+    let a = b9 .args in
+    turn-steps (a .kind) (a .at) (a .label) (contentOf (a .list .now) (a .at) (a .bytes)) (a .turn) (a .members .now) (a .top .now) (b5 .if1 .left) _ _ _ (step-entry (a .list .now) (a .at) (a .bytes) (c .before .step-at .ensures))
 
 pub judge-entry-spec : {M : Type 1} → statement M
 judge-entry-spec =
@@ -45,8 +36,5 @@ judge-entry-spec =
     returns
     add-from
     add-end
-    sub-step-at
-    part-step-at-start
-    part-step-at-end
     step-at-requires
     returns-2)

@@ -1,10 +1,13 @@
--- `content_no` asks the length, then the kind, then for the version.
+-- `content_no` asks the length, then whether the kind allows any bytes, and only then reads them.
 -- Assumes nothing.
 use mathlib.Core.Path.{sym, _∙_}
 use borrow.Author.Needs.{needs}
-use Rattle.steps.proofs.StepLaws.{content-short, content-any, content-fits, content-unfit}
+use Rattle.steps.proofs.StepLaws.{content-short, content-any, content-fits}
 use Rattle.steps.proofs.content_no.Statement.{statement}
 use Rattle.steps.proofs.content_no.Tie as tie
+
+sub-has-length : tie.Need-sub-has-length
+sub-has-length c = search needs
 
 has-length-requires : tie.Need-has-length-requires
 has-length-requires c κs = search needs
@@ -13,32 +16,37 @@ kind-of-requires : tie.Need-kind-of-requires
 kind-of-requires c κs = search needs
 
 returns : tie.Need-returns
-returns c = λ q. content-any _ _ _ q (sym (c .before .before .before .has-length .ensures) ∙ c .before .before .if1 .taken) _ (c .before .kind-of .ensures) (c .if2 .taken)
+returns c = λ q. let p = c .before .before .before .before .before .pre in content-any _ _ _ _ _ (p .0) (p .1) q (sym (c .before .before .before .has-length .ensures) ∙ c .before .before .if1 .taken) _ (c .before .kind-of .ensures) (c .if2 .taken)
 
-of-kind-requires : tie.Need-of-kind-requires
-of-kind-requires c κs = search needs
+sub-fit-no : tie.Need-sub-fit-no
+sub-fit-no c = search needs
 
-version-no-requires : tie.Need-version-no-requires
-version-no-requires c κs = search needs
+part-fit-no-start : tie.Need-part-fit-no-start
+part-fit-no-start c = search needs
+
+part-fit-no-end : tie.Need-part-fit-no-end
+part-fit-no-end c = search needs
+
+fit-no-requires : tie.Need-fit-no-requires
+fit-no-requires c κs = search needs
 
 returns-2 : tie.Need-returns-2
-returns-2 c = λ q. content-fits _ _ _ q (sym (c .before .before .before .before .before .before .has-length .ensures) ∙ c .before .before .before .before .before .if1 .taken) _ (c .before .before .before .before .kind-of .ensures) _ (c .before .before .of-kind .ensures) (c .before .if3 .taken) _ (c .version-no .ensures)
+returns-2 c = λ q. let p = c .before .before .before .before .before .before .before .pre in c .fit-no .ensures ∙ content-fits _ _ _ _ _ (p .0) (p .1) q (sym (c .before .before .before .before .before .has-length .ensures) ∙ c .before .before .before .before .if1 .taken) _ (c .before .before .before .kind-of .ensures)
 
 returns-3 : tie.Need-returns-3
-returns-3 c = λ q. content-unfit _ _ _ q (sym (c .before .before .before .before .before .has-length .ensures) ∙ c .before .before .before .before .if1 .taken) _ (c .before .before .before .kind-of .ensures) _ (c .before .of-kind .ensures) (c .if3 .left)
-
-returns-4 : tie.Need-returns-4
-returns-4 c = λ q. content-short _ _ _ q (sym (c .before .has-length .ensures) ∙ c .if1 .left)
+returns-3 c = λ q. let p = c .before .before .before .pre in content-short _ _ _ _ _ (p .0) (p .1) q (sym (c .before .has-length .ensures) ∙ c .if1 .left)
 
 pub content-no-spec : {M : Type 1} → statement M
 content-no-spec =
     tie.close
     (tie.spec
+    sub-has-length
     has-length-requires
     kind-of-requires
     returns
-    of-kind-requires
-    version-no-requires
+    sub-fit-no
+    part-fit-no-start
+    part-fit-no-end
+    fit-no-requires
     returns-2
-    returns-3
-    returns-4)
+    returns-3)

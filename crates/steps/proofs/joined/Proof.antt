@@ -12,7 +12,7 @@ header-after-requires : tie.Need-header-after-requires
 header-after-requires c κs = search needs
 
 returns : tie.Need-returns
-returns c = (joined-is (c .before .before .before .before .args .label) _ (c .before .before .before .before .args .group) (c .before .header-after .ensures), c .before .before .mark .ensures)
+returns c = (joined-is (c .before .before .before .before .args .under) _ (c .before .before .before .before .args .group) (c .before .header-after .ensures), c .before .before .mark .ensures)
 
 pub joined-spec : {M : Type 1} → statement M
 joined-spec = tie.close (tie.spec mark-requires header-after-requires returns)

@@ -4,7 +4,7 @@ use mathlib.Core.Path.{refl, sym, _∙_}
 use native.Mathlib.Omega.{arith}
 use borrow.Author.Needs.{needs}
 use Rattle.tables.proofs.CodeLaws.{code-nothing, coded}
-use Rattle.steps.proofs.StepLaws.{row-at, step-unknown, step-misplaced, step-unfit, step-opened, step-joined}
+use Rattle.steps.proofs.StepLaws.{row-at, step-unknown, step-misplaced, step-unfit, step-opened, member-pair, step-joined}
 use Rattle.steps.proofs.step_at.Statement.{statement}
 use Rattle.steps.proofs.step_at.Tie as tie
 
@@ -57,7 +57,7 @@ joined-requires : tie.Need-joined-requires
 joined-requires c κs = let h = coded _ _ _ (c .before .before .before .before .before .before .before .before .before .before .before .before .before .find-row .ensures) (c .before .before .before .before .before .before .before .before .before .before .before .before .if1 .left) in omega (arith, h .below, c .before .before .before .before .before .before .before .before .before .before .before .number-of .ensures)
 
 returns-5 : tie.Need-returns-5
-returns-5 c = let h = coded _ _ _ (c .before .before .before .before .before .before .before .before .before .before .before .before .before .before .find-row .ensures) (c .before .before .before .before .before .before .before .before .before .before .before .before .before .if1 .left) in step-joined _ _ (row-at h (c .before .before .before .before .before .before .before .before .before .before .before .before .number-of .ensures)) _ (c .before .before .before .before .before .before .before .place-no .ensures (h .row) (h .under-so ∙ sym (c .before .before .before .before .before .before .before .before .before .before .before .under-of .ensures)) (h .many-so ∙ sym (c .before .before .before .before .before .before .before .before .before .before .many-of .ensures))) (c .before .before .before .before .before .before .if2 .left) _ (c .before .before .before .before .content-no .ensures (c .before .before .before .before .before .field-of .ensures ∙ h .field-so)) (c .before .before .before .if3 .left) (λ z. c .before .before .if4 .left (c .before .before .before .before .before .before .before .before .before .before .before .under-of .ensures ∙ (sym (h .under-so) ∙ z))) refl (c .joined .ensures .0) (c .joined .ensures .1) refl
+returns-5 c = let h = coded _ _ _ (c .before .before .before .before .before .before .before .before .before .before .before .before .before .before .find-row .ensures) (c .before .before .before .before .before .before .before .before .before .before .before .before .before .if1 .left) in step-joined _ _ (row-at h (c .before .before .before .before .before .before .before .before .before .before .before .before .number-of .ensures)) _ (c .before .before .before .before .before .before .before .place-no .ensures (h .row) (h .under-so ∙ sym (c .before .before .before .before .before .before .before .before .before .before .before .under-of .ensures)) (h .many-so ∙ sym (c .before .before .before .before .before .before .before .before .before .before .many-of .ensures))) (c .before .before .before .before .before .before .if2 .left) _ (c .before .before .before .before .content-no .ensures (c .before .before .before .before .before .field-of .ensures ∙ h .field-so)) (c .before .before .before .if3 .left) _ (h .under-so ∙ sym (c .before .before .before .before .before .before .before .before .before .before .before .under-of .ensures)) (c .before .before .if4 .left) (member-pair h (c .before .before .before .before .before .before .before .before .before .before .before .under-of .ensures) (c .before .before .if4 .left)) refl (c .joined .ensures .0) (c .joined .ensures .1) refl
 
 pub step-at-spec : {M : Type 1} → statement M
 step-at-spec =
