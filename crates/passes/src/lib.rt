@@ -43,7 +43,7 @@ fn line_step(
 {
     let from = at + lines::LINE_LEAD;
     let end = at + size - lines::LINE_END;
-    steps::step_at(kind, at, label, &s[from..end], group, members, top)
+    steps::step_at(kind, at, label, s, from, end, group, members, top)
 }
 
 // "All lines, in order, each by 7, 2, 3, 4, 5, 6; then" the rules: the first refusal of the lines from `from` on, which have `before` lines before them, else r.

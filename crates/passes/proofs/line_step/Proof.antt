@@ -14,20 +14,11 @@ add-end c = search needs
 sub-end : tie.Need-sub-end
 sub-end c = search needs
 
-sub-step-at : tie.Need-sub-step-at
-sub-step-at c = search needs
-
-part-step-at-start : tie.Need-part-step-at-start
-part-step-at-start c = search needs
-
-part-step-at-end : tie.Need-part-step-at-end
-part-step-at-end c = search needs
-
 step-at-requires : tie.Need-step-at-requires
 step-at-requires c κs = search needs
 
 returns : tie.Need-returns
-returns c = step-line _ (c .before .before .before .before .before .args .at) (c .before .before .before .before .before .args .size) (c .before .before .before .before .before .pre .0) (c .step-at .ensures)
+returns c = step-line _ (c .before .before .before .before .args .at) (c .before .before .before .before .args .size) (c .before .before .before .before .pre .0) (c .step-at .ensures)
 
 pub line-step-spec : {M : Type 1} → statement M
 line-step-spec =
@@ -36,8 +27,5 @@ line-step-spec =
     add-from
     add-end
     sub-end
-    sub-step-at
-    part-step-at-start
-    part-step-at-end
     step-at-requires
     returns)
