@@ -10,7 +10,7 @@ use native.Mathlib.Nat.{add-zero, zero-add, pow-suc, pow-le-pow-right, lt-of-lt-
 use lib.Dec.{leb, lit<}
 use lib.ListN.{length, getD, take, drop}
 use lib.Seq.{drop-cons}
-use borrow.Author.Tests.{leb-true, le-leb, lt-leb, eq-eqb, ne-eqb}
+use borrow.Author.Tests.{leb-true, leb-false, le-leb, lt-leb, eq-eqb, ne-eqb}
 use Rattle.meaning.specs.declared.Refusal.{Refusal}
 use Rattle.meaning.specs.Limits.{maxLines}
 use Rattle.meaning.specs.Digits.{digitZero, digitNine, digit, allDigits}
@@ -100,23 +100,21 @@ pub digits-end : (s : List ℕ) (n i e : ℕ) → e ≤ i → numberFrom s n i (
 unfolding numberFrom
 digits-end s n i e h = rw (none-left h)
 
--- whether they are digits, one byte more; where no byte is left
+-- whether they are digits, one byte more, which is one if it is among them; where no byte is left
 module _ (s : List ℕ) (at i k : ℕ) where
-  digits-step : i < k → at + k ≤ length s → allDigits (take (k - i) (drop (at + i) s)) ≡ digit (getD s (at + i) 0) && allDigits (take (k - (i + 1)) (drop (at + (i + 1)) s))
-  digits-step h l =
-      let q : at + i + 1 ≡ at + (i + 1) = omega arith in
-      rw (one-more h, byte-then s (at + i) (omega arith), q)
-
-  module _ (h : i < k) (l : at + k ≤ length s) where
-    pub digits-below : getD s (at + i) 0 < digitZero → false ≡ allDigits (take (k - i) (drop (at + i) s))
-    digits-below b = rw (digits-step h l, lt-leb digitZero (getD s (at + i) 0) b)
-
-    pub digits-above : digitZero ≤ getD s (at + i) 0 → digitNine < getD s (at + i) 0 → false ≡ allDigits (take (k - i) (drop (at + i) s))
-    digits-above a b = rw (digits-step h l, le-leb digitZero (getD s (at + i) 0) a, lt-leb (getD s (at + i) 0) digitNine b)
-
-    pub digits-further : digitZero ≤ getD s (at + i) 0 → getD s (at + i) 0 ≤ digitNine
-        → allDigits (take (k - (i + 1)) (drop (at + (i + 1)) s)) ≡ allDigits (take (k - i) (drop (at + i) s))
-    digits-further a b = rw (digits-step h l, le-leb digitZero (getD s (at + i) 0) a, le-leb (getD s (at + i) 0) digitNine b)
+  pub digits-further : at + k ≤ length s → (i < k → digit (getD s (at + i) 0) ≡ true)
+      → allDigits (take (k - (i + 1)) (drop (at + (i + 1)) s)) ≡ allDigits (take (k - i) (drop (at + i) s))
+  digits-further l d = go (leb k i) refl
+    where
+      go : (b : Bool) → leb k i ≡ b → allDigits (take (k - (i + 1)) (drop (at + (i + 1)) s)) ≡ allDigits (take (k - i) (drop (at + i) s))
+      go true e =
+          let h : k ≤ i = leb-true k i e in
+          let m : k ≤ i + 1 = omega arith in
+          rw (none-left h, none-left m)
+      go false e =
+          let h : i < k = leb-false k i e in
+          let q : at + i + 1 ≡ at + (i + 1) = omega arith in
+          rw (one-more h, byte-then s (at + i) (omega arith), q, d h)
 
   pub digits-done : k ≤ i → true ≡ allDigits (take (k - i) (drop (at + i) s))
   digits-done h = rw (none-left h)

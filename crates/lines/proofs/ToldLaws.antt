@@ -18,7 +18,7 @@ use Rattle.lines.specs.declared.Number.the-variants.{Is}
 use Rattle.lines.specs.declared.Line.the-variants.{Read}
 use Rattle.lines.specs.Number.{numberAt}
 use Rattle.lines.specs.Line.{must, mustRead, firstLow, labelledLine, sizedLine, lineAt}
-use Rattle.lines.specs.Told.{toldLength, toldLabel}
+use Rattle.lines.specs.Told.{threeBytes, threeZeros, fourBytes, fourZeros, toldLength, toldLabel}
 use Rattle.lines.proofs.Laws.{byte-then}
 use Rattle.lines.proofs.Bridge.{number-is, read-back}
 
@@ -35,11 +35,11 @@ module _ (s : List ℕ) (at : ℕ) where
     label-cut = rw (lt-leb (at + lineLead) (length s) h)
 
   module _ (h : at + lineLead ≤ length s) (n : ℕ) where
-    pub length-told : n ≡ getD s at 0 * 100 + getD s (at + 1) 0 * 10 + getD s (at + 2) 0 → n - (digitZero * 111 + (lineLead + lineEnd)) ≡ toldLength s at
+    pub length-told : n ≡ threeBytes s at → n - (threeZeros + (lineLead + lineEnd)) ≡ toldLength s at
     unfolding toldLength
     length-told e = rw (le-leb (at + lineLead) (length s) h, ← e)
 
-    pub label-told : let i = at + lengthDigits in n ≡ getD s i 0 * 1000 + getD s (i + 1) 0 * 100 + getD s (i + 2) 0 * 10 + getD s (i + 3) 0 → n - digitZero * 1111 ≡ toldLabel s at
+    pub label-told : n ≡ fourBytes s (at + lengthDigits) → n - fourZeros ≡ toldLabel s at
     unfolding toldLabel
     label-told e = rw (le-leb (at + lineLead) (length s) h, ← e)
 
@@ -57,13 +57,13 @@ module _ (s : List ℕ) (at : ℕ) where
 digit-least : (b : ℕ) → digit b ≡ true → digitZero ≤ b
 digit-least b e = leb-true digitZero b (and-left (leb digitZero b) _ e)
 
-three-so : (a b c : ℕ) → allDigits (a ∷ b ∷ c ∷ []) ≡ true → number (a ∷ b ∷ c ∷ []) + digitZero * 111 ≡ a * 100 + b * 10 + c
+three-so : (a b c : ℕ) → allDigits (a ∷ b ∷ c ∷ []) ≡ true → number (a ∷ b ∷ c ∷ []) + threeZeros ≡ a * 100 + b * 10 + c
 three-so a b c e =
     let p = and-right (digit a) _ e in
     let q = and-right (digit b) _ p in
     omega (arith, digit-least a (and-left (digit a) _ e), digit-least b (and-left (digit b) _ p), digit-least c (and-left (digit c) _ q))
 
-four-so : (a b c d : ℕ) → allDigits (a ∷ b ∷ c ∷ d ∷ []) ≡ true → number (a ∷ b ∷ c ∷ d ∷ []) + digitZero * 1111 ≡ a * 1000 + b * 100 + c * 10 + d
+four-so : (a b c d : ℕ) → allDigits (a ∷ b ∷ c ∷ d ∷ []) ≡ true → number (a ∷ b ∷ c ∷ d ∷ []) + fourZeros ≡ a * 1000 + b * 100 + c * 10 + d
 four-so a b c d e =
     let p = and-right (digit a) _ e in
     let q = and-right (digit b) _ p in
@@ -76,6 +76,7 @@ four-so a b c d e =
       digit-least d (and-left (digit d) _ r),
     )
 
+-- digits at an offset: their bytes come to their number, and to what zeros come to
 module _ (s : List ℕ) (i : ℕ) where
   three-bytes : i + 3 ≤ length s → take 3 (drop i s) ≡ getD s i 0 ∷ getD s (i + 1) 0 ∷ getD s (i + 2) 0 ∷ []
   three-bytes h =
@@ -87,6 +88,12 @@ module _ (s : List ℕ) (i : ℕ) where
       let two : i + 1 + 1 ≡ i + 2 = omega arith in
       let three : i + 2 + 1 ≡ i + 3 = omega arith in
       rw (byte-then s i (omega arith), byte-then s (i + 1) (omega arith), two, byte-then s (i + 2) (omega arith), three, byte-then s (i + 3) (omega arith))
+
+  three-are : i + 3 ≤ length s → allDigits (take 3 (drop i s)) ≡ true → threeBytes s i ≡ number (take 3 (drop i s)) + threeZeros
+  three-are h e = rw (three-bytes h) (sym (three-so (getD s i 0) (getD s (i + 1) 0) (getD s (i + 2) 0) (rw (three-bytes h) at e)))
+
+  four-are : i + 4 ≤ length s → allDigits (take 4 (drop i s)) ≡ true → fourBytes s i ≡ number (take 4 (drop i s)) + fourZeros
+  four-are h e = rw (four-bytes h) (sym (four-so (getD s i 0) (getD s (i + 1) 0) (getD s (i + 2) 0) (getD s (i + 3) 0) (rw (four-bytes h) at e)))
 
 no-digits : (k : ℕ) → allDigits (take k []) ≡ true
 no-digits zero = refl
@@ -102,19 +109,28 @@ digits-split (suc j) k (b ∷ u) e =
     let r = digits-split j k u (and-right (digit b) _ h) in
     (rw (and-left (digit b) _ h) (r .0), r .1)
 
+-- the first three of seven digits
+pub three-least : (s : List ℕ) (at : ℕ) → at + lineLead ≤ length s → allDigits (take lineLead (drop at s)) ≡ true → threeZeros ≤ threeBytes s at
+three-least s at h e = omega (arith, three-are s at (omega arith) (digits-split 3 4 (drop at s) e .0))
+
 -- ---- a line that is read
 
--- A line that is read tells the length of its content and its label.
-pub read-told : (s : List ℕ) (at : ℕ) {l n : ℕ} → lineAt s at ≡ Read l n → (toldLength s at ≡ n - (lineLead + lineEnd)) × (toldLabel s at ≡ l)
-read-told s at {l} {n} e =
+-- A line that is read has seven bytes before its content. They come to its length and to its label, and to what zeros come to.
+pub read-bytes : (s : List ℕ) (at : ℕ) {l n : ℕ} → lineAt s at ≡ Read l n
+    → (at + lineLead ≤ length s) × (threeBytes s at ≡ n + threeZeros) × (fourBytes s (at + lengthDigits) ≡ l + fourZeros)
+read-bytes s at {l} {n} e =
     let r = read-back s at e in
     let w = whole (drop at s) (r .no-fault) in
     let k : at + lineLead ≤ length s = omega (arith, r .least, r .within) in
-    let x = three-bytes s at (omega arith) in
-    let y = ap (take 4) (drop-drop 3 at s) ∙ four-bytes s (at + 3) (omega arith) in
-    let three = three-so (getD s at 0) (getD s (at + 1) 0) (getD s (at + 2) 0) (rw x at (w .three)) in
-    let four = four-so (getD s (at + 3) 0) (getD s (at + 3 + 1) 0) (getD s (at + 3 + 2) 0) (getD s (at + 3 + 3) 0) (rw y at (w .four)) in
-    (omega (arith, length-told s at k _ refl, three, r .size-so, ap number x), omega (arith, label-told s at k _ refl, four, r .label-so, ap number y))
+    let four : allDigits (take 4 (drop (at + 3) s)) ≡ true = rw (drop-drop 3 at s) at (w .four) in
+    let label : l ≡ number (take 4 (drop (at + 3) s)) = r .label-so ∙ ap (λ (u : List ℕ). number (take 4 u)) (drop-drop 3 at s) in
+    (k, omega (arith, three-are s at (omega arith) (w .three), r .size-so), omega (arith, four-are s (at + 3) (omega arith) four, label))
+
+-- It tells the length of its content and its label.
+pub read-told : (s : List ℕ) (at : ℕ) {l n : ℕ} → lineAt s at ≡ Read l n → (toldLength s at ≡ n - (lineLead + lineEnd)) × (toldLabel s at ≡ l)
+read-told s at {l} {n} e =
+    let b = read-bytes s at e in
+    (omega (arith, length-told s at (b .0) _ refl, b .1), omega (arith, label-told s at (b .0) _ refl, b .2))
 
 -- ---- a line whose bytes are right
 
@@ -136,28 +152,25 @@ module _ (s : List ℕ) (at : ℕ) where
         le-leb k k (omega arith),
       )
 
-  -- A line is read that tells a length, whose first seven bytes are digits, and whose content and end, at offset `end`, are right.
-  pub line-sound : (len end : ℕ) → len ≡ toldLength s at → 0 < len → end ≡ at + (lineLead + len) → end + lineEnd ≤ length s
+  -- A line is read whose first seven bytes are digits, of which three tell its length, and whose content and end, at offset `end`, are right.
+  pub line-sound : (n end : ℕ) → n ≡ threeBytes s at - threeZeros → minLineBytes ≤ n → at + n ≤ length s → end + lineEnd ≡ at + n
       → allDigits (take lineLead (drop at s)) ≡ true → firstLow s (at + lineLead) (end - (at + lineLead)) ≡ end
       → getD s end 0 ≡ cr → getD s (end + 1) 0 ≡ lf
-      → lineAt s at ≡ Read (toldLabel s at) (toldLength s at + (lineLead + lineEnd))
+      → lineAt s at ≡ Read (fourBytes s (at + lengthDigits) - fourZeros) n
   unfolding lineAt mustRead
-  line-sound len end e some q within seven clean c f =
+  line-sound n end e least within q seven clean c f =
+      let l : ℕ = fourBytes s (at + 3) - fourZeros in
       let d = digits-split 3 4 (drop at s) seven in
-      let x = three-bytes s at (omega arith) in
-      let y = four-bytes s (at + 3) (omega arith) in
-      let four-digits : allDigits (take 4 (drop (at + 3) s)) ≡ true = rw (drop-drop 3 at s) at (d .1) in
-      let three = three-so (getD s at 0) (getD s (at + 1) 0) (getD s (at + 2) 0) (rw x at (d .0)) in
-      let four = four-so (getD s (at + 3) 0) (getD s (at + 3 + 1) 0) (getD s (at + 3 + 2) 0) (getD s (at + 3 + 3) 0) (rw y at four-digits) in
-      let n : number (take 3 (drop at s)) ≡ toldLength s at + 9 = omega (arith, length-told s at (omega arith) _ refl, three, ap number x) in
-      let l : number (take 4 (drop (at + 3) s)) ≡ toldLabel s at = omega (arith, label-told s at (omega arith) _ refl, four, ap number y) in
-      let size : numberAt s at 3 ≡ Is (toldLength s at + 9) =
-      number-is s at 3 (omega arith) (omega arith) ∙ rw (le-leb 3 (length (drop at s)) (omega (arith, length-drop at s)), d .0, n) in
-      let label : numberAt s (at + 3) 4 ≡ Is (toldLabel s at) =
-      number-is s (at + 3) 4 (omega arith) (omega arith) ∙ rw (le-leb 4 (length (drop (at + 3) s)) (omega (arith, length-drop (at + 3) s)), four-digits, l) in
-      let i : at + (toldLength s at + 9 - 2) ≡ end = omega arith in
-      let j : at + (toldLength s at + 9 - 1) ≡ end + 1 = omega arith in
-      let k : toldLength s at + 9 - 9 ≡ end - (at + 7) = omega arith in
-      let z : end ≡ at + 7 + (toldLength s at + 9 - 9) = omega arith in
-      rw size (sized-sound (toldLength s at + 9) (toldLabel s at) (omega arith) (omega arith)
+      let four : allDigits (take 4 (drop (at + 3) s)) ≡ true = rw (drop-drop 3 at s) at (d .1) in
+      let size-so : number (take 3 (drop at s)) ≡ n = omega (arith, three-are s at (omega arith) (d .0)) in
+      let label-so : number (take 4 (drop (at + 3) s)) ≡ l = omega (arith, four-are s (at + 3) (omega arith) four) in
+      let size : numberAt s at 3 ≡ Is n =
+      number-is s at 3 (omega arith) (omega arith) ∙ rw (le-leb 3 (length (drop at s)) (omega (arith, length-drop at s)), d .0, size-so) in
+      let label : numberAt s (at + 3) 4 ≡ Is l =
+      number-is s (at + 3) 4 (omega arith) (omega arith) ∙ rw (le-leb 4 (length (drop (at + 3) s)) (omega (arith, length-drop (at + 3) s)), four, label-so) in
+      let i : at + (n - 2) ≡ end = omega arith in
+      let j : at + (n - 1) ≡ end + 1 = omega arith in
+      let k : n - 9 ≡ end - (at + 7) = omega arith in
+      let z : end ≡ at + 7 + (n - 9) = omega arith in
+      rw size (sized-sound n l least within
       (ap (λ (m : ℕ). getD s m 0) i ∙ c) (ap (λ (m : ℕ). getD s m 0) j ∙ f) label (ap (firstLow s (at + 7)) k ∙ clean ∙ z))

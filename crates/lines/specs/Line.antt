@@ -23,12 +23,9 @@ unfoldable pub mustRead : Number → ℕ → ℕ → (ℕ → Line) → Line
 mustRead (Is m) n place f = f m
 mustRead None n place f = Refused (refusal n place 0)
 
--- so many bytes of a content are tested at once: every line has as many before its end
+-- so many bytes of a line are tested at once: every line has as many before its end
 abbrev pub block : ℕ
 block = lineLead + 1
-
-abbrev pub wideBlock : ℕ
-wideBlock = 2 * block
 
 -- the offset of the first byte under 20h among the k bytes at an offset, or the offset behind them
 unfoldable pub firstLow : List ℕ → ℕ → ℕ → ℕ

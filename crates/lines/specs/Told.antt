@@ -8,14 +8,24 @@ use lib.Dec.{leb}
 use Rattle.meaning.specs.Digits.{digitZero}
 use Rattle.meaning.specs.Lines.{lengthDigits, lineLead, lineEnd}
 
+-- three bytes at an offset, each times the value of its digit, and what `000` comes to
+abbrev pub threeBytes : List ℕ → ℕ → ℕ
+threeBytes s at = getD s at 0 * 100 + getD s (at + 1) 0 * 10 + getD s (at + 2) 0
+
+abbrev pub threeZeros : ℕ
+threeZeros = digitZero * 111
+
+-- four bytes, and what `0000` comes to
+abbrev pub fourBytes : List ℕ → ℕ → ℕ
+fourBytes s at = getD s at 0 * 1000 + getD s (at + 1) 0 * 100 + getD s (at + 2) 0 * 10 + getD s (at + 3) 0
+
+abbrev pub fourZeros : ℕ
+fourZeros = digitZero * 1111
+
 -- the length of the content, by three bytes: less what `000` and the line's frame come to
 unfoldable pub toldLength : List ℕ → ℕ → ℕ
-toldLength s at =
-    cond (leb (at + lineLead) (length s))
-    (getD s at 0 * 100 + getD s (at + 1) 0 * 10 + getD s (at + 2) 0 - (digitZero * 111 + (lineLead + lineEnd))) 0
+toldLength s at = cond (leb (at + lineLead) (length s)) (threeBytes s at - (threeZeros + (lineLead + lineEnd))) 0
 
 -- the label, by the four bytes behind these: less what `0000` comes to
 unfoldable pub toldLabel : List ℕ → ℕ → ℕ
-toldLabel s at =
-    let i = at + lengthDigits in
-    cond (leb (at + lineLead) (length s)) (getD s i 0 * 1000 + getD s (i + 1) 0 * 100 + getD s (i + 2) 0 * 10 + getD s (i + 3) 0 - digitZero * 1111) 0
+toldLabel s at = cond (leb (at + lineLead) (length s)) (fourBytes s (at + lengthDigits) - fourZeros) 0

@@ -6,14 +6,14 @@ ghost use mathlib.Core.Bool.{true};
 ghost use Prim.Native.Nat.{_+_, _-_, _*_, _≤_, _<_};
 ghost use lib.ListN.{length, take, drop};
 ghost use Rattle.meaning.specs.Limits.{maxLines};
-ghost use Rattle.meaning.specs.Digits.{allDigits};
+ghost use Rattle.meaning.specs.Digits.{digit, allDigits};
 ghost use Rattle.meaning.specs.Refusals.{refusal};
-ghost use Rattle.meaning.specs.Lines.{lineLead, lineEnd, minLineBytes};
+ghost use Rattle.meaning.specs.Lines.{lengthDigits, labelDigits, lineLead, minLineBytes, cr, lf};
 ghost use Rattle.lines.specs.declared.Line.the-variants.{Read};
 ghost use Rattle.lines.specs.Number.{numberAt};
-ghost use Rattle.lines.specs.Line.{block, wideBlock, firstLow, labelledLine, sizedLine, lineAt};
+ghost use Rattle.lines.specs.Line.{block, firstLow, labelledLine, sizedLine, lineAt};
 ghost use Rattle.lines.specs.Scan.{endsAt, scanFrom};
-ghost use Rattle.lines.specs.Told.{toldLength, toldLabel};
+ghost use Rattle.lines.specs.Told.{threeBytes, threeZeros, fourBytes, fourZeros, toldLength, toldLabel};
 use meaning::Refusal;
 use meaning::SetType;
 
@@ -25,6 +25,12 @@ pub const LABEL_DIGITS: usize = 4;
 pub const CR: u8 = 13;
 
 pub const LF: u8 = 10;
+
+// A byte has so many values.
+const BYTE_VALUES: usize = 256;
+
+// Both as one number, the first byte the lower.
+const CR_LF: usize = CR as usize + LF as usize * BYTE_VALUES;
 
 // The bytes before a content.
 pub const LINE_LEAD: usize = LENGTH_DIGITS + LABEL_DIGITS;
@@ -49,10 +55,13 @@ const MIN_LINE_BYTES: usize = LINE_FRAME + 1;
 // "Content bytes are 20h to FFh."
 const LEAST_BYTE: u8 = 32;
 
-// So many bytes of a content are tested at once. Every line has as many before its end, since its content has one byte or more.
+// The largest byte that a content usually starts with.
+const USUAL_BYTE: u8 = 253;
+
+// So many bytes are tested at once, or in a long content so many. Every line has a block before its end, since its content has one byte or more.
 const BLOCK: usize = LINE_LEAD + 1;
 
-const WIDE_BLOCK: usize = 2 * BLOCK;
+const WIDE_BLOCK: usize = 4 * BLOCK;
 
 // "Digits" are 30h to 39h.
 const DIGIT_ZERO: u8 = b'0';
@@ -160,6 +169,13 @@ pub fn first_low(s: &[u8], at: usize, k: usize) -> usize
 {
     let end = at + k;
     let mut i = at;
+    while WIDE_BLOCK <= end - i {
+        if clean(s, i, WIDE_BLOCK) {
+            i += WIDE_BLOCK;
+        } else {
+            return seek_low(s, i, end - i);
+        }
+    }
     while BLOCK <= end - i {
         if clean(s, i, BLOCK) {
             i += BLOCK;
@@ -170,26 +186,14 @@ pub fn first_low(s: &[u8], at: usize, k: usize) -> usize
     seek_low(s, i, end - i)
 }
 
-// None of the bytes from one offset to another is under 20h, where no more than a wide block stand there. The last block may start before the first of
-// them, and then asks more.
-fn clean_few(s: &[u8], from: usize, end: usize) -> bool
-    requires { ⌜ (block ≤ end) × (from ≤ end) × (end ≤ from + wideBlock) × (end ≤ length (now s)) ⌝ }
-    ensures { λ r. ⌜ (r ≡ true → firstLow (now (s .entry)) from (end - from) ≡ end) ⌝ }
-{
-    if from + BLOCK < end {
-        if clean(s, from, BLOCK) {
-            return clean(s, end - BLOCK, BLOCK);
-        }
-        return false;
-    }
-    clean(s, end - BLOCK, BLOCK)
-}
-
-// The same of any number of bytes.
+// None of the bytes from one offset to another is under 20h. The last block may start before the first of them, and then asks more.
 fn clean_content(s: &[u8], from: usize, end: usize) -> bool
     requires { ⌜ (block ≤ end) × (from ≤ end) × (end ≤ length (now s)) ⌝ }
     ensures { λ r. ⌜ (r ≡ true → firstLow (now (s .entry)) from (end - from) ≡ end) ⌝ }
 {
+    if end <= from + BLOCK {
+        return clean(s, end - BLOCK, BLOCK);
+    }
     let mut i = from;
     while i + WIDE_BLOCK <= end {
         if clean(s, i, WIDE_BLOCK) {
@@ -198,7 +202,14 @@ fn clean_content(s: &[u8], from: usize, end: usize) -> bool
             return false;
         }
     }
-    clean_few(s, i, end)
+    while i + BLOCK < end {
+        if clean(s, i, BLOCK) {
+            i += BLOCK;
+        } else {
+            return false;
+        }
+    }
+    clean(s, end - BLOCK, BLOCK)
 }
 
 // ---- one line, rule by rule
@@ -283,6 +294,22 @@ fn four_bytes(a: u8, b: u8, c: u8, d: u8) -> usize
     a as usize * 1000 + b as usize * 100 + c as usize * 10 + d as usize
 }
 
+// The three bytes at an offset.
+fn three_at(s: &[u8], at: usize) -> usize
+    requires { ⌜ at + lengthDigits ≤ length (now s) ⌝ }
+    ensures { λ r. ⌜ (r ≡ threeBytes (now (s .entry)) at) × (r < 65536) ⌝ }
+{
+    three_bytes(s[at], s[at + 1], s[at + 2])
+}
+
+// The four bytes at an offset.
+fn four_at(s: &[u8], at: usize) -> usize
+    requires { ⌜ at + labelDigits ≤ length (now s) ⌝ }
+    ensures { λ r. ⌜ r ≡ fourBytes (now (s .entry)) at ⌝ }
+{
+    four_bytes(s[at], s[at + 1], s[at + 2], s[at + 3])
+}
+
 // The length of the content that the line at an offset tells by its first three bytes; 0 where it tells none.
 pub fn told_length(s: &[u8], at: usize) -> usize
     ensures { λ r. ⌜ (r ≡ toldLength (now (s .entry)) at) × (r < 65536) ⌝ }
@@ -293,7 +320,7 @@ pub fn told_length(s: &[u8], at: usize) -> usize
     if s.len() - LINE_LEAD < at {
         return 0;
     }
-    let n = three_bytes(s[at], s[at + 1], s[at + 2]);
+    let n = three_at(s, at);
     if n < THREE_ZEROS + LINE_FRAME {
         return 0;
     }
@@ -310,8 +337,7 @@ pub fn told_label(s: &[u8], at: usize) -> usize
     if s.len() - LINE_LEAD < at {
         return 0;
     }
-    let label = at + LENGTH_DIGITS;
-    let n = four_bytes(s[label], s[label + 1], s[label + 2], s[label + 3]);
+    let n = four_at(s, at + LENGTH_DIGITS);
     if n < FOUR_ZEROS {
         return 0;
     }
@@ -320,43 +346,59 @@ pub fn told_label(s: &[u8], at: usize) -> usize
 
 // ---- one line of many
 
-// The k bytes at an offset are digits.
-fn digits_at(s: &[u8], at: usize, k: usize) -> bool
-    requires { ⌜ at + k ≤ length (now s) ⌝ }
-    ensures { λ r. ⌜ r ≡ allDigits (take k (drop at (now (s .entry)))) ⌝ }
+// A byte that usually is the i-th of a line, counted from 0: a digit before the content, and nearly any as its first. Either is asked by two bounds, so that all
+// bytes are asked alike.
+fn usual_byte(i: usize, b: u8) -> bool
+    ensures { λ r. ⌜ (r ≡ true → i < lineLead → digit b ≡ true) ⌝ }
 {
-    let mut i: usize = 0;
-    while i < k {
-        let b = s[at + i];
-        if b < DIGIT_ZERO {
-            return false;
-        }
-        if DIGIT_NINE < b {
-            return false;
-        }
-        i += 1;
+    if i < LINE_LEAD {
+        return (DIGIT_ZERO <= b) & (b <= DIGIT_NINE);
     }
-    true
+    (LEAST_BYTE <= b) & (b <= USUAL_BYTE)
 }
 
-// The line at an offset keeps 2 to 6: it tells where it ends, and then all is tested.
-fn sound_at(s: &[u8], at: usize) -> bool
-    ensures { λ r. ⌜ (r ≡ true → lineAt (now (s .entry)) at ≡ Read (toldLabel (now (s .entry)) at) (toldLength (now (s .entry)) at + (lineLead + lineEnd))) ⌝ }
+// The bytes of a block at an offset, the first of a line, are usual ones. The loop has no way out between them, so that all are tested at once.
+fn usual_lead(s: &[u8], at: usize) -> bool
+    requires { ⌜ at + block ≤ length (now s) ⌝ }
+    ensures { λ r. ⌜ (r ≡ true → allDigits (take lineLead (drop at (now (s .entry)))) ≡ true) ⌝ }
 {
-    let length = told_length(s, at);
-    if length == 0 {
+    let mut i: usize = 0;
+    let mut fit = true;
+    while i < BLOCK {
+        fit &= usual_byte(i, s[at + i]);
+        i += 1;
+    }
+    fit
+}
+
+// Two bytes are the end of a line, asked at once.
+fn line_ends(a: u8, b: u8) -> bool
+    ensures { λ r. ⌜ (r ≡ true → (a ≡ cr) × (b ≡ lf)) ⌝ }
+{
+    a as usize + b as usize * BYTE_VALUES == CR_LF
+}
+
+// The line at an offset keeps 2 to 6: it starts with digits, these tell where it ends, and then the rest is tested. A line that is not a usual one may keep them too.
+fn sound_at(s: &[u8], at: usize) -> bool
+    ensures { λ r. ⌜ (r ≡ true → lineAt (now (s .entry)) at ≡ Read (fourBytes (now (s .entry)) (at + lengthDigits) - fourZeros) (threeBytes (now (s .entry)) at - threeZeros)) ⌝ }
+{
+    if s.len() < MIN_LINE_BYTES {
         return false;
     }
-    let end = at + (LINE_LEAD + length);
-    if s.len() < end + LINE_END {
+    if s.len() - MIN_LINE_BYTES < at {
         return false;
     }
-    if digits_at(s, at, LINE_LEAD) {
+    if usual_lead(s, at) {
+        let size = three_at(s, at) - THREE_ZEROS;
+        if size < MIN_LINE_BYTES {
+            return false;
+        }
+        if s.len() - at < size {
+            return false;
+        }
+        let end = at + (size - LINE_END);
         if clean_content(s, at + LINE_LEAD, end) {
-            if s[end] != CR {
-                return false;
-            }
-            return s[end + 1] == LF;
+            return line_ends(s[end], s[end + 1]);
         }
     }
     false
@@ -369,8 +411,8 @@ pub fn usual_line(s: &[u8], at: usize) -> Line
 {
     if sound_at(s, at) {
         return Line::Read {
-            label: told_label(s, at),
-            size: told_length(s, at) + LINE_FRAME,
+            label: four_at(s, at + LENGTH_DIGITS) - FOUR_ZEROS,
+            size: three_at(s, at) - THREE_ZEROS,
         };
     }
     line_at(s, at)

@@ -16,29 +16,14 @@ sub-if2 c = search needs
 returns-2 : tie.Need-returns-2
 returns-2 c = (length-cut _ _ (omega arith), omega arith)
 
-shared-slice-read-three-bytes : tie.Need-shared-slice-read-three-bytes
-shared-slice-read-three-bytes c = search needs
-
-add-three-bytes : tie.Need-add-three-bytes
-add-three-bytes c = search needs
-
-shared-slice-read-three-bytes-2 : tie.Need-shared-slice-read-three-bytes-2
-shared-slice-read-three-bytes-2 c = search needs
-
-add-three-bytes-2 : tie.Need-add-three-bytes-2
-add-three-bytes-2 c = search needs
-
-shared-slice-read-three-bytes-3 : tie.Need-shared-slice-read-three-bytes-3
-shared-slice-read-three-bytes-3 c = search needs
-
-three-bytes-requires : tie.Need-three-bytes-requires
-three-bytes-requires c κs = search needs
+three-at-requires : tie.Need-three-at-requires
+three-at-requires c κs = search needs
 
 add-if3 : tie.Need-add-if3
 add-if3 c = search needs
 
 returns-3 : tie.Need-returns-3
-returns-3 c = (omega arith ∙ length-told _ _ (omega arith) _ (c .before .three-bytes .ensures .0), omega arith)
+returns-3 c = (omega arith ∙ length-told _ _ (omega arith) _ (c .before .three-at .ensures .0), omega arith)
 
 add-result : tie.Need-add-result
 add-result c = search needs
@@ -47,7 +32,7 @@ sub-result : tie.Need-sub-result
 sub-result c = search needs
 
 returns-4 : tie.Need-returns-4
-returns-4 c = (length-told _ _ (omega arith) _ (c .before .three-bytes .ensures .0), omega arith)
+returns-4 c = (length-told _ _ (omega arith) _ (c .before .three-at .ensures .0), omega arith)
 
 pub told-length-spec : {M : Type 1} → statement M
 told-length-spec =
@@ -56,12 +41,7 @@ told-length-spec =
     returns
     sub-if2
     returns-2
-    shared-slice-read-three-bytes
-    add-three-bytes
-    shared-slice-read-three-bytes-2
-    add-three-bytes-2
-    shared-slice-read-three-bytes-3
-    three-bytes-requires
+    three-at-requires
     add-if3
     returns-3
     add-result

@@ -1,28 +1,36 @@
 -- `usual_line` is the walk `lineAt`, by either way.
 -- Assumes nothing.
 use mathlib.Core.Path.{sym, ap, ap₂, _∙_}
-use Prim.Native.Nat.{ℕ, _+_}
+use Prim.Native.Nat.{ℕ, _-_}
+use native.Mathlib.Omega.{arith}
 use borrow.Author.Needs.{needs}
 use Rattle.lines.specs.declared.Line.the-variants.{Read}
+use Rattle.lines.specs.Told.{threeZeros, fourZeros}
+use Rattle.lines.proofs.ToldLaws.{read-bytes}
 use Rattle.lines.proofs.usual_line.Statement.{statement}
 use Rattle.lines.proofs.usual_line.Tie as tie
 
 sound-at-requires : tie.Need-sound-at-requires
 sound-at-requires c κs = search needs
 
-told-label-requires : tie.Need-told-label-requires
-told-label-requires c κs = search needs
+add-four-at : tie.Need-add-four-at
+add-four-at c = omega (arith, read-bytes (c .before .before .before .args .s .now) (c .before .before .before .args .at) (c .before .sound-at .ensures (c .if1 .taken)) .0)
 
-told-length-requires : tie.Need-told-length-requires
-told-length-requires c κs = search needs
+four-at-requires : tie.Need-four-at-requires
+four-at-requires c κs = omega (arith, read-bytes (c .before .before .before .args .s .now) (c .before .before .before .args .at) (c .before .sound-at .ensures (c .if1 .taken)) .0)
 
-add-t6 : tie.Need-add-t6
-add-t6 c = search needs
+sub-t6 : tie.Need-sub-t6
+sub-t6 c = omega (arith, read-bytes (c .before .before .before .before .args .s .now) (c .before .before .before .before .args .at) (c .before .before .sound-at .ensures (c .before .if1 .taken)) .2, c .four-at .ensures)
+
+three-at-requires : tie.Need-three-at-requires
+three-at-requires c κs = omega (arith, read-bytes (c .before .before .before .before .args .s .now) (c .before .before .before .before .args .at) (c .before .before .sound-at .ensures (c .before .if1 .taken)) .0)
+
+sub-t8 : tie.Need-sub-t8
+sub-t8 c = omega (arith, read-bytes (c .before .before .before .before .before .args .s .now) (c .before .before .before .before .before .args .at) (c .before .before .before .sound-at .ensures (c .before .before .if1 .taken)) .1, c .three-at .ensures .0)
 
 returns : tie.Need-returns
 returns c =
-    let b3 = c .before .before .before in
-    ap₂ Read (c .before .told-label .ensures) (ap (λ (n : ℕ). n + 9) (c .told-length .ensures .0)) ∙ sym (b3 .sound-at .ensures (c .before .before .if1 .taken))
+    ap₂ Read (ap (λ (n : ℕ). n - fourZeros) (c .before .four-at .ensures)) (ap (λ (n : ℕ). n - threeZeros) (c .three-at .ensures .0)) ∙ sym (c .before .before .before .sound-at .ensures (c .before .before .if1 .taken))
 
 line-at-requires : tie.Need-line-at-requires
 line-at-requires c κs = search needs
@@ -35,9 +43,11 @@ usual-line-spec =
     tie.close
     (tie.spec
     sound-at-requires
-    told-label-requires
-    told-length-requires
-    add-t6
+    add-four-at
+    four-at-requires
+    sub-t6
+    three-at-requires
+    sub-t8
     returns
     line-at-requires
     returns-2)
