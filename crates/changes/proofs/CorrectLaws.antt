@@ -22,7 +22,7 @@ use Rattle.meaning.proofs.LineLaws.{length-render}
 use Rattle.meaning.proofs.RuleLaws.{ruled, begins-of}
 use Rattle.meaning.proofs.SetLaws.{Standing, accepted}
 use Rattle.meaning.proofs.CorrectionLaws.{Change, holds-standing, Corrected, correct-only}
-use Rattle.contents.specs.Middle.{newTotal, sumPlace, recontented}
+use Rattle.middles.specs.Middle.{newTotal, sumPlace, recontented}
 use Rattle.plans.specs.declared.Plan.{Plan}
 use Rattle.plans.specs.declared.Plan.the-variants.{Refused, Make}
 use Rattle.plans.specs.Planned.{unless, making, plannedBy, planned}

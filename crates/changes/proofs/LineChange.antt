@@ -15,7 +15,7 @@ use Rattle.meaning.proofs.LineLaws.{length-line, length-render, render-split}
 use Rattle.meaning.proofs.CorrectionLaws.{leaves}
 use Rattle.buffers.specs.Places.{over}
 use Rattle.buffers.proofs.LendLaws.{over-behind}
-use Rattle.contents.specs.Middle.{replaced, newTotal, sumPlace, recontented}
+use Rattle.middles.specs.Middle.{replaced, newTotal, sumPlace, recontented}
 use Rattle.plans.proofs.TotalLaws.{Headed, size-at, total-is}
 
 -- ---- the bytes in the middle of some others

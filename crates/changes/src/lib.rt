@@ -35,7 +35,7 @@ pub fn correct(buffer: &mut [u8], used: usize, line: usize, content: &[u8]) -> M
     match plan_change(&buffer[..used], room, line, content) {
         Plan::Refused(r) => Made::Refused(r),
         Plan::Make { place, old, total } => {
-            contents::put_content(buffer, used, place, old, content, total);
+            middles::put_content(buffer, used, place, old, content, total);
             Made::Done(total)
         }
     }

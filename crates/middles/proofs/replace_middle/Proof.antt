@@ -1,10 +1,10 @@
 -- `replace_middle` leaves what `replaced` says: `three-loans`.
 -- Assumes nothing.
 use mathlib.Core.Path.{refl}
-use Rattle.contents.proofs.MiddleLaws.{three-loans}
+use Rattle.middles.proofs.MiddleLaws.{three-loans}
 use borrow.Author.Needs.{needs}
-use Rattle.contents.proofs.replace_middle.Statement.{statement}
-use Rattle.contents.proofs.replace_middle.Tie as tie
+use Rattle.middles.proofs.replace_middle.Statement.{statement}
+use Rattle.middles.proofs.replace_middle.Tie as tie
 
 add-tail : tie.Need-add-tail
 add-tail c = search needs

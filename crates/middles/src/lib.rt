@@ -6,7 +6,7 @@ ghost use Prim.Native.Nat.{_+_, _-_, _≤_};
 ghost use lib.ListN.{length};
 ghost use Rattle.meaning.specs.Lines.{lineLead};
 ghost use Rattle.meaning.specs.Lists.{sumDigits};
-ghost use Rattle.contents.specs.Middle.{replaced, newTotal, sumPlace, recontented};
+ghost use Rattle.middles.specs.Middle.{replaced, newTotal, sumPlace, recontented};
 use lines::LENGTH_DIGITS;
 use lines::LINE_FRAME;
 use lines::LINE_LEAD;

@@ -12,7 +12,7 @@ use Rattle.meaning.specs.Lines.{lengthDigits, lineLead, lineEnd}
 use Rattle.meaning.specs.Lists.{sumDigits}
 use Rattle.buffers.specs.Places.{over, moved}
 use Rattle.buffers.proofs.LendLaws.{mid-tail, put-tail}
-use Rattle.contents.specs.Middle.{replaced, newTotal, sumPlace, recontented}
+use Rattle.middles.specs.Middle.{replaced, newTotal, sumPlace, recontented}
 
 -- ---- what `replace_middle` leaves
 

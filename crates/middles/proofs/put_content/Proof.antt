@@ -1,9 +1,9 @@
 -- `put_content` leaves what `recontented` says: `three-puts`.
 -- Assumes nothing.
-use Rattle.contents.proofs.MiddleLaws.{three-puts}
+use Rattle.middles.proofs.MiddleLaws.{three-puts}
 use borrow.Author.Needs.{needs}
-use Rattle.contents.proofs.put_content.Statement.{statement}
-use Rattle.contents.proofs.put_content.Tie as tie
+use Rattle.middles.proofs.put_content.Statement.{statement}
+use Rattle.middles.proofs.put_content.Tie as tie
 
 add-replace-middle : tie.Need-add-replace-middle
 add-replace-middle c = search needs
