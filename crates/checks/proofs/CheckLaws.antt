@@ -21,7 +21,7 @@ use Rattle.meaning.specs.Entries.{entryLead, twoBytesAt, entryLabel, entryWidth
 use Rattle.meaning.proofs.Bools.{nil-is, and-left, and-right}
 use Rattle.meaning.proofs.FaultLaws.{ask-none, High, lows-none, refused-done, done-same}
 use Rattle.meaning.proofs.PieceLaws.{piece-back}
-use Rattle.lines.specs.Line.{firstLow}
+use Rattle.contents.specs.Low.{firstLow}
 use Rattle.lines.proofs.Laws.{byte-then}
 use Rattle.entries.specs.declared.Head.{Head}
 use Rattle.entries.specs.declared.Head.the-variants.{Whole, Cut}

@@ -15,7 +15,7 @@ use Rattle.meaning.specs.Refusals.{refusal, badByte, tooManyLines, noStart, unk
 use Rattle.meaning.specs.Entries.{entryLead, maxLabel}
 use Rattle.meaning.specs.Rules.{typeNamed}
 use Rattle.meaning.specs.Answers.{noRefusal}
-use Rattle.lines.specs.Line.{firstLow}
+use Rattle.contents.specs.Low.{firstLow}
 use Rattle.entries.specs.declared.Head.{Head}
 use Rattle.entries.specs.declared.Head.the-variants.{Whole, Cut}
 use Rattle.entries.specs.Head.{entryAt}

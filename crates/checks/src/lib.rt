@@ -61,7 +61,7 @@ fn check_entry(list: &[u8], at: usize) -> Item
     }
     // 6, BadByte: "content byte under 20h; place is that byte"
     let content = at + entries::ENTRY_LEAD;
-    let low = lines::first_low(list, content, length);
+    let low = contents::first_low(list, content, length);
     if low < content + length {
         return Item::Refused(lacks::refused_at(Refusal::BAD_BYTE, low));
     }

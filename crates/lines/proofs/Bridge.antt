@@ -21,6 +21,7 @@ use Rattle.meaning.specs.Reading.{scan}
 use Rattle.meaning.proofs.Bools.{and-left, and-right}
 use Rattle.meaning.proofs.DigitLaws.{digits-number}
 use Rattle.meaning.proofs.LineLaws.{Sound, label-line, size-line, faults-line, whole, size-back, size-most, sound-back}
+use Rattle.contents.specs.Low.{firstLow}
 use Rattle.lines.specs.declared.Number.{Number}
 use Rattle.lines.specs.declared.Number.the-variants.{Is, None}
 use Rattle.lines.specs.declared.Line.{Line}
@@ -28,7 +29,7 @@ use Rattle.lines.specs.declared.Line.the-variants.{Read, Refused}
 use Rattle.lines.specs.declared.Scan.{Scan}
 use Rattle.lines.specs.declared.Scan.the-variants.{Done}
 use Rattle.lines.specs.Number.{numberFrom, numberAt, mostDigits}
-use Rattle.lines.specs.Line.{must, mustRead, firstLow, labelledLine, sizedLine, lineAt}
+use Rattle.lines.specs.Line.{must, mustRead, labelledLine, sizedLine, lineAt}
 use Rattle.lines.specs.Scan.{reads8000, endsAt, after, scanFrom, scanSet}
 use Rattle.lines.proofs.Laws.{test-same, byte-then}
 

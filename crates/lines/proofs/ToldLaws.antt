@@ -1,7 +1,7 @@
 -- What the first seven bytes of a line tell: by `told_length` and `told_label` where the line is read, and that a line is read where they are digits and the rest is right.
 -- Assumes nothing.
 use mathlib.Core.Path.{_≡_, refl, sym, ap, _∙_}
-use mathlib.Core.Bool.{Bool, true, false, _&&_}
+use mathlib.Core.Bool.{Bool, true, false}
 use mathlib.Core.List.{List, [], _∷_}
 use Prim.Native.Nat.{ℕ, zero, suc, _+_, _-_, _*_, _≤_, _<_}
 use native.Mathlib.Omega.{arith}
@@ -14,10 +14,11 @@ use Rattle.meaning.specs.Digits.{digitZero, digit, allDigits, number}
 use Rattle.meaning.specs.Lines.{lengthDigits, labelDigits, lineLead, lineEnd, minLineBytes, cr, lf}
 use Rattle.meaning.proofs.Bools.{and-left, and-right}
 use Rattle.meaning.proofs.LineLaws.{whole}
+use Rattle.contents.specs.Low.{firstLow}
 use Rattle.lines.specs.declared.Number.the-variants.{Is}
 use Rattle.lines.specs.declared.Line.the-variants.{Read}
 use Rattle.lines.specs.Number.{numberAt}
-use Rattle.lines.specs.Line.{must, mustRead, firstLow, labelledLine, sizedLine, lineAt}
+use Rattle.lines.specs.Line.{must, mustRead, labelledLine, sizedLine, lineAt}
 use Rattle.lines.specs.Told.{threeBytes, threeZeros, fourBytes, fourZeros, toldLength, toldLabel}
 use Rattle.lines.proofs.Laws.{byte-then}
 use Rattle.lines.proofs.Bridge.{number-is, read-back}

@@ -1,12 +1,13 @@
 -- The walk of `line_at`: the tests 2 to 6 of one line, over the bytes and an offset, in the code's order.
 -- Assumes nothing: these are definitions. What they mean is `line-is` in proofs/Bridge.
-use mathlib.Core.Bool.{Bool, true, false, cond, _&&_}
+use mathlib.Core.Bool.{Bool, true, false, _&&_}
 use mathlib.Core.List.{List}
-use Prim.Native.Nat.{ℕ, zero, suc, _+_, _-_, _*_}
+use Prim.Native.Nat.{ℕ, _+_, _-_}
 use lib.ListN.{length, getD}
 use lib.Dec.{leb, eqb}
 use Rattle.meaning.specs.Refusals.{refusal, badLength, cutLine, badEnd, badLabel, badByte}
-use Rattle.meaning.specs.Lines.{lengthDigits, labelDigits, lineLead, lineEnd, minLineBytes, leastByte, cr, lf}
+use Rattle.meaning.specs.Lines.{lengthDigits, labelDigits, lineLead, lineEnd, minLineBytes, cr, lf}
+use Rattle.contents.specs.Low.{firstLow}
 use Rattle.lines.specs.declared.Line.{Line}
 use Rattle.lines.specs.declared.Line.the-variants.{Read, Refused}
 use Rattle.lines.specs.declared.Number.{Number}
@@ -22,15 +23,6 @@ must false n place l = Refused (refusal n place 0)
 unfoldable pub mustRead : Number → ℕ → ℕ → (ℕ → Line) → Line
 mustRead (Is m) n place f = f m
 mustRead None n place f = Refused (refusal n place 0)
-
--- so many bytes of a line are tested at once: every line has as many before its end
-abbrev pub block : ℕ
-block = lineLead + 1
-
--- the offset of the first byte under 20h among the k bytes at an offset, or the offset behind them
-unfoldable pub firstLow : List ℕ → ℕ → ℕ → ℕ
-firstLow s at zero = at
-firstLow s at (suc k) = cond (leb leastByte (getD s at 0)) (firstLow s (at + 1) k) at
 
 -- the line at an offset whose length and label are read: 6
 unfoldable pub labelledLine : List ℕ → ℕ → ℕ → ℕ → Line

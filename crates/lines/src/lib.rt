@@ -1,6 +1,6 @@
 // One line of a set at an offset, what a line tells that was read before, where a set ends, and the scan of the lines from an offset on: 2 to 7 of the paper's replies.
-// Assumes nothing of the bytes; `first_low` and `scan_from`, which only other crates here call, assume that their offset lies within them. Each contract cites a walk of specs/,
-// and proofs/Bridge and proofs/ToldLaws say what the walks mean.
+// Assumes nothing of the bytes; `scan_from`, which only other crates here call, assumes that its offset lies within them. Each contract cites a walk of specs/, and
+// proofs/Bridge and proofs/ToldLaws say what the walks mean.
 ghost use mathlib.Core.Path.{_≡_};
 ghost use mathlib.Core.Bool.{true};
 ghost use Prim.Native.Nat.{_+_, _-_, _*_, _≤_, _<_};
@@ -11,7 +11,7 @@ ghost use Rattle.meaning.specs.Refusals.{refusal};
 ghost use Rattle.meaning.specs.Lines.{lengthDigits, labelDigits, lineLead, minLineBytes, cr, lf};
 ghost use Rattle.lines.specs.declared.Line.the-variants.{Read};
 ghost use Rattle.lines.specs.Number.{numberAt};
-ghost use Rattle.lines.specs.Line.{block, firstLow, labelledLine, sizedLine, lineAt};
+ghost use Rattle.lines.specs.Line.{labelledLine, sizedLine, lineAt};
 ghost use Rattle.lines.specs.Scan.{endsAt, scanFrom};
 ghost use Rattle.lines.specs.Told.{threeBytes, threeZeros, fourBytes, fourZeros, toldLength, toldLabel};
 use meaning::Refusal;
@@ -52,16 +52,8 @@ pub const SUM_LINE: usize = SUM_DIGITS + LINE_FRAME;
 // "Content has 1 byte or more, so lengths run 010 to 999."
 const MIN_LINE_BYTES: usize = LINE_FRAME + 1;
 
-// "Content bytes are 20h to FFh."
-const LEAST_BYTE: u8 = 32;
-
 // The largest byte that a content usually starts with.
 const USUAL_BYTE: u8 = 253;
-
-// So many bytes are tested at once, or in a long content so many. Every line has a block before its end, since its content has one byte or more.
-const BLOCK: usize = LINE_LEAD + 1;
-
-const WIDE_BLOCK: usize = 4 * BLOCK;
 
 // "Digits" are 30h to 39h.
 const DIGIT_ZERO: u8 = b'0';
@@ -130,88 +122,6 @@ pub fn number_at(s: &[u8], at: usize, k: usize) -> Number
     Number::Is(number)
 }
 
-// ---- the bytes of a content
-
-// None of the k bytes at an offset is under 20h. The loop has no way out between them, so that a number of bytes that is fixed is tested at once.
-fn clean(s: &[u8], at: usize, k: usize) -> bool
-    requires { ⌜ at + k ≤ length (now s) ⌝ }
-    ensures { λ r. ⌜ (r ≡ true → firstLow (now (s .entry)) at k ≡ at + k) ⌝ }
-{
-    let mut i: usize = 0;
-    let mut fit = true;
-    while i < k {
-        fit &= LEAST_BYTE <= s[at + i];
-        i += 1;
-    }
-    fit
-}
-
-// The offset of the first byte under 20h among the k bytes at an offset, or the offset behind them.
-fn seek_low(s: &[u8], at: usize, k: usize) -> usize
-    requires { ⌜ at + k ≤ length (now s) ⌝ }
-    ensures { λ r. ⌜ r ≡ firstLow (now (s .entry)) at k ⌝ }
-{
-    let end = at + k;
-    let mut i = at;
-    while i < end {
-        if s[i] < LEAST_BYTE {
-            return i;
-        }
-        i += 1;
-    }
-    i
-}
-
-// The same offset. A content without a fault is the rule, so blocks are passed over while they are clean.
-pub fn first_low(s: &[u8], at: usize, k: usize) -> usize
-    requires { ⌜ at + k ≤ length (now s) ⌝ }
-    ensures { λ r. ⌜ r ≡ firstLow (now (s .entry)) at k ⌝ }
-{
-    let end = at + k;
-    let mut i = at;
-    while WIDE_BLOCK <= end - i {
-        if clean(s, i, WIDE_BLOCK) {
-            i += WIDE_BLOCK;
-        } else {
-            return seek_low(s, i, end - i);
-        }
-    }
-    while BLOCK <= end - i {
-        if clean(s, i, BLOCK) {
-            i += BLOCK;
-        } else {
-            return seek_low(s, i, end - i);
-        }
-    }
-    seek_low(s, i, end - i)
-}
-
-// None of the bytes from one offset to another is under 20h. The last block may start before the first of them, and then asks more.
-fn clean_content(s: &[u8], from: usize, end: usize) -> bool
-    requires { ⌜ (block ≤ end) × (from ≤ end) × (end ≤ length (now s)) ⌝ }
-    ensures { λ r. ⌜ (r ≡ true → firstLow (now (s .entry)) from (end - from) ≡ end) ⌝ }
-{
-    if end <= from + BLOCK {
-        return clean(s, end - BLOCK, BLOCK);
-    }
-    let mut i = from;
-    while i + WIDE_BLOCK <= end {
-        if clean(s, i, WIDE_BLOCK) {
-            i += WIDE_BLOCK;
-        } else {
-            return false;
-        }
-    }
-    while i + BLOCK < end {
-        if clean(s, i, BLOCK) {
-            i += BLOCK;
-        } else {
-            return false;
-        }
-    }
-    clean(s, end - BLOCK, BLOCK)
-}
-
 // ---- one line, rule by rule
 
 // A refusal of a line: "the label 0, unless said otherwise".
@@ -233,7 +143,7 @@ fn labelled_line(s: &[u8], at: usize, size: usize, label: usize) -> Line
     // 6, BadByte: "content byte under 20h; place is that byte"
     let content = at + LINE_LEAD;
     let k = size - LINE_FRAME;
-    let low = seek_low(s, content, k);
+    let low = contents::seek_low(s, content, k);
     if low < content + k {
         return refused(Refusal::BAD_BYTE, low);
     }
@@ -354,17 +264,18 @@ fn usual_byte(i: usize, b: u8) -> bool
     if i < LINE_LEAD {
         return (DIGIT_ZERO <= b) & (b <= DIGIT_NINE);
     }
-    (LEAST_BYTE <= b) & (b <= USUAL_BYTE)
+    (contents::LEAST_BYTE <= b) & (b <= USUAL_BYTE)
 }
 
-// The bytes of a block at an offset, the first of a line, are usual ones. The loop has no way out between them, so that all are tested at once.
+// The bytes before the content of the line at an offset, and the first of its content, are usual ones. The loop has no way out between them, so that all are tested
+// at once.
 fn usual_lead(s: &[u8], at: usize) -> bool
-    requires { ⌜ at + block ≤ length (now s) ⌝ }
+    requires { ⌜ at + lineLead < length (now s) ⌝ }
     ensures { λ r. ⌜ (r ≡ true → allDigits (take lineLead (drop at (now (s .entry)))) ≡ true) ⌝ }
 {
     let mut i: usize = 0;
     let mut fit = true;
-    while i < BLOCK {
+    while i <= LINE_LEAD {
         fit &= usual_byte(i, s[at + i]);
         i += 1;
     }
@@ -397,7 +308,7 @@ fn sound_at(s: &[u8], at: usize) -> bool
             return false;
         }
         let end = at + (size - LINE_END);
-        if clean_content(s, at + LINE_LEAD, end) {
+        if contents::clean_content(s, at + LINE_LEAD, end) {
             return line_ends(s[end], s[end + 1]);
         }
     }

@@ -25,7 +25,7 @@ use Rattle.meaning.proofs.LineLaws.{Sound, length-render}
 use Rattle.meaning.proofs.PlaceLaws.{drop-lineThen, content-at}
 use Rattle.meaning.proofs.SetLaws.{accepted}
 use Rattle.meaning.proofs.CorrectionLaws.{Change, change}
-use Rattle.lines.specs.Line.{firstLow}
+use Rattle.contents.specs.Low.{firstLow}
 use Rattle.lines.specs.Told.{toldLength, toldLabel}
 use Rattle.lines.proofs.Laws.{byte-then}
 use Rattle.lines.proofs.Bridge.{read-line}

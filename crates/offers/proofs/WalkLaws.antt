@@ -11,7 +11,7 @@ use Rattle.meaning.specs.declared.Shape.{Shape}
 use Rattle.meaning.specs.Refusals.{badByte, badContent, noSuchLine, fixedLine}
 use Rattle.meaning.specs.FieldTable.{fitsLabel}
 use Rattle.meaning.specs.Corrections.{fixed}
-use Rattle.lines.specs.Line.{firstLow}
+use Rattle.contents.specs.Low.{firstLow}
 use Rattle.lines.specs.Told.{toldLength, toldLabel}
 use Rattle.offers.specs.declared.OneLine.{OneLine}
 use Rattle.offers.specs.Offered.{oneLine, noLine, lineFrom, lineAfter, told, behindAll, offeredTo, offered}

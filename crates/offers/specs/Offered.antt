@@ -10,7 +10,7 @@ use Rattle.meaning.specs.Refusals.{Spot, start, byte, Fault, badByte, badConten
 use Rattle.meaning.specs.Lines.{lineLead, lineEnd}
 use Rattle.meaning.specs.FieldTable.{fitsLabel}
 use Rattle.meaning.specs.Corrections.{fixed}
-use Rattle.lines.specs.Line.{firstLow}
+use Rattle.contents.specs.Low.{firstLow}
 use Rattle.lines.specs.Told.{toldLength, toldLabel}
 use Rattle.offers.specs.declared.OneLine.{OneLine}
 use Rattle.offers.specs.declared.Offer.{Offer}

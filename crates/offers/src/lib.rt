@@ -87,7 +87,7 @@ fn judge_for(line: OneLine, content: &[u8]) -> Offer
         return against(Refusal::FIXED_LINE, 0, line.label, line);
     }
     // 6, BadByte: "place in the new content"
-    let low = lines::first_low(content, 0, content.len());
+    let low = contents::first_low(content, 0, content.len());
     if low < content.len() {
         return against(Refusal::BAD_BYTE, low, 0, line);
     }

@@ -1,7 +1,6 @@
 -- `usual_byte`: before the content it asks for a digit.
 -- Assumes nothing.
 use native.Mathlib.Omega.{arith}
-use borrow.Author.Needs.{needs}
 use Rattle.lines.proofs.usual_byte.Statement.{statement}
 use Rattle.lines.proofs.usual_byte.Tie as tie
 

@@ -9,16 +9,15 @@ use lib.ListN.{take, drop}
 use Rattle.meaning.specs.Digits.{allDigits}
 use Rattle.meaning.specs.Lines.{lineLead}
 use Rattle.meaning.proofs.Bools.{and-left, and-right}
-use Rattle.lines.specs.Line.{block}
 use Rattle.lines.proofs.Laws.{digits-further, digits-done}
 use Rattle.lines.proofs.usual_lead.Statement.{statement}
 use Rattle.lines.proofs.usual_lead.Tie as tie
 
 abbrev Inv-loop : tie.InvT-loop
-Inv-loop s at i₀ fit₀ i fit = (i ≤ block) × (fit ≡ true → allDigits (take (lineLead - i) (drop (at + i) s)) ≡ allDigits (take lineLead (drop at s)))
+Inv-loop s at i₀ fit₀ i fit = (i ≤ lineLead + 1) × (fit ≡ true → allDigits (take (lineLead - i) (drop (at + i) s)) ≡ allDigits (take lineLead (drop at s)))
 
 abbrev μ-loop : tie.MeasureT-loop
-μ-loop s at i₀ fit₀ i fit = block - i
+μ-loop s at i₀ fit₀ i fit = lineLead + 1 - i
 
 loop-holds : tie.Need-loop-holds Inv-loop μ-loop
 loop-holds c =

@@ -4,10 +4,10 @@ use mathlib.Core.Path.{_≡_, refl, sym, _∙_}
 use Prim.Native.Nat.{_-_, _≤_}
 use native.Mathlib.Omega.{arith}
 use borrow.Author.Needs.{needs}
-use Rattle.lines.specs.Line.{firstLow}
-use Rattle.lines.proofs.Laws.{low-on, low-tail}
-use Rattle.lines.proofs.clean_content.Statement.{statement}
-use Rattle.lines.proofs.clean_content.Tie as tie
+use Rattle.contents.specs.Low.{firstLow}
+use Rattle.contents.proofs.Laws.{low-on, low-tail}
+use Rattle.contents.proofs.clean_content.Statement.{statement}
+use Rattle.contents.proofs.clean_content.Tie as tie
 
 abbrev Inv-loop : tie.InvT-loop
 Inv-loop s from end i₀ i = (from ≤ i) × (i ≤ end) × (firstLow s i (end - i) ≡ firstLow s from (end - from))

@@ -7,10 +7,10 @@ use native.Mathlib.Omega.{arith}
 use borrow.Author.Needs.{needs}
 use borrow.Author.Tests.{leb-true}
 use Rattle.meaning.proofs.Bools.{and-left, and-right}
-use Rattle.lines.specs.Line.{firstLow}
-use Rattle.lines.proofs.Laws.{low-step, low-done}
-use Rattle.lines.proofs.clean.Statement.{statement}
-use Rattle.lines.proofs.clean.Tie as tie
+use Rattle.contents.specs.Low.{firstLow}
+use Rattle.contents.proofs.Laws.{low-step, low-done}
+use Rattle.contents.proofs.clean.Statement.{statement}
+use Rattle.contents.proofs.clean.Tie as tie
 
 abbrev Inv-loop : tie.InvT-loop
 Inv-loop s at k i₀ fit₀ i fit = (i ≤ k) × (fit ≡ true → firstLow s (at + i) (k - i) ≡ firstLow s at k)
