@@ -1,9 +1,9 @@
 -- The index as it is written: the loop turn by turn, and that the plan and the loop make what `indexCall` says: `fills`.
 -- Assumes nothing.
 use mathlib.Core.Path.{_≡_, refl, sym, ap, _∙_}
-use mathlib.Core.Bool.{Bool, true, false, true≢false}
+use mathlib.Core.Bool.{Bool, true, false}
 use mathlib.Core.List.{List, [], _∷_, _++_}
-use Prim.Native.Nat.{ℕ, zero, suc, _+_, _≤_, _<_, zero-le}
+use Prim.Native.Nat.{ℕ, zero, suc, _+_, _≤_, zero-le}
 use native.Mathlib.Omega.{arith}
 use native.Mathlib.Numerals.{add-one}
 use lib.Dec.{leb}
@@ -12,95 +12,88 @@ use lib.Seq.{take-suc-set, drop-set-lt}
 use borrow.Author.Tests.{leb-true}
 use Rattle.meaning.specs.declared.Entry.{Entry}
 use Rattle.meaning.specs.declared.Refusal.{Refusal}
-use Rattle.meaning.specs.declared.Known.{Known}
-use Rattle.meaning.specs.declared.Known.the-variants.{Of, Nothing}
-use Rattle.meaning.specs.declared.SetType.{SetType}
-use Rattle.meaning.specs.declared.SetType.the-variants.{T6300, T6301, T6302, T6310, T6311}
-use Rattle.meaning.specs.Limits.{typeOf, typeNumber}
 use Rattle.meaning.specs.Field.{Field}
 use Rattle.meaning.specs.Refusals.{Reply, refused, done, refusal, noRoom, withRoom}
 use Rattle.meaning.specs.Pieces.{Parsed}
 use Rattle.meaning.specs.Groups.{first}
-use Rattle.meaning.specs.Rules.{profile, isKnown}
-use Rattle.meaning.specs.Reading.{read, judge}
+use Rattle.meaning.specs.Rules.{profile}
+use Rattle.meaning.specs.Reading.{read, shape, judge}
 use Rattle.meaning.specs.Index.{indexOf, index}
 use Rattle.meaning.specs.Answers.{indexCall}
 use Rattle.meaning.proofs.PlaceLaws.{index-count}
-use Rattle.meaning.proofs.RuleLaws.{ruled, begins-of}
-use Rattle.meaning.proofs.SetLaws.{accepted}
 use Rattle.sets.specs.declared.Walk.{Walk}
 use Rattle.sets.specs.declared.Next.{Next}
 use Rattle.sets.specs.Walking.{begin, nextEntry, entriesOf}
 use Rattle.sets.proofs.EntryWalk.{entries-are}
 use Rattle.replies.specs.declared.Plan.{Plan}
 use Rattle.replies.specs.Replies.{madeReply}
-use Rattle.replies.specs.Plans.{noEntries, typedEntries, allEntries, planIndex}
+use Rattle.replies.specs.Plans.{noEntries, allEntries, planIndex}
 use Rattle.gdt.specs.Filling.{walkAfter, stored}
 
 -- ---- the loop, turn by turn
 
-module _ (s : List ℕ) (kind : SetType) (w : Walk) where
+module _ (s : List ℕ) (w : Walk) where
   -- before the first turn
-  pub walk-none : w ≡ walkAfter s kind w 0
+  pub walk-none : w ≡ walkAfter s w 0
   unfolding walkAfter
   walk-none = refl
 
-  pub stored-none : (d : List Entry) → d ≡ stored s kind w 0 d
+  pub stored-none : (d : List Entry) → d ≡ stored s w 0 d
   unfolding stored
   stored-none d = refl
 
   -- a turn takes the walk behind the next line, and stores that line's entry
-  pub walk-next : (n : ℕ) (r : Next) → r ≡ nextEntry s kind (walkAfter s kind w n) → r .walk ≡ walkAfter s kind w (n + 1)
+  pub walk-next : (n : ℕ) (r : Next) → r ≡ nextEntry s (walkAfter s w n) → r .walk ≡ walkAfter s w (n + 1)
   unfolding walkAfter
   walk-next n r e = rw (add-one n) (ap (λ (x : Next). x .walk) e)
 
-  pub stored-next : (n : ℕ) (d : List Entry) (r : Next) → r ≡ nextEntry s kind (walkAfter s kind w n) → set (stored s kind w n d) n (r .entry) ≡ stored s kind w (n + 1) d
+  pub stored-next : (n : ℕ) (d : List Entry) (r : Next) → r ≡ nextEntry s (walkAfter s w n) → set (stored s w n d) n (r .entry) ≡ stored s w (n + 1) d
   unfolding stored
-  stored-next n d r e = rw (add-one n) (ap (λ (x : Next). set (stored s kind w n d) n (x .entry)) e)
+  stored-next n d r e = rw (add-one n) (ap (λ (x : Next). set (stored s w n d) n (x .entry)) e)
 
-  pub length-stored : (n : ℕ) (d : List Entry) → length (stored s kind w n d) ≡ length d
+  pub length-stored : (n : ℕ) (d : List Entry) → length (stored s w n d) ≡ length d
   unfolding stored
   length-stored zero d = refl
-  length-stored (suc n) d = length-set (stored s kind w n d) n _ ∙ length-stored n d
+  length-stored (suc n) d = length-set (stored s w n d) n _ ∙ length-stored n d
 
   -- what stands behind the stored entries is as it was
-  drop-stored : (n m : ℕ) (d : List Entry) → n ≤ m → drop m (stored s kind w n d) ≡ drop m d
+  drop-stored : (n m : ℕ) (d : List Entry) → n ≤ m → drop m (stored s w n d) ≡ drop m d
   unfolding stored
   drop-stored zero m d h = refl
-  drop-stored (suc n) m d h = drop-set-lt m (stored s kind w n d) n _ h ∙ drop-stored n m d (omega arith)
+  drop-stored (suc n) m d h = drop-set-lt m (stored s w n d) n _ h ∙ drop-stored n m d (omega arith)
 
 -- ---- the entries that are stored are those of the walk
 
-module _ (s : List ℕ) (kind : SetType) where
+module _ (s : List ℕ) where
   -- a line first and n lines then, or n lines first
-  walk-later : (w : Walk) (n : ℕ) → walkAfter s kind (nextEntry s kind w .walk) n ≡ walkAfter s kind w (suc n)
+  walk-later : (w : Walk) (n : ℕ) → walkAfter s (nextEntry s w .walk) n ≡ walkAfter s w (suc n)
   unfolding walkAfter
   walk-later w zero = refl
-  walk-later w (suc n) = ap (λ (v : Walk). nextEntry s kind v .walk) (walk-later w n)
+  walk-later w (suc n) = ap (λ (v : Walk). nextEntry s v .walk) (walk-later w n)
 
   -- the last of n + 1 entries is that of the line behind n lines
-  entries-last : (w : Walk) (n : ℕ) → entriesOf s kind w n ++ (nextEntry s kind (walkAfter s kind w n) .entry ∷ []) ≡ entriesOf s kind w (suc n)
+  entries-last : (w : Walk) (n : ℕ) → entriesOf s w n ++ (nextEntry s (walkAfter s w n) .entry ∷ []) ≡ entriesOf s w (suc n)
   unfolding walkAfter entriesOf
   entries-last w zero = refl
   entries-last w (suc n) =
-      let then = nextEntry s kind w in
-      ap (λ (v : Walk). then .entry ∷ entriesOf s kind (then .walk) n ++ (nextEntry s kind v .entry ∷ [])) (sym (walk-later w n))
+      let then = nextEntry s w in
+      ap (λ (v : Walk). then .entry ∷ entriesOf s (then .walk) n ++ (nextEntry s v .entry ∷ [])) (sym (walk-later w n))
       ∙ ap (λ (es : List Entry). then .entry ∷ es) (entries-last (then .walk) n)
 
-  take-stored : (w : Walk) (n : ℕ) (d : List Entry) → n ≤ length d → take n (stored s kind w n d) ≡ entriesOf s kind w n
+  take-stored : (w : Walk) (n : ℕ) (d : List Entry) → n ≤ length d → take n (stored s w n d) ≡ entriesOf s w n
   unfolding stored entriesOf
   take-stored w zero d h = refl
   take-stored w (suc n) d h =
-      take-suc-set (stored s kind w n d) n _ (rw (length-stored s kind w n d) h)
-      ∙ ap (λ (es : List Entry). es ++ (nextEntry s kind (walkAfter s kind w n) .entry ∷ [])) (take-stored w n d (omega arith))
+      take-suc-set (stored s w n d) n _ (rw (length-stored s w n d) h)
+      ∙ ap (λ (es : List Entry). es ++ (nextEntry s (walkAfter s w n) .entry ∷ [])) (take-stored w n d (omega arith))
       ∙ entries-last w n
 
   -- n entries of the walk, then what stood there
-  stored-are : (w : Walk) (n : ℕ) (d : List Entry) → n ≤ length d → stored s kind w n d ≡ entriesOf s kind w n ++ drop n d
+  stored-are : (w : Walk) (n : ℕ) (d : List Entry) → n ≤ length d → stored s w n d ≡ entriesOf s w n ++ drop n d
   stored-are w n d h =
-      sym (take-append-drop n (stored s kind w n d))
-      ∙ ap (λ (es : List Entry). es ++ drop n (stored s kind w n d)) (take-stored w n d h)
-      ∙ ap (λ (es : List Entry). entriesOf s kind w n ++ es) (drop-stored s kind w n n d (omega arith))
+      sym (take-append-drop n (stored s w n d))
+      ∙ ap (λ (es : List Entry). es ++ drop n (stored s w n d)) (take-stored w n d h)
+      ∙ ap (λ (es : List Entry). entriesOf s w n ++ es) (drop-stored s w n n d (omega arith))
 
 -- ---- plan and loop make the index
 
@@ -108,24 +101,7 @@ module _ (s : List ℕ) (kind : SetType) where
 pub record Fills (s : List ℕ) (d : List Entry) (p : Plan) : Type 0 where
   pub within : p .count ≤ length d
   pub answers : p .reply ≡ madeReply (indexCall s d .answer)
-  pub leaves : stored s (p .kind) begin (p .count) d ≡ indexCall s d .buffer
-
--- each type is named by its own number
-type-back : (t : SetType) → typeOf (typeNumber t) ≡ Of t
-unfolding typeOf
-type-back T6300 = refl
-type-back T6301 = refl
-type-back T6302 = refl
-type-back T6310 = refl
-type-back T6311 = refl
-
-known-of : (k : Known) → isKnown k ≡ true → (t : SetType) × (k ≡ Of t)
-known-of (Of t) e = (t, refl)
-known-of Nothing e = absurd (true≢false (sym e))
-
--- an accepted set has one of the five types
-type-of-accepted : (s : List ℕ) (q : Parsed) → read s ≡ done q → (t : SetType) × (profile (q .fields) .setType ≡ Of t)
-type-of-accepted s q e = known-of _ (begins-of (q .fields) (ruled (q .fields) (accepted s q e .standing .right) .0 .begins) .type-known)
+  pub leaves : stored s begin (p .count) d ≡ indexCall s d .buffer
 
 count-of : (fs : List Field) → length (indexOf fs) ≡ length fs
 unfolding indexOf
@@ -137,27 +113,26 @@ module _ (s : List ℕ) (d : List Entry) where
   unfolding stored
   fills-nothing r e = record { within = zero-le; answers = rw e; leaves = rw e }
 
-  module _ (q : Parsed) (e : read s ≡ done q) (kind : SetType) (t : profile (q .fields) .setType ≡ Of kind) where
+  module _ (q : Parsed) (e : read s ≡ done q) where
     abbrev n : ℕ
     n = length (q .fields)
 
-    by-room : (b : Bool) → leb n (length d) ≡ b → index s (length d) ≡ withRoom b n (indexOf (q .fields)) → Fills s d (typedEntries (Of kind) n (length d))
+    by-room : (b : Bool) → leb n (length d) ≡ b → index s (length d) ≡ withRoom b n (indexOf (q .fields)) → Fills s d (allEntries (shape (q .fields)) (length d))
+    unfolding allEntries
     by-room true h i =
         let l : n ≤ length d = leb-true n (length d) h in
         rw h (record {
           within = l;
           answers = rw (i, count-of (q .fields));
-          leaves = stored-are s kind begin n d l ∙ rw (i, count-of (q .fields), entries-are s q kind e t);
+          leaves = stored-are s begin n d l ∙ rw (i, count-of (q .fields), entries-are s q e);
         })
     by-room false h i = rw h (fills-nothing (refusal noRoom n 0) i)
 
 -- The plan that is made for a set and the room of d: its answer is that of the call, and the loop leaves d as the call says.
 pub fills : (s : List ℕ) (d : List Entry) → Fills s d (planIndex (judge s) (length d))
-unfolding planIndex allEntries judge index
+unfolding planIndex judge index
 fills s d = go (read s) refl
   where
     go : (r : Reply Parsed) → read s ≡ r → Fills s d (planIndex (judge s) (length d))
     go (refused x) e = rw e (fills-nothing s d x (rw e))
-    go (done q) e =
-        let t = type-of-accepted s q e in
-        rw (e, t .1, type-back (t .0)) (by-room s d q e (t .0) (t .1) (leb (length (q .fields)) (length d)) refl (rw e))
+    go (done q) e = rw e (by-room s d q e (leb (length (q .fields)) (length d)) refl (rw e))

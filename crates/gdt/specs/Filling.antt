@@ -4,16 +4,15 @@ use mathlib.Core.List.{List}
 use Prim.Native.Nat.{ℕ, zero, suc}
 use lib.ListN.{set}
 use Rattle.meaning.specs.declared.Entry.{Entry}
-use Rattle.meaning.specs.declared.SetType.{SetType}
 use Rattle.sets.specs.declared.Walk.{Walk}
 use Rattle.sets.specs.Walking.{nextEntry}
 
 -- the walk after n lines, from a walk on
-unfoldable pub walkAfter : List ℕ → SetType → Walk → ℕ → Walk
-walkAfter s kind w zero = w
-walkAfter s kind w (suc n) = nextEntry s kind (walkAfter s kind w n) .walk
+unfoldable pub walkAfter : List ℕ → Walk → ℕ → Walk
+walkAfter s w zero = w
+walkAfter s w (suc n) = nextEntry s (walkAfter s w n) .walk
 
 -- d with the entries of the first n lines from a walk on stored, one after the other
-unfoldable pub stored : List ℕ → SetType → Walk → ℕ → List Entry → List Entry
-stored s kind w zero d = d
-stored s kind w (suc n) d = set (stored s kind w n d) n (nextEntry s kind (walkAfter s kind w n) .entry)
+unfoldable pub stored : List ℕ → Walk → ℕ → List Entry → List Entry
+stored s w zero d = d
+stored s w (suc n) d = set (stored s w n d) n (nextEntry s (walkAfter s w n) .entry)

@@ -36,7 +36,7 @@ pub extern "C" fn gdt_index(set: &[u8], out: &mut [Entry]) -> MadeReply
     let mut walk = sets::start();
     let mut i = 0;
     while i < plan.count {
-        let next = sets::next_entry(set, plan.kind, walk);
+        let next = sets::next_entry(set, walk);
         out[i] = next.entry;
         walk = next.walk;
         i += 1;

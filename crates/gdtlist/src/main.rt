@@ -8,9 +8,7 @@ use libc::STDIN_FILENO;
 use libc::STDOUT_FILENO;
 use meaning::Entry;
 use meaning::Judged;
-use meaning::Known;
 use meaning::Refusal;
-use meaning::SetType;
 use meaning::Shape;
 
 // "at most 65,536 bytes"
@@ -74,11 +72,11 @@ fn print_entry(number: usize, entry: Entry) {
 }
 
 // The n lines of the set at the front of some bytes.
-fn print_entries(s: &[u8], kind: SetType, n: usize) {
+fn print_entries(s: &[u8], n: usize) {
     let mut walk = sets::start();
     let mut k: usize = 0;
     while k < n {
-        let next = sets::next_entry(s, kind, walk);
+        let next = sets::next_entry(s, walk);
         let entry = next.entry;
         let after = next.walk;
         k += 1;
@@ -87,13 +85,10 @@ fn print_entries(s: &[u8], kind: SetType, n: usize) {
     }
 }
 
-// An accepted set; its type is always one of the five.
+// An accepted set.
 fn print_accepted(s: &[u8], shape: Shape) {
     print_shape(shape);
-    let Known::Of(kind) = SetType::of(shape.kind) else {
-        return;
-    };
-    print_entries(s, kind, shape.lines);
+    print_entries(s, shape.lines);
 }
 
 // The set at the front of some bytes, or its refusal; answers the set's length, 0 for a refusal.

@@ -8,30 +8,21 @@ use Rattle.meaning.specs.declared.Shape.{Shape}
 use Rattle.meaning.specs.declared.Judged.{Judged}
 use Rattle.meaning.specs.declared.Judged.the-variants.{Accepted, Refused as RefusedSet}
 use Rattle.meaning.specs.declared.Made.the-variants.{Done}
-use Rattle.meaning.specs.declared.Known.the-variants.{Of, Nothing}
-use Rattle.meaning.specs.declared.SetType.{SetType}
-use Rattle.meaning.specs.Limits.{typeOf}
-use Rattle.meaning.specs.Refusals.{refusal, unknownSet, noRoom}
+use Rattle.meaning.specs.Refusals.{refusal, noRoom}
 use Rattle.replies.specs.declared.MadeReply.{MadeReply}
 use Rattle.replies.specs.Replies.{madeReply}
 use Rattle.replies.specs.Plans.{noEntries, allEntries, planIndex}
 
 module _ (x : Shape) (room : ℕ) where
-  -- a type that is none of the five
-  pub plan-unknown : typeOf (x .kind) ≡ Nothing → noEntries (refusal unknownSet 0 0) ≡ allEntries x room
-  unfolding allEntries
-  plan-unknown e = rw e
-
   -- more lines than there is room for
-  pub plan-no-room : (kind : SetType) → typeOf (x .kind) ≡ Of kind → room < x .lines → noEntries (refusal noRoom (x .lines) 0) ≡ allEntries x room
+  pub plan-no-room : room < x .lines → noEntries (refusal noRoom (x .lines) 0) ≡ allEntries x room
   unfolding allEntries
-  plan-no-room kind e h = rw (e, lt-leb (x .lines) room h)
+  plan-no-room h = rw (lt-leb (x .lines) room h)
 
   -- an entry for each line
-  pub plan-all : (kind : SetType) → typeOf (x .kind) ≡ Of kind → x .lines ≤ room → (reply : MadeReply) → reply ≡ madeReply (Done (x .lines))
-      → record { count = x .lines; kind = kind; reply = reply } ≡ allEntries x room
+  pub plan-all : x .lines ≤ room → (reply : MadeReply) → reply ≡ madeReply (Done (x .lines)) → record { count = x .lines; reply = reply } ≡ allEntries x room
   unfolding allEntries
-  plan-all kind e h reply q = rw (e, le-leb (x .lines) room h, q)
+  plan-all h reply q = rw (le-leb (x .lines) room h, q)
 
 -- a set that is refused, and one that is accepted
 pub plan-refused : (j : Judged) (room : ℕ) (r : Refusal) → j ≡ RefusedSet r → noEntries r ≡ planIndex j room

@@ -4,10 +4,8 @@ ghost use mathlib.Core.Path.{_≡_};
 ghost use Rattle.replies.specs.Replies.{judgedReply, madeReply, viewedReply};
 ghost use Rattle.replies.specs.Plans.{noEntries, allEntries, planIndex};
 use meaning::Judged;
-use meaning::Known;
 use meaning::Made;
 use meaning::Refusal;
-use meaning::SetType;
 use meaning::Shape;
 use meaning::Viewed;
 
@@ -42,10 +40,9 @@ pub struct ViewedReply {
     pub length: usize,
 }
 
-// What an index comes to before its first entry is written: how many entries, the set's type, and the answer.
+// What an index comes to before its first entry is written: how many entries, and the answer.
 pub struct Plan {
     pub count: usize,
-    pub kind: SetType,
     pub reply: MadeReply,
 }
 
@@ -125,29 +122,18 @@ pub fn viewed_reply(viewed: Viewed) -> ViewedReply
     }
 }
 
-// "All lent buffers then keep every byte and entry": nothing is written, so the type is not asked.
+// "All lent buffers then keep every byte and entry": nothing is written.
 fn no_entries(refusal: Refusal) -> Plan
     ensures { λ r. ⌜ r ≡ noEntries refusal ⌝ }
 {
     let reply = made_reply(Made::Refused(refusal));
-    Plan {
-        count: 0,
-        kind: SetType::T6300,
-        reply,
-    }
+    Plan { count: 0, reply }
 }
 
-// An entry for each line of an accepted set of this shape; its type is always one of the five.
+// An entry for each line of an accepted set of this shape, where there is room.
 fn all_entries(shape: Shape, room: usize) -> Plan
     ensures { λ r. ⌜ r ≡ allEntries shape room ⌝ }
 {
-    let Known::Of(kind) = SetType::of(shape.kind) else {
-        return no_entries(Refusal {
-            no: Refusal::UNKNOWN_SET,
-            place: 0,
-            label: 0,
-        });
-    };
     if room < shape.lines {
         return no_entries(Refusal {
             no: Refusal::NO_ROOM,
@@ -158,7 +144,6 @@ fn all_entries(shape: Shape, room: usize) -> Plan
     let reply = made_reply(Made::Done(shape.lines));
     Plan {
         count: shape.lines,
-        kind,
         reply,
     }
 }

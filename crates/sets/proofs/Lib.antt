@@ -1,1 +1,3 @@
+pub mod LabelLaws
+pub mod HeaderLaws
 pub mod EntryWalk

@@ -1,29 +1,21 @@
-// A walk over the lines of an accepted set that gives its index entry after entry, by value: nothing is kept but four numbers.
+// A walk over the lines of an accepted set that gives its index entry after entry, by value: nothing is kept but three numbers, and no table is asked.
 // Assumes nothing: no function has a `requires`. Contracts cite specs/Walking, and `entries-are` in proofs/EntryWalk says what the walk of an accepted set gives.
 ghost use mathlib.Core.Path.{_≡_};
-ghost use Rattle.sets.specs.Walking.{begin, counted, closedMark, markAt, nextEntry};
+ghost use Rattle.sets.specs.Walking.{begin, counted, isHeader, isMember, headerOf, lastBehind, noLine, nextEntry};
 use meaning::Entry;
 use meaning::SetType;
 
-// Where a walk stands: the offset of the next line, the lines before it, the open header's label (0: none), and the lines before the header's line.
+// Where a walk stands: the offset of the next line, the lines before it, and the number of the last header's or name's line (0: none so far).
 pub struct Walk {
     pub at: usize,
     pub lines: usize,
     pub header: usize,
-    pub line: usize,
 }
 
 // The entry of the line at the walk, and the walk behind that line.
 pub struct Next {
     pub entry: Entry,
     pub walk: Walk,
-}
-
-// What a line does to groups and pairs: the number of its header's line (0: none), then the open header behind it and the lines before that one's line.
-pub struct Mark {
-    pub under: usize,
-    pub header: usize,
-    pub line: usize,
 }
 
 // At the first line of a set.
@@ -34,7 +26,6 @@ pub fn start() -> Walk
         at: 0,
         lines: 0,
         header: 0,
-        line: 0,
     }
 }
 
@@ -48,77 +39,106 @@ fn one_more(n: usize) -> usize
     n + 1
 }
 
-// "A group ends at the first line that is not a member of its header."
-fn closed() -> Mark
-    ensures { λ r. ⌜ r ≡ closedMark ⌝ }
+// ---- headers and members by their labels
+
+// "Every 8410 opens a group", "every 6302 opens a group", "even labels 6330 to 6398 are names".
+fn is_header(label: usize) -> bool
+    ensures { λ r. ⌜ r ≡ isHeader label ⌝ }
 {
-    Mark {
-        under: 0,
-        header: 0,
-        line: 0,
+    if 8410 < label {
+        return false;
+    }
+    if label == 8410 {
+        return true;
+    }
+    if fields::is_pair(label) {
+        return label % 2 == 0;
+    }
+    label == 6302
+}
+
+// "8411 to 8480", "6303, 6304 and 6305", and the odd labels 6331 to 6399.
+fn is_member(label: usize) -> bool
+    ensures { λ r. ⌜ r ≡ isMember label ⌝ }
+{
+    if 8410 < label {
+        return label <= 8480;
+    }
+    if fields::is_pair(label) {
+        return label % 2 == 1;
+    }
+    if label < 6303 {
+        return false;
+    }
+    label <= 6305
+}
+
+// The number of the header's line of a line with this label, 0 for none: a member's header is the last one before it. In 6311 sets "8432 and 8439 are plain
+// single fields", and no header stands before them.
+fn header_of(label: usize, last: usize) -> usize
+    ensures { λ r. ⌜ r ≡ headerOf label last ⌝ }
+{
+    if is_member(label) {
+        return last;
+    }
+    0
+}
+
+// The number of the last header's line, behind the line with this label and number.
+fn last_behind(label: usize, number: usize, last: usize) -> usize
+    ensures { λ r. ⌜ r ≡ lastBehind label number last ⌝ }
+{
+    if is_header(label) {
+        return number;
+    }
+    last
+}
+
+// ---- from line to line
+
+// Where no line stands: an entry of zeros, and a walk that starts again.
+fn no_line() -> Next
+    ensures { λ r. ⌜ r ≡ noLine ⌝ }
+{
+    let walk = start();
+    Next {
+        entry: Entry {
+            label: 0,
+            place: 0,
+            length: 0,
+            header: 0,
+        },
+        walk,
     }
 }
 
-// What the line with this label does to groups and pairs: a line at set level opens its own, a member stays in the open one, any other ends it.
-fn mark_at(kind: SetType, walk: Walk, label: usize) -> Mark
-    ensures { λ r. ⌜ r ≡ markAt kind walk label ⌝ }
-{
-    let code = tables::find_row(kind, label);
-    if code == tables::NOTHING {
-        return closed();
-    }
-    let row_under = tables::under_of(code);
-    if row_under == 0 {
-        return Mark {
-            under: 0,
-            header: label,
-            line: walk.lines,
-        };
-    }
-    if steps::belongs_to(row_under, walk.header, label) {
-        let under = one_more(walk.line);
-        let header = steps::header_after(label, walk.header);
-        return Mark {
-            under,
-            header,
-            line: walk.line,
-        };
-    }
-    closed()
-}
-
-// The entry of the line at the walk, by what its bytes tell, and the walk behind it; where they tell no length, an entry of zeros and the same walk.
-pub fn next_entry(set: &[u8], kind: SetType, walk: Walk) -> Next
-    ensures { λ r. ⌜ r ≡ nextEntry (now (set .entry)) kind walk ⌝ }
+// The entry of the line at the walk, by what its bytes tell, and the walk behind that line.
+pub fn next_entry(set: &[u8], walk: Walk) -> Next
+    ensures { λ r. ⌜ r ≡ nextEntry (now (set .entry)) walk ⌝ }
 {
     let at = walk.at;
-    let length = lines::told_length(set, at);
-    if length == 0 {
-        return Next {
-            entry: Entry {
-                label: 0,
-                place: 0,
-                length: 0,
-                header: 0,
-            },
-            walk,
-        };
+    if set.len() < lines::LINE_LEAD {
+        return no_line();
     }
+    if set.len() - lines::LINE_LEAD < at {
+        return no_line();
+    }
+    let length = lines::told_length(set, at);
     let label = lines::told_label(set, at);
-    let mark = mark_at(kind, walk, label);
     let lines = one_more(walk.lines);
+    let last = last_behind(label, lines, walk.header);
+    let header = header_of(label, walk.header);
     Next {
         entry: Entry {
             label,
             place: at + lines::LINE_LEAD,
             length,
-            header: mark.under,
+            header,
         },
         walk: Walk {
             at: at + (length + lines::LINE_FRAME),
             lines,
-            header: mark.header,
-            line: mark.line,
+            header: last,
         },
     }
 }

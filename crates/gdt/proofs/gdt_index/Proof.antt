@@ -39,7 +39,6 @@ use denote.Lend.{Held}
 use denote.Index.{place-is, elem-out, elem-put, opens-slice, closes-slice}
 use denote.Steps.{owned, nothing, peeks, heard}
 use denote.Struct.Laws as LL
-use denote.Enum.Laws as EL
 use denote.Signature.{plain}
 use denote.Exit.{yes}
 use denote.Triple.Statement.{Contract, Triple}
@@ -53,8 +52,6 @@ use Rattle.meaning.specs.declared.Entry.{Entry}
 use Rattle.meaning.specs.Reading.{judge}
 use Rattle.meaning.proofs.Entry as E
 use Rattle.meaning.proofs.Entry.Laws as E′
-use Rattle.meaning.proofs.SetType as K
-use Rattle.meaning.proofs.SetType.Laws as K′
 use Rattle.sets.specs.declared.Walk.{Walk}
 use Rattle.sets.specs.declared.Next.{Next}
 use Rattle.sets.specs.Walking.{begin, nextEntry}
@@ -129,9 +126,6 @@ next-val r = LL.val N.the-type N′.the-laws r
 abbrev plan-val : Plan → Val
 plan-val p = LL.val P.the-type P′.the-laws p
 
-abbrev kind-val : Plan → Val
-kind-val p = EL.val K.the-type K′.the-laws (p .kind)
-
 abbrev reply-val : Plan → Val
 reply-val p = LL.val R.the-type R′.the-laws (p .reply)
 
@@ -165,12 +159,9 @@ plan-fits p v is = subst (λ (u : Val). Is P.the-row p (u ∷ [])) (only-plan p 
 walk-fits : (w : Walk) (v : Val) → Is L.the-row w (v ∷ []) → WalkFits w
 walk-fits w v is = subst (λ (u : Val). Is L.the-row w (u ∷ [])) (only-walk w v is) is
 
--- a plan's type and answer fit where the plan does
-kind-fits : (p : Plan) → PlanFits p → Is K.the-row (p .kind) (kind-val p ∷ [])
-kind-fits p h = LL.owed P.the-type P′.the-laws p (plan-val p ∷ []) h .1 .0
-
+-- a plan's answer fits where the plan does
 reply-fits : (p : Plan) → PlanFits p → Is R.the-row (p .reply) (reply-val p ∷ [])
-reply-fits p h = LL.owed P.the-type P′.the-laws p (plan-val p ∷ []) h .1 .1 .0
+reply-fits p h = LL.owed P.the-type P′.the-laws p (plan-val p ∷ []) h .1 .0
 
 -- ---- the contracts of the three callees
 
@@ -219,14 +210,14 @@ module _ {M : Type 1} (𝓤 : URA M) (H : Heap 𝓤) (A : Atoms 𝓤) (W : Given
   Post = walkOf 𝓤 H A index.ended stayed (index.clauses 𝓤 H A mem run) .post (((κ, (κ′, tt)), (q, (q′, tt)), tt, args, vals), tt)
 
   -- `out` and the walk after i turns
-  abbrev out-after : Plan → ℕ → List Entry
-  out-after p i = stored s (p .kind) begin i d
+  abbrev out-after : ℕ → List Entry
+  out-after i = stored s begin i d
 
-  abbrev walk-after : Plan → ℕ → Walk
-  walk-after p i = walkAfter s (p .kind) begin i
+  abbrev walk-after : ℕ → Walk
+  walk-after i = walkAfter s begin i
 
-  length-after : (p : Plan) (i : ℕ) → length (out-after p i) ≡ length d
-  length-after p i = length-stored s (p .kind) begin i d
+  length-after : (i : ℕ) → length (out-after i) ≡ length d
+  length-after i = length-stored s begin i d
 
   -- ---- what `plan_index` takes and tells
 
@@ -261,36 +252,35 @@ module _ {M : Type 1} (𝓤 : URA M) (H : Heap 𝓤) (A : Atoms 𝓤) (W : Given
 
   -- ---- what `next_entry` takes and tells
 
-  abbrev to-next : Plan → Walk → Stepping 𝓤 H A mem run .Ghost
-  to-next p w = (((κ, tt), (q, tt), tt, (lent, (p .kind, (w, tt))), (set-val ∷ [], (kind-val p ∷ [], (walk-val w ∷ [], tt)))), tt)
+  abbrev to-next : Walk → Stepping 𝓤 H A mem run .Ghost
+  to-next w = (((κ, tt), (q, tt), tt, (lent, (w, tt)), (set-val ∷ [], (walk-val w ∷ [], tt))), tt)
 
-  goes-next : (p : Plan) (w : Walk) → PlanFits p → WalkFits w → ent 𝓤 (sep 𝓤 (A .lft κ q) (sem 𝓤 H A Own)) (Stepping 𝓤 H A mem run .pre (to-next p w))
-  goes-next p w h g =
+  goes-next : (w : Walk) → WalkFits w → ent 𝓤 (sep 𝓤 (A .lft κ q) (sem 𝓤 H A Own)) (Stepping 𝓤 H A mem run .pre (to-next w))
+  goes-next w g =
       qed W (‵ (flft κ q) ∷ ‵ Own ∷ []) ∵ nothing ! $ move ! (1 ∷ 0 ∷ []) $ join ! $
       nothing ! $ owned ! L.the-row (Is L.the-row) (LL.makes L.the-type L′.the-plain 𝓤 H A) w _ g $ fjoin ! $
-      owned ! K.the-row (Is K.the-row) (EL.makes K.the-type K′.the-plain 𝓤 H A) (p .kind) _ (kind-fits p h) $ fjoin ! $
       move ! (2 ∷ 0 ∷ []) $ fjoin ! $ move ! (1 ∷ 0 ∷ []) $ join ! $ frame ! $ done !
 
-  abbrev Stepped : Plan → Walk → Next → Type 0
-  Stepped p w r = r ≡ nextEntry s (p .kind) w
+  abbrev Stepped : Walk → Next → Type 0
+  Stepped w r = r ≡ nextEntry s w
 
-  said-next : (p : Plan) (w : Walk) (r : Next)
-      → ent 𝓤 (ensured 𝓤 H A next-fn.ended (next-fn.clauses 𝓤 H A mem run) (κ, tt) (lent, (p .kind, (w, tt))) tt r) (fact 𝓤 (Stepped p w r))
-  said-next p w r = exE 𝓤 _ (λ ws. snd∗ 𝓤 (sem 𝓤 H A (lasts next-fn.ended (κ, tt) (lent, (p .kind, (w, tt))) ws)) (fact 𝓤 (Stepped p w r)))
+  said-next : (w : Walk) (r : Next)
+      → ent 𝓤 (ensured 𝓤 H A next-fn.ended (next-fn.clauses 𝓤 H A mem run) (κ, tt) (lent, (w, tt)) tt r) (fact 𝓤 (Stepped w r))
+  said-next w r = exE 𝓤 _ (λ ws. snd∗ 𝓤 (sem 𝓤 H A (lasts next-fn.ended (κ, tt) (lent, (w, tt)) ws)) (fact 𝓤 (Stepped w r)))
 
   -- ---- the end: all entries of the plan are stored
 
   exits : (p : Plan) → Planned p → PlanFits p → (i : ℕ) → i ≡ p .count
-      → ent 𝓤 (⋆ 𝓤 H A (‵ (Obs (out-after p i)) ∷ ‵ (Bor (out-after p i)) ∷ ‵ (flft κ′ q′) ∷ ‵ (flft κ q) ∷ ‵ Own ∷ [])) (Post (reply-val p))
+      → ent 𝓤 (⋆ 𝓤 H A (‵ (Obs (out-after i)) ∷ ‵ (Bor (out-after i)) ∷ ‵ (flft κ′ q′) ∷ ‵ (flft κ q) ∷ ‵ Own ∷ [])) (Post (reply-val p))
   exits p e h i all =
       let f = planned-fills p e in
-      let same = sym (length-after p i) in
-      qed W (‵ (Obs (out-after p i)) ∷ ‵ (Bor (out-after p i)) ∷ ‵ (flft κ′ q′) ∷ ‵ (flft κ q) ∷ ‵ Own ∷ []) ∵
+      let same = sym (length-after i) in
+      qed W (‵ (Obs (out-after i)) ∷ ‵ (Bor (out-after i)) ∷ ‵ (flft κ′ q′) ∷ ‵ (flft κ q) ∷ ‵ Own ∷ []) ∵
       suffices ! _ (ends-at 𝓤 H A index.ended stayed (index.clauses 𝓤 H A mem run) W (((κ, (κ′, tt)), (q, (q′, tt)), tt, args, vals), tt)
-      (reply-val p) (p .reply) (tt, (out-after p i, tt)) (tt, (length-after p i, tt))) $
-      says ! (f .answers, ap (out-after p) all ∙ f .leaves) $
+      (reply-val p) (p .reply) (tt, (out-after i, tt)) (tt, (length-after i, tt))) $
+      says ! (f .answers, ap out-after all ∙ f .leaves) $
       nothing ! $ move ! (3 ∷ 0 ∷ []) $ join ! $ move ! (3 ∷ 0 ∷ []) $ join ! $ frame ! $
-      fjoin ! $ pureI ! (at-slice E.the-row (out-ref (out-after p i)) (out-val ∷ [])) (tt, (tt, tt))
+      fjoin ! $ pureI ! (at-slice E.the-row (out-ref (out-after i)) (out-val ∷ [])) (tt, (tt, tt))
       (ap (λ (m : ℕ). sliceVal (b, o) m ∷ []) same, subst (Room E.the-row) same room) $ fjoin ! $
       nothing ! $ move ! (1 ∷ 0 ∷ []) $ fjoin ! $ move ! (1 ∷ 0 ∷ []) $ fjoin ! $
       owned ! R.the-row (Is R.the-row) (LL.makes R.the-type R′.the-plain 𝓤 H A) (p .reply) _ (reply-fits p h) $ move ! (1 ∷ 0 ∷ []) $ done !
@@ -307,7 +297,7 @@ module _ {M : Type 1} (𝓤 : URA M) (H : Heap 𝓤) (A : Atoms 𝓤) (W : Given
 
       -- i entries are stored, and the walk's numbers fit
       abbrev Upto : Type 0
-      Upto = (i : ℕ) × ((i ≤ p .count) × WalkFits (walk-after p i))
+      Upto = (i : ℕ) × ((i ≤ p .count) × WalkFits (walk-after i))
 
       abbrev Nearer : Upto → Upto → Type 0
       Nearer j i = p .count - j .0 < p .count - i .0
@@ -326,7 +316,7 @@ module _ {M : Type 1} (𝓤 : URA M) (H : Heap 𝓤) (A : Atoms 𝓤) (W : Given
 
       -- at the loop's head, with i entries stored
       abbrev At : Upto → List (Item 𝓤)
-      At i = Around (out-after p (i .0)) (‵ (fat fullShare word l₅ 0 (vint w64 (i .0)))) (‵ (fat fullShare L′.mir l₄ 0 (walk-val (walk-after p (i .0)))))
+      At i = Around (out-after (i .0)) (‵ (fat fullShare word l₅ 0 (vint w64 (i .0)))) (‵ (fat fullShare L′.mir l₄ 0 (walk-val (walk-after (i .0)))))
 
       abbrev Turned : Upto → Out → SProp 𝓤
       Turned i =
@@ -341,15 +331,15 @@ module _ {M : Type 1} (𝓤 : URA M) (H : Heap 𝓤) (A : Atoms 𝓤) (W : Given
           (from ! (stop !)) (init ! 9 refl (tt, tt)) $
           first ! $ branches ! (load ! (from ! (stop !)) (look ! 9 refl))
           (λ less. skips ! $ exec ! (𝓣 .C) (𝓣 .Λ) En turn-rest (anyQ (Turned i)) $
-          -- next = next_entry(set, plan.kind, walk): the token and one copy of what `set` owns go to it
+          -- next = next_entry(set, walk): the token and one copy of what `set` owns go to it
           move ! (4 ∷ []) $ use1 W (‵ Own ⊛ ‵ Own) (shr-slice-copy 𝓤 H A W (named 0) κ u8 .twice lent (set-val ∷ [])) $ split ! $
-          move ! (5 ∷ 0 ∷ []) $ use2 W (raw (Stepping 𝓤 H A mem run .pre (to-next p now-walk))) (goes-next p now-walk h (i .1 .1)) $
-          calls-at ! (fmOf 𝓤 H (W .laws) 𝓣) (Stepping 𝓤 H A mem run) known-next (to-next p now-walk)
+          move ! (5 ∷ 0 ∷ []) $ use2 W (raw (Stepping 𝓤 H A mem run .pre (to-next now-walk))) (goes-next now-walk (i .1 .1)) $
+          calls-at ! (fmOf 𝓤 H (W .laws) 𝓣) (Stepping 𝓤 H A mem run) known-next (to-next now-walk)
           (and-then ! (load ! (from ! (stop !)) (look ! 23 refl))
-          (and-then ! (load ! (from ! (fld ! refl (stop !))) (look-in ! 19 (sub ! 1 refl (whole !)))) (and-then ! (load ! (from ! (stop !)) (look ! 17 refl)) (no-more !)))) (λ v.
+          (and-then ! (load ! (from ! (stop !)) (look ! 17 refl)) (no-more !))) (λ v.
           use1 W (later (some (λ (r : Next). ((‵ (flft κ q) ⊛ ‵ ftrue) ⊛ ‵ (N.the-row .own r (v ∷ [])))
-          ⊛ raw (ensured 𝓤 H A next-fn.ended (next-fn.clauses 𝓤 H A mem run) (κ, tt) (lent, (p .kind, (now-walk, tt))) tt r)))) (id⊢ 𝓤 _) $ await ! tt $ pick ! (λ r.
-          split ! $ move ! (1 ∷ []) $ use1 W (raw (fact 𝓤 (Stepped p now-walk r))) (said-next p now-walk r) $ heard ! (Stepped p now-walk r) (λ said. split ! $
+          ⊛ raw (ensured 𝓤 H A next-fn.ended (next-fn.clauses 𝓤 H A mem run) (κ, tt) (lent, (now-walk, tt)) tt r)))) (id⊢ 𝓤 _) $ await ! tt $ pick ! (λ r.
+          split ! $ move ! (1 ∷ []) $ use1 W (raw (fact 𝓤 (Stepped now-walk r))) (said-next now-walk r) $ heard ! (Stepped now-walk r) (λ said. split ! $
           move ! (1 ∷ []) $ peeks ! N.the-row (Is N.the-row) (shows 𝓤 H A N.the-row) r (v ∷ []) (λ is.
           let parts = LL.owed N.the-type N′.the-laws r (v ∷ []) is in
           -- [what r owns; set's token; what set owns; obs; the borrow; out's token; l₁₀ ..]
@@ -363,16 +353,16 @@ module _ {M : Type 1} (𝓤 : URA M) (H : Heap 𝓤) (A : Atoms 𝓤) (W : Given
           rewrite ! 6 (λ (m : ℕ). ‵ (fat fullShare tyPtr l₁₀ 0 (vptr b m))) (sym (place-is 32 o (i .0))) refl $
           move ! (1 ∷ []) $ split ! $ move ! (4 ∷ 5 ∷ 6 ∷ []) $
           -- [obs; the borrow; out's token; set's token; true; what r owns; what set owns; l₁₀ ..]: the borrow is opened, and element i taken out
-          opens-slice ! tt E.the-row (out-after p (i .0)) b o $
+          opens-slice ! tt E.the-row (out-after (i .0)) b o $
           elem-out ! E.the-row (Is E.the-row) (shows 𝓤 H A E.the-row) (LL.vals E.the-type E′.the-laws) (LL.tells E.the-type E′.the-laws) fullShare
-          (out-after p (i .0)) (i .0) (r .entry) b o (inside less) (λ _.
+          (out-after (i .0)) (i .0) (r .entry) b o (inside less) (λ _.
           -- [out[i]; what it owns; the other entries; the open borrow; obs; auth; set's token; true; what r owns; what set owns; l₁₀ ..]
           -- out[i] = next.entry, then element i is put back and the borrow closed
           assigns ! (of-opd ! (load ! (from ! (fld ! refl (stop !))) (look-in ! 18 (sub ! 0 refl (whole !))))) (from ! (hop ! (look ! 10 refl) (stop !)))
           (store-raw ! 0 refl (LL.lawful E.the-type E′.the-laws 𝓤 H A W .typed (r .entry) _ (parts .0) .0)) $
           move ! (1 ∷ []) $ drop ! $ owned ! E.the-row (Is E.the-row) (LL.makes E.the-type E′.the-plain 𝓤 H A) (r .entry) _ (parts .0) $ move ! (1 ∷ 0 ∷ []) $
-          elem-put ! E.the-row fullShare (out-after p (i .0)) (i .0) (r .entry) (LL.vals E.the-type E′.the-laws (r .entry)) b o (inside less) $
-          closes-slice ! tt E.the-row (out-after p (i .0)) (set (out-after p (i .0)) (i .0) (r .entry)) (length-set (out-after p (i .0)) (i .0) (r .entry)) b o $
+          elem-put ! E.the-row fullShare (out-after (i .0)) (i .0) (r .entry) (LL.vals E.the-type E′.the-laws (r .entry)) b o (inside less) $
+          closes-slice ! tt E.the-row (out-after (i .0)) (set (out-after (i .0)) (i .0) (r .entry)) (length-set (out-after (i .0)) (i .0) (r .entry)) b o $
           -- [obs; the borrow; out's token; set's token; true; what r owns; what set owns; l₁₀ ..]: walk = next.walk
           assigns ! (of-opd ! (load ! (from ! (fld ! refl (stop !))) (look-in ! 15 (sub ! 1 refl (whole !))))) (from ! (stop !))
           (store ! 19 refl (LL.lawful L.the-type L′.the-laws 𝓤 H A W .typed (r .walk) _ (parts .1 .0) .0)) $
@@ -381,14 +371,14 @@ module _ {M : Type 1} (𝓤 : URA M) (H : Heap 𝓤) (A : Atoms 𝓤) (W : Given
           (from ! (stop !)) (store ! 17 refl (tt, record { fits = up less })) $
           forget ! 7 refl $ forget ! 9 refl $ forget ! 11 refl $ forget ! 15 refl $ move ! (4 ∷ 5 ∷ []) $ drop ! $ drop ! $
           -- back at the loop's head, with i + 1
-          rewrite ! 0 (λ (l : List Entry). ‵ (Obs l)) (stored-next s (p .kind) begin (i .0) d r said) refl $
-          rewrite ! 1 (λ (l : List Entry). ‵ (Bor l)) (stored-next s (p .kind) begin (i .0) d r said) refl $
-          rewrite ! 17 (λ (w : Walk). ‵ (fat fullShare L′.mir l₄ 0 (walk-val w))) (walk-next s (p .kind) begin (i .0) r said) refl $
-          again ! Nearer At i (i .0 + 1, (add-one-le (small less), subst WalkFits (walk-next s (p .kind) begin (i .0) r said) (parts .1 .0)))
+          rewrite ! 0 (λ (l : List Entry). ‵ (Obs l)) (stored-next s begin (i .0) d r said) refl $
+          rewrite ! 1 (λ (l : List Entry). ‵ (Bor l)) (stored-next s begin (i .0) d r said) refl $
+          rewrite ! 17 (λ (w : Walk). ‵ (fat fullShare L′.mir l₄ 0 (walk-val w))) (walk-next s begin (i .0) r said) refl $
+          again ! Nearer At i (i .0 + 1, (add-one-le (small less), subst WalkFits (walk-next s begin (i .0) r said) (parts .1 .0)))
           (add-one-dec (p .count) (i .0) (small less))))))))
           -- the loop is over: the result is plan.reply, and the locals end
           (λ over. jumps ! $ exec ! (𝓣 .C) (𝓣 .Λ) En body.t-6 (atRet En Post) $
-          assigns ! (of-opd ! (load ! (from ! (fld ! refl (stop !))) (look-in ! 19 (sub ! 2 refl (whole !))))) (from ! (stop !))
+          assigns ! (of-opd ! (load ! (from ! (fld ! refl (stop !))) (look-in ! 19 (sub ! 1 refl (whole !))))) (from ! (stop !))
           (init ! 25 refl (LL.lawful R.the-type R′.the-laws 𝓤 H A W .typed (p .reply) _ (reply-fits p h) .0)) $
           returns ! (look ! 25 refl) $
           forget ! 9 refl $ forget ! 11 refl $ forget ! 15 refl $ forget ! 17 refl $ forget ! 19 refl $ forget ! 21 refl $ forget ! 23 refl $ forget ! 25 refl $
@@ -398,13 +388,13 @@ module _ {M : Type 1} (𝓤 : URA M) (H : Heap 𝓤) (A : Atoms 𝓤) (W : Given
           by ! (exits p e h (i .0) (le-antisymm (i .1 .0) (nltb→le (i .0) (p .count) over))))
         where
           now-walk : Walk
-          now-walk = walk-after p (i .0)
+          now-walk = walk-after (i .0)
 
           small : Holds (ltb (i .0) (p .count)) → i .0 < p .count
           small less = ltb→lt (i .0) (p .count) less
 
-          inside : Holds (ltb (i .0) (p .count)) → i .0 < length (out-after p (i .0))
-          inside less = subst (λ (m : ℕ). i .0 < m) (sym (length-after p (i .0))) (lt-of-lt-of-le (small less) within)
+          inside : Holds (ltb (i .0) (p .count)) → i .0 < length (out-after (i .0))
+          inside less = subst (λ (m : ℕ). i .0 < m) (sym (length-after (i .0))) (lt-of-lt-of-le (small less) within)
 
           scaled : Holds (ltb (i .0) (p .count)) → i .0 * 32 < 2 ^ 64
           scaled less = omega (arith, room .1, small less, within)
@@ -425,10 +415,10 @@ module _ {M : Type 1} (𝓤 : URA M) (H : Heap 𝓤) (A : Atoms 𝓤) (W : Given
           -- [what w owns; true; obs; the borrow; ..]
           land ! (from ! (stop !)) (init ! 19 refl (LL.lawful L.the-type L′.the-laws 𝓤 H A W .typed w _ is .0)) $ drop ! $ drop ! $
           assigns ! (of-opd ! (lit ! tt)) (from ! (stop !)) (init ! 15 refl (tt, record { fits = lit< tt })) $
-          rewrite ! 0 (λ (l : List Entry). ‵ (Obs l)) (stored-none s (p .kind) begin d) refl $
-          rewrite ! 1 (λ (l : List Entry). ‵ (Bor l)) (stored-none s (p .kind) begin d) refl $
-          rewrite ! 17 (λ (u : Val). ‵ (fat fullShare L′.mir l₄ 0 u)) (only-walk w v is ∙ ap walk-val (said ∙ walk-none s (p .kind) begin)) refl $
-          first ! $ blocks ! $ loops ! 𝓣 Nearer Nearer-wf At turns (0, (zero-le, subst WalkFits (walk-none s (p .kind) begin) fits))))))
+          rewrite ! 0 (λ (l : List Entry). ‵ (Obs l)) (stored-none s begin d) refl $
+          rewrite ! 1 (λ (l : List Entry). ‵ (Bor l)) (stored-none s begin d) refl $
+          rewrite ! 17 (λ (u : Val). ‵ (fat fullShare L′.mir l₄ 0 u)) (only-walk w v is ∙ ap walk-val (said ∙ walk-none s begin)) refl $
+          first ! $ blocks ! $ loops ! 𝓣 Nearer Nearer-wf At turns (0, (zero-le, subst WalkFits (walk-none s begin) fits))))))
 
     -- ---- from entry to the answer of `plan_index`
     walk : ent 𝓤 (onEntry 𝓤 H A index.signature (κ, (κ′, tt)) (q, (q′, tt)) args vals) (WpFn 𝓤 H (𝓣 .C) (𝓣 .Λ) code.function (set-val ∷ out-val ∷ []) Post)

@@ -6,10 +6,10 @@ use Rattle.gdtlist.proofs.print_entries.Statement.{statement}
 use Rattle.gdtlist.proofs.print_entries.Tie as tie
 
 abbrev Inv-loop : tie.InvT-loop
-Inv-loop s kind n walk₀ k₀ walk k = Unit {0}
+Inv-loop s n walk₀ k₀ walk k = Unit {0}
 
 abbrev μ-loop : tie.MeasureT-loop
-μ-loop s kind n walk₀ k₀ walk k = n - k
+μ-loop s n walk₀ k₀ walk k = n - k
 
 start-requires : tie.Need-start-requires Inv-loop μ-loop
 start-requires c κs = search needs
