@@ -93,3 +93,9 @@ module _ (s : List ℕ) where
       let a : i ≡ e - b + j = omega arith in
       let z : e - b + (j + (e - i)) ≡ e = omega arith in
       ap (λ (x : ℕ). firstLow s x (e - i)) a ∙ low-last j (e - i) (e - b) (subst (λ (x : ℕ). firstLow s (e - b) x ≡ e - b + x) n q) ∙ z
+
+  -- two blocks, one at each end, that it passes over and that leave nothing between them: it passes over all
+  pub low-ends : (b i k : ℕ) → b ≤ k → k ≤ b + b → firstLow s i b ≡ i + b → firstLow s (i + k - b) b ≡ i + k - b + b → firstLow s i k ≡ i + k
+  low-ends b i k h g p q =
+      let n : k ≡ i + k - i = omega arith in
+      ap (firstLow s i) n ∙ (low-on b i (i + k) (omega arith) p ∙ low-tail b (i + b) (i + k) (omega arith) (omega arith) (omega arith) q)

@@ -10,10 +10,12 @@ ghost use Rattle.contents.specs.Low.{block, firstLow};
 // "Content bytes are 20h to FFh."
 pub const LEAST_BYTE: u8 = 32;
 
-// So many bytes are tested at once, or in a long content so many.
+// So many bytes are tested at once; in a long content more, in a short one fewer.
 const BLOCK: usize = 8;
 
 const WIDE_BLOCK: usize = 4 * BLOCK;
+
+const HALF_BLOCK: usize = BLOCK / 2;
 
 // None of the k bytes at an offset is under 20h. The loop has no way out between them, so that a number of bytes that is fixed is tested at once.
 fn clean(s: &[u8], at: usize, k: usize) -> bool
@@ -45,6 +47,22 @@ pub fn seek_low(s: &[u8], at: usize, k: usize) -> usize
     i
 }
 
+// The same offset, among no more bytes than a block has: the first and the last half of a block are tested at once.
+fn short_low(s: &[u8], at: usize, k: usize) -> usize
+    requires { ⌜ (k ≤ block) × (at + k ≤ length (now s)) ⌝ }
+    ensures { λ r. ⌜ r ≡ firstLow (now (s .entry)) at k ⌝ }
+{
+    let end = at + k;
+    if HALF_BLOCK <= k {
+        if clean(s, at, HALF_BLOCK) {
+            if clean(s, end - HALF_BLOCK, HALF_BLOCK) {
+                return end;
+            }
+        }
+    }
+    seek_low(s, at, k)
+}
+
 // The same offset. A content without a fault is the rule, so blocks are passed over while they are clean.
 pub fn first_low(s: &[u8], at: usize, k: usize) -> usize
     requires { ⌜ at + k ≤ length (now s) ⌝ }
@@ -66,7 +84,7 @@ pub fn first_low(s: &[u8], at: usize, k: usize) -> usize
             return seek_low(s, i, end - i);
         }
     }
-    seek_low(s, i, end - i)
+    short_low(s, i, end - i)
 }
 
 // None of the bytes from one offset to another is under 20h. The last block may start before the first of them, and then asks more.

@@ -82,14 +82,14 @@ seek-low-requires-2 c κs = search needs
 returns-2 : tie.Need-returns-2 Inv-loop μ-loop Inv-loop2 μ-loop2
 returns-2 c = c .seek-low2 .ensures ∙ c .before .before .before .before .loop2 .inv .1
 
-sub-seek-low-3 : tie.Need-sub-seek-low-3 Inv-loop μ-loop Inv-loop2 μ-loop2
-sub-seek-low-3 c = search needs
+sub-short-low : tie.Need-sub-short-low Inv-loop μ-loop Inv-loop2 μ-loop2
+sub-short-low c = search needs
 
-seek-low-requires-3 : tie.Need-seek-low-requires-3 Inv-loop μ-loop Inv-loop2 μ-loop2
-seek-low-requires-3 c κs = search needs
+short-low-requires : tie.Need-short-low-requires Inv-loop μ-loop Inv-loop2 μ-loop2
+short-low-requires c κs = search needs
 
 returns-3 : tie.Need-returns-3 Inv-loop μ-loop Inv-loop2 μ-loop2
-returns-3 c = c .seek-low3 .ensures ∙ c .before .before .loop2 .inv .1
+returns-3 c = c .short-low .ensures ∙ c .before .before .loop2 .inv .1
 
 pub first-low-spec : {M : Type 1} → statement M
 first-low-spec =
@@ -118,6 +118,6 @@ first-low-spec =
     sub-seek-low-2
     seek-low-requires-2
     returns-2
-    sub-seek-low-3
-    seek-low-requires-3
+    sub-short-low
+    short-low-requires
     returns-3)
