@@ -1,11 +1,12 @@
--- Sets of 512 lines, the most that a set can have (B2 of docs/DECISIONS.md): a table and a theorem.
--- Assumes nothing. They stand apart from the other open points, in crate `meaning`, since a set of 512 lines takes long to compute.
+-- Sets of 512 lines, the most that a set can have (B2 of docs/DECISIONS.md), and lists of more than 511 entries (B28): a table and a theorem for each.
+-- Assumes nothing. They stand apart from the other open points, in crate `meaning`, since so many lines take long to compute.
 use mathlib.Core.Path.{_≡_, refl}
 use mathlib.Core.List.{List, [], _∷_, _++_}
 use Prim.Native.Nat.{ℕ}
 use lib.ListN.{replicate}
+use Rattle.meaning.specs.Field.{Field}
 use Rattle.meaning.specs.Computes.{computes}
-use Rattle.meaning.proofs.Asking.{text, line, setOf, judging, accepted, refusedBy, answer, Example, example, asked, expected}
+use Rattle.meaning.proofs.Asking.{text, line, setOf, entriesOf, judging, writing, accepted, refusedBy, answer, Example, example, asked, expected}
 
 -- 512 lines, 5,135 bytes
 full : List ℕ
@@ -22,3 +23,19 @@ longest =
 longest-decided : asked longest ≡ expected longest
 unfolding computes answer longest full
 longest-decided = refl
+
+-- a list that starts a 6300 set, and then others
+list : List Field → List ℕ
+list more = entriesOf (line 8000 "6300" ∷ more)
+
+long : List Example
+unfolding list
+long =
+    -- B28: entry by entry, each by 7, 21, 6
+    example (writing (list (replicate 511 (line 3000 "0"))) 0) (refusedBy 7 2558 0)
+    ∷ example (writing (list (line 3000 "\t" ∷ replicate 511 (line 3000 "0"))) 0) (refusedBy 6 12 0)
+    ∷ example (writing (list (replicate 510 (line 3000 "0")) ++ (1 ∷ [])) 0) (refusedBy 7 2558 0) ∷ []
+
+long-decided : asked long ≡ expected long
+unfolding computes answer long list
+long-decided = refl

@@ -1,5 +1,5 @@
 -- The open points that docs/DECISIONS.md decides, each with inputs that show the decision, and the order of the rules where two apply: a table and a theorem for each part.
--- Assumes nothing. B1 to B44 are the names in docs/DECISIONS.md; contents alone (B25 to B27) are in FieldExamples and sets of 512 lines in LongSets, both in crate `examples`.
+-- Assumes nothing. B1 to B44 are the names in docs/DECISIONS.md; contents alone (B25 to B27) are in FieldExamples, sets of 512 lines and lists of over 511 entries (B28) in LongSets, both in crate `examples`.
 use mathlib.Core.Path.{_≡_, refl}
 use mathlib.Core.List.{List, [], _∷_, _++_}
 use Prim.Native.Nat.{ℕ}
@@ -142,11 +142,8 @@ lists =
     ∷ example (writing (entriesOf pLines) 51) (holds 51 p)
     ∷ example (listing p 21) (refusedBy 22 22 0)
     ∷ example (writing (entriesOf pLines) 50) (refusedBy 22 51 0)
-    -- 1 before all; B28: entry by entry
+    -- 1 before all; B28: LongSets
     ∷ example (writing [] 0) (refusedBy 1 0 0)
-    ∷ example (writing (entriesOf (line 8000 "6300" ∷ replicate 511 (line 3000 "0"))) 0) (refusedBy 7 2558 0)
-    ∷ example (writing (entriesOf (line 8000 "6300" ∷ line 3000 "\t" ∷ replicate 511 (line 3000 "0"))) 0) (refusedBy 6 12 0)
-    ∷ example (writing (entriesOf (line 8000 "6300" ∷ replicate 510 (line 3000 "0")) ++ (1 ∷ [])) 0) (refusedBy 7 2558 0)
     -- B29
     ∷ example (writing (entriesOf (line 8000 "" ∷ [])) 0) (refusedBy 9 0 0)
     ∷ example (writing (entriesOf (line 8000 "6300" ∷ line 3000 "" ∷ [])) 0) (refusedBy 14 8 3000)
