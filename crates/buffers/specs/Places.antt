@@ -1,4 +1,4 @@
--- What a buffer holds with bytes put into it at an offset, or moved inside it, and how many bytes are moved at once.
+-- What a buffer holds with bytes put into it at an offset, and how many bytes are moved at once.
 -- Assumes nothing: these are definitions.
 use mathlib.Core.List.{List, _++_}
 use Prim.Native.Nat.{ℕ, _+_}
@@ -7,10 +7,6 @@ use lib.ListN.{length, take, drop}
 -- b with the bytes x over those from offset `at` on
 unfoldable pub over : (at : ℕ) → List ℕ → List ℕ → List ℕ
 over at x b = take at b ++ (x ++ drop (at + length x) b)
-
--- b with its n bytes from offset `from` on copied over those from offset `to` on
-unfoldable pub moved : (from to n : ℕ) → List ℕ → List ℕ
-moved from to n b = take to b ++ take n (drop from b) ++ drop (to + n) b
 
 abbrev pub word : ℕ
 word = 8

@@ -10,8 +10,9 @@ use borrow.Rule.Slice.PartMut.{midOf, putMid}
 use Rattle.meaning.specs.Digits.{digits}
 use Rattle.meaning.specs.Lines.{lengthDigits, lineLead, lineEnd}
 use Rattle.meaning.specs.Lists.{sumDigits}
-use Rattle.buffers.specs.Places.{over, moved}
+use Rattle.buffers.specs.Places.{over}
 use Rattle.buffers.proofs.LendLaws.{mid-tail, put-tail}
+use Rattle.moves.specs.Moved.{moved}
 use Rattle.middles.specs.Middle.{replaced, newTotal, sumPlace, recontented}
 
 -- ---- what `replace_middle` leaves

@@ -22,7 +22,7 @@ fn replace_middle(buffer: &mut [u8], at: usize, old: usize, new: &[u8], used: us
 {
     let tail = used - (at + old);
     let end = at + new.len() + tail;
-    buffers::move_within(&mut buffer[at..], old, new.len(), tail);
+    moves::move_within(&mut buffer[at..], old, new.len(), tail);
     buffers::copy_front(&mut buffer[at..], new);
     buffers::clear(&mut buffer[end..]);
 }

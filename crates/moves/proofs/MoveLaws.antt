@@ -8,7 +8,7 @@ use native.Mathlib.Numerals.{add-one}
 use native.Mathlib.Omega.{arith}
 use lib.ListN.{length, getD, set, take, drop, length-drop, take-append-drop, List·getD-append}
 use lib.Seq.{paste, paste-zero, paste-suc, length-paste-head, length-take-le, getD-drop, getD-take, getD-append-add, set-at, take-suc, drop-cons, append-snoc}
-use Rattle.buffers.specs.Places.{moved}
+use Rattle.moves.specs.Moved.{moved}
 
 -- after the seam, what was there still stands
 getD-past : (d t : List ℕ) (at n k : ℕ) → at ≤ length d → n ≤ length t → at + n ≤ k → getD (paste d at t n) k 0 ≡ getD d k 0
