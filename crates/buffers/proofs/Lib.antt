@@ -1,2 +1,3 @@
 pub mod PutLaws
 pub mod LendLaws
+pub mod OverLaws

@@ -1,3 +1,2 @@
 pub mod PartLaws
-pub mod OverLaws
 pub mod ListLaws

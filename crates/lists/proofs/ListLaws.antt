@@ -40,9 +40,9 @@ use Rattle.passes.specs.Pass.{contentOf}
 use Rattle.passes.proofs.PassLaws.{reads-content, reads-on}
 use Rattle.buffers.specs.Places.{over}
 use Rattle.buffers.proofs.LendLaws.{mid-tail, put-tail, length-over}
+use Rattle.buffers.proofs.OverLaws.{over-none, over-then, over-lent, front-then-zeros}
 use Rattle.lists.specs.Listing.{AllRead, lineEntry, entriesFrom}
 use Rattle.lists.proofs.PartLaws.{one-more, none-left}
-use Rattle.lists.proofs.OverLaws.{over-none, over-then, over-lent, front-then-zeros}
 
 -- ---- one entry
 

@@ -1,14 +1,13 @@
--- The lines that the writer puts: what each `return` has to show, what the walk over a checked list gives, and the answers of `write`.
+-- The walk of `write` over a list: what is left to put as it goes, what it gives for a checked list, and the answers of `write`.
 -- Assumes nothing.
 use mathlib.Core.Path.{_≡_, refl, sym, ap, ap₂, _∙_, subst}
 use mathlib.Core.Bool.{Bool, true, false, cond, _&&_}
-use mathlib.Core.List.{List, [], _∷_, _++_, append-assoc, append-nil}
+use mathlib.Core.List.{List, [], _∷_, _++_, append-assoc}
 use Prim.Native.Nat.{ℕ, zero, suc, _+_, _-_, _*_, _≤_, _<_}
 use native.Mathlib.Omega.{arith}
 use lib.Dec.{leb, eqb}
-use lib.ListN.{length, set, take, drop, replicate, length-append}
-use lib.Seq.{sets-eq}
-use borrow.Author.Tests.{le-leb, lt-leb, eq-eqb, ne-eqb, eqb-true, eqb-false}
+use lib.ListN.{length, take, drop, replicate, length-append}
+use borrow.Author.Tests.{le-leb, lt-leb, ne-eqb, eqb-true}
 use borrow.Rule.Slice.PartMut.{midOf, putMid}
 use Rattle.meaning.specs.declared.Refusal.{Refusal}
 use Rattle.meaning.specs.declared.Known.the-variants.{Nothing}
@@ -18,7 +17,7 @@ use Rattle.meaning.specs.Digits.{digits}
 use Rattle.meaning.specs.Field.{Field, field, isNil}
 use Rattle.meaning.specs.Refusals.{Spot, Fault, Reply, refused, done, thenTo, verdict, withRoom, refusal, empty, noRoom}
 use Rattle.meaning.specs.Pieces.{parsed, pieces}
-use Rattle.meaning.specs.Lines.{cr, lf, lineLead, lineEnd, lineSize, lineThen, size, render}
+use Rattle.meaning.specs.Lines.{lineSize, lineThen, size, render}
 use Rattle.meaning.specs.Entries.{entryLead, entryForm, listSize}
 use Rattle.meaning.specs.FieldTable.{fitsLabel}
 use Rattle.meaning.specs.Rules.{fits, ruleFaults}
@@ -26,107 +25,29 @@ use Rattle.meaning.specs.Lists.{sumDigits, withSum, inList, setWithRoom, write}
 use Rattle.meaning.specs.Answers.{made, bytesLeft, writeCall}
 use Rattle.meaning.proofs.DigitLaws.{length-digits}
 use Rattle.meaning.proofs.FieldLaws.{fits-sum}
-use Rattle.meaning.proofs.LineLaws.{length-line, length-render, render-split}
+use Rattle.meaning.proofs.LineLaws.{length-render, render-split}
 use Rattle.entries.specs.declared.Head.{Head}
 use Rattle.entries.specs.declared.Head.the-variants.{Whole, Cut}
 use Rattle.entries.specs.Head.{entryAt}
 use Rattle.lacks.proofs.FirstLaws.{firstOf, Real}
 use Rattle.buffers.specs.Places.{over}
 use Rattle.buffers.proofs.LendLaws.{length-over}
+use Rattle.buffers.proofs.OverLaws.{over-then, front-then-zeros}
 use Rattle.checks.specs.declared.Checked.{Checked}
 use Rattle.checks.specs.declared.Checked.the-variants.{Done as Counted, Refused as Unchecked}
 use Rattle.checks.specs.Judging.{byHead, contentOf, checkFrom, judgeEntries, doneUnless, ruled, judgedList}
 use Rattle.checks.proofs.CheckLaws.{Reads, check-entered, check-refused}
 use Rattle.checks.proofs.EntryPass.{entries-found, rules-real}
-use Rattle.writer.specs.Writing.{entryLines, linesFrom, linesLeft}
+use Rattle.puts.specs.EntryLines.{entryLines}
+use Rattle.puts.proofs.LinePutLaws.{later-only, first-both}
+use Rattle.writer.specs.Writing.{linesFrom, linesLeft}
 use Rattle.lists.proofs.PartLaws.{one-more}
-use Rattle.lists.proofs.OverLaws.{over-then, front-then-zeros}
 use Rattle.lists.proofs.ListLaws.{sizes}
 
 -- ---- one line
 
 line-then : (f : Field) (t : List ℕ) → lineThen f [] ++ t ≡ lineThen f t
 line-then f t = sym (render-split (f ∷ []) t)
-
--- length, label, content and end, each put behind what stands
-pub line-put : (b b₁ b₂ b₃ b₄ c : List ℕ) (l to : ℕ) → to + (length c + (lineLead + lineEnd)) ≤ length b
-    → b₁ ≡ over to (digits 3 (length c + 9)) b
-    → b₂ ≡ over (to + 3) (digits 4 l) b₁
-    → b₃ ≡ over (to + 7) c b₂
-    → b₄ ≡ over (to + 7 + length c) (cr ∷ lf ∷ []) b₃
-    → b₄ ≡ over to (lineThen (field l c) []) b
-line-put b b₁ b₂ b₃ b₄ c l to h e₁ e₂ e₃ e₄ =
-    let three : List ℕ = digits 3 (length c + 9) in
-    let four : List ℕ = digits 4 l in
-    let lead : List ℕ = three ++ four in
-    let crlf : List ℕ = cr ∷ lf ∷ [] in
-    let n₂ : length (three ++ four) ≡ 7 = refl in
-    let n₃ : length (lead ++ c) ≡ 7 + length c = length-append lead c in
-    let n₄ : length ((lead ++ c) ++ crlf) ≡ 7 + length c + 2 = length-append (lead ++ c) crlf ∙ omega (arith, n₃) in
-    let a₂ : b₂ ≡ over to lead b = e₂ ∙ (ap (over (to + 3) four) e₁ ∙ over-then b to three four (omega (arith, n₂))) in
-    let a₃ : b₃ ≡ over to (lead ++ c) b = e₃ ∙ (ap (over (to + 7) c) a₂ ∙ over-then b to lead c (omega (arith, n₃))) in
-    let q : to + length (lead ++ c) ≡ to + 7 + length c = omega (arith, n₃) in
-    e₄
-    ∙ (ap₂ (λ (m : ℕ) (u : List ℕ). over m crlf u) (sym q) a₃
-    ∙ (over-then b to (lead ++ c) crlf (omega (arith, n₄)) ∙ ap (λ (u : List ℕ). over to u b) (append-assoc lead c crlf ∙ append-assoc three four (c ++ crlf))))
-
--- the end of a line, byte by byte
-pub end-put : (b : List ℕ) (at : ℕ) → at + lineEnd ≤ length b → set (set b at cr) (at + 1) lf ≡ over at (cr ∷ lf ∷ []) b
-unfolding over
-end-put b at h =
-    let e : at + 1 ≡ suc at = omega arith in
-    rw e (sets-eq (cr ∷ lf ∷ []) b at h ∙ append-assoc (take at b) (cr ∷ lf ∷ []) (drop (at + 2) b))
-
--- ---- the lines of one entry
-
-module _ (at l : ℕ) (c sum : List ℕ) where
-  abbrev own : List ℕ
-  own = lineThen (field l c) []
-
-  abbrev second : List ℕ
-  second = lineThen (field 8100 sum) []
-
-  own-length : length own ≡ length c + (lineLead + lineEnd)
-  own-length = length-line (field l c) [] ∙ omega arith
-
-  second-length : length second ≡ length sum + (lineLead + lineEnd)
-  second-length = length-line (field 8100 sum) [] ∙ omega arith
-
-  later-only : (at ≡ 0 → ⊥) → entryLines at l c sum ≡ own
-  unfolding entryLines
-  later-only h = rw (ne-eqb at 0 h) (append-nil own)
-
-  first-both : at ≡ 0 → entryLines at l c sum ≡ own ++ second
-  unfolding entryLines
-  first-both h = rw (eq-eqb at 0 h)
-
-  first-length : at ≡ 0 → length (entryLines at l c sum) ≡ (length c + (lineLead + lineEnd)) + (length sum + (lineLead + lineEnd))
-  first-length h = ap length (first-both h) ∙ (length-append own second ∙ omega (arith, own-length, second-length))
-
-  pub own-fits : (to room : ℕ) → to + length (entryLines at l c sum) ≤ room → to + (length c + (lineLead + lineEnd)) ≤ room
-  own-fits to room h = go (eqb at 0) refl
-    where
-      go : (b : Bool) → eqb at 0 ≡ b → to + (length c + (lineLead + lineEnd)) ≤ room
-      go true e = omega (arith, first-length (eqb-true at 0 e))
-      go false e = omega (arith, ap length (later-only (eqb-false at 0 e)), own-length)
-
-  pub second-fits : (to room : ℕ) → at ≡ 0 → to + length (entryLines at l c sum) ≤ room → to + (length c + (lineLead + lineEnd)) + (length sum + (lineLead + lineEnd)) ≤ room
-  second-fits to room e h = omega (arith, first-length e)
-
-  pub later-put : (b b₁ : List ℕ) (to : ℕ) → (at ≡ 0 → ⊥) → b₁ ≡ over to own b
-      → (to + (length c + (lineLead + lineEnd)) ≡ to + length (entryLines at l c sum)) × (b₁ ≡ over to (entryLines at l c sum) b)
-  later-put b b₁ to h e = (omega (arith, ap length (later-only h), own-length), e ∙ ap (λ (u : List ℕ). over to u b) (sym (later-only h)))
-
-  pub first-put : (b b₁ b₂ : List ℕ) (to : ℕ) → at ≡ 0 → to + length (entryLines at l c sum) ≤ length b → b₁ ≡ over to own b
-      → b₂ ≡ over (to + (length c + (lineLead + lineEnd))) second b₁
-      → (to + (length c + (lineLead + lineEnd)) + (length sum + (lineLead + lineEnd)) ≡ to + length (entryLines at l c sum)) × (b₂ ≡ over to (entryLines at l c sum) b)
-  first-put b b₁ b₂ to h g e₁ e₂ =
-      let q : to + (length c + (lineLead + lineEnd)) ≡ to + length own = omega (arith, own-length) in (
-        omega (arith, first-length h),
-        e₂ ∙ (ap₂ (λ (m : ℕ) (u : List ℕ). over m second u) q e₁
-            ∙ (over-then b to own second (omega (arith, length-append own second, own-length, second-length, first-length h))
-            ∙ ap (λ (u : List ℕ). over to u b) (sym (first-both h)))),
-      )
 
 -- ---- the walk: no entry is left, a head is cut, an entry more
 

@@ -3,17 +3,12 @@
 use mathlib.Core.Bool.{cond}
 use mathlib.Core.List.{List, [], _++_}
 use Prim.Native.Nat.{ℕ, zero, suc, _+_, _-_}
-use lib.Dec.{leb, eqb}
+use lib.Dec.{leb}
 use lib.ListN.{length}
-use Rattle.meaning.specs.Field.{field}
-use Rattle.meaning.specs.Lines.{lineThen}
 use Rattle.meaning.specs.Entries.{entryLead}
 use Rattle.entries.specs.Head.{entryAt}
 use Rattle.checks.specs.Judging.{byHead, contentOf}
-
--- the line of the entry at an offset of the list, and behind the first that of 8100
-unfoldable pub entryLines : ℕ → ℕ → List ℕ → List ℕ → List ℕ
-entryLines at l c sum = lineThen (field l c) [] ++ cond (eqb at 0) (lineThen (field 8100 sum) []) []
+use Rattle.puts.specs.EntryLines.{entryLines}
 
 -- the lines of the entries from an offset on, at most k
 unfoldable pub linesFrom : List ℕ → List ℕ → ℕ → ℕ → List ℕ

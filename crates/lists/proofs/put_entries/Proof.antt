@@ -8,10 +8,10 @@ use borrow.Author.Needs.{needs}
 use lib.ListN.{length}
 use Rattle.lines.proofs.Bridge.{read-back}
 use Rattle.buffers.specs.Places.{over}
+use Rattle.buffers.proofs.OverLaws.{over-none}
 use Rattle.lists.specs.Listing.{AllRead, entriesFrom}
 use Rattle.lists.proofs.PartLaws.{content-length}
 use Rattle.lists.proofs.ListLaws.{all-told, all-within, entries-end, line-fits, line-short, put-turn}
-use Rattle.lists.proofs.OverLaws.{over-none}
 use Rattle.lists.proofs.put_entries.Statement.{statement}
 use Rattle.lists.proofs.put_entries.Tie as tie
 

@@ -11,8 +11,8 @@ use Rattle.meaning.specs.Digits.{digits}
 use Rattle.meaning.specs.Lists.{sumDigits}
 use Rattle.entries.proofs.HeadLaws.{whole-back}
 use Rattle.buffers.specs.Places.{over}
+use Rattle.buffers.proofs.OverLaws.{over-none}
 use Rattle.lists.proofs.PartLaws.{part-length}
-use Rattle.lists.proofs.OverLaws.{over-none}
 use Rattle.writer.specs.Writing.{linesLeft}
 use Rattle.writer.proofs.WriteLaws.{lines-end, lines-cut, lines-fit, put-turn}
 use Rattle.writer.proofs.put_set.Statement.{statement}

@@ -2,10 +2,10 @@
 -- Assumes nothing.
 use Prim.Native.Nat.{_+_}
 use borrow.Author.Needs.{needs}
-use Rattle.lists.proofs.OverLaws.{over-lent}
-use Rattle.writer.proofs.WriteLaws.{line-put}
-use Rattle.writer.proofs.put_line.Statement.{statement}
-use Rattle.writer.proofs.put_line.Tie as tie
+use Rattle.buffers.proofs.OverLaws.{over-lent}
+use Rattle.puts.proofs.LinePutLaws.{line-put}
+use Rattle.puts.proofs.put_line.Statement.{statement}
+use Rattle.puts.proofs.put_line.Tie as tie
 
 add-size : tie.Need-add-size
 add-size c = search needs

@@ -3,9 +3,9 @@
 use native.Mathlib.Omega.{arith}
 use borrow.Author.Needs.{needs}
 use lib.ListN.{length-set}
-use Rattle.writer.proofs.WriteLaws.{end-put}
-use Rattle.writer.proofs.put_end.Statement.{statement}
-use Rattle.writer.proofs.put_end.Tie as tie
+use Rattle.puts.proofs.LinePutLaws.{end-put}
+use Rattle.puts.proofs.put_end.Statement.{statement}
+use Rattle.puts.proofs.put_end.Tie as tie
 
 slice-write-out : tie.Need-slice-write-out
 slice-write-out c = search needs

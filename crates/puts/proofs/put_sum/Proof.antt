@@ -3,9 +3,9 @@
 use borrow.Author.Needs.{needs}
 use Rattle.meaning.specs.Digits.{digits}
 use Rattle.meaning.specs.Lists.{sumDigits}
-use Rattle.writer.proofs.WriteLaws.{line-put}
-use Rattle.writer.proofs.put_sum.Statement.{statement}
-use Rattle.writer.proofs.put_sum.Tie as tie
+use Rattle.puts.proofs.LinePutLaws.{line-put}
+use Rattle.puts.proofs.put_sum.Statement.{statement}
+use Rattle.puts.proofs.put_sum.Tie as tie
 
 put-digits-requires : tie.Need-put-digits-requires
 put-digits-requires c κs = search needs

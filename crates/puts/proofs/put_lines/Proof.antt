@@ -5,9 +5,9 @@ use borrow.Author.Needs.{needs}
 use lib.ListN.{length}
 use Rattle.meaning.specs.Digits.{digits}
 use Rattle.meaning.specs.Lists.{sumDigits}
-use Rattle.writer.proofs.WriteLaws.{own-fits, second-fits, later-put, first-put}
-use Rattle.writer.proofs.put_lines.Statement.{statement}
-use Rattle.writer.proofs.put_lines.Tie as tie
+use Rattle.puts.proofs.LinePutLaws.{own-fits, second-fits, later-put, first-put}
+use Rattle.puts.proofs.put_lines.Statement.{statement}
+use Rattle.puts.proofs.put_lines.Tie as tie
 
 put-line-requires : tie.Need-put-line-requires
 put-line-requires c κs =
