@@ -1,9 +1,9 @@
 -- The walks of specs/ step by step: one law for each way that the code takes.
 -- Assumes nothing.
-use mathlib.Core.Path.{_≡_, refl, sym}
+use mathlib.Core.Path.{_≡_, refl}
 use mathlib.Core.Bool.{Bool, true, false, cond, _&&_}
 use mathlib.Core.List.{List, _∷_}
-use Prim.Native.Nat.{ℕ, zero, suc, _+_, _-_, _*_, _^_, _≤_, _<_}
+use Prim.Native.Nat.{ℕ, suc, _+_, _-_, _*_, _^_, _≤_, _<_}
 use native.Mathlib.Omega.{arith}
 use native.Mathlib.Numerals.{add-one}
 use native.Mathlib.Nat.{pow-suc, pow-le-pow-right, lt-of-lt-of-le}
@@ -11,31 +11,20 @@ use lib.Dec.{leb, lit<}
 use lib.ListN.{length, getD, take, drop}
 use lib.Seq.{drop-cons}
 use borrow.Author.Tests.{leb-true, leb-false, le-leb, lt-leb, eq-eqb, ne-eqb}
-use Rattle.meaning.specs.declared.Refusal.{Refusal}
-use Rattle.meaning.specs.Limits.{maxLines}
 use Rattle.meaning.specs.Digits.{digitZero, digitNine, digit, allDigits}
-use Rattle.meaning.specs.Refusals.{refusal, badLength, tooManyLines}
+use Rattle.meaning.specs.Refusals.{refusal, badLength}
 use Rattle.meaning.specs.Lines.{minLineBytes}
 use Rattle.meaning.proofs.Bools.{and-right}
 use Rattle.contents.proofs.Laws.{one-more, none-left}
 use Rattle.lines.specs.declared.Number.the-variants.{Is, None}
 use Rattle.lines.specs.declared.Line.{Line}
-use Rattle.lines.specs.declared.Line.the-variants.{Read}
-use Rattle.lines.specs.declared.Scan.the-variants.{Done, Refused}
 use Rattle.lines.specs.Number.{numberFrom, numberAt, mostDigits}
-use Rattle.lines.specs.Line.{must, sizedLine, lineAt}
-use Rattle.lines.specs.Scan.{endsAt, scanFrom}
+use Rattle.lines.specs.Line.{must, sizedLine}
 
 -- what a branch of the code knows, as the tests of the walks have it
 pub ruleset tests = (le-leb, lt-leb, eq-eqb, ne-eqb)
 
--- ---- tests, numbers and lists, with no line in them
-
--- two tests that hold at the same time are one
-pub test-same : (a b : Bool) → (a ≡ true → b ≡ true) → (b ≡ true → a ≡ true) → a ≡ b
-test-same true b f g = sym (f refl)
-test-same false true f g = g refl
-test-same false false f g = refl
+-- ---- numbers and lists, with no line in them
 
 -- at an offset within the bytes stands a byte, and then the others
 pub byte-then : (s : List ℕ) (at : ℕ) → at < length s → drop at s ≡ getD s at 0 ∷ drop (at + 1) s
@@ -118,24 +107,3 @@ module _ (s : List ℕ) (at i k : ℕ) where
 pub line-short : (s : List ℕ) (at n : ℕ) → n < minLineBytes → sizedLine s at n ≡ Line.Refused (refusal badLength at 0)
 unfolding must sizedLine
 line-short s at n h = search tests
-
--- ---- the scan with n lines behind it: the set ends, a 513th line starts, the line is refused, the line is read
-
-module _ (s : List ℕ) (at n : ℕ) where
-  pub scan-done : (k : ℕ) → endsAt s at ≡ true → scanFrom s at n k ≡ Done at n
-  unfolding scanFrom
-  scan-done zero e = rw e
-  scan-done (suc k) e = rw e
-
-  pub scan-full : maxLines ≤ n → endsAt s at ≡ false → scanFrom s at n (maxLines - n) ≡ Refused (refusal tooManyLines at 0)
-  unfolding scanFrom
-  scan-full h e = rw (none-left h, e)
-
-  module _ (h : n < maxLines) (e : endsAt s at ≡ false) where
-    pub scan-bad : {r : Refusal} → lineAt s at ≡ Line.Refused r → scanFrom s at n (maxLines - n) ≡ Refused r
-    unfolding scanFrom
-    scan-bad l = rw (one-more h, e, l)
-
-    pub scan-further : {label size : ℕ} → lineAt s at ≡ Read label size → scanFrom s at n (maxLines - n) ≡ scanFrom s (at + size) (n + 1) (maxLines - (n + 1))
-    unfolding scanFrom
-    scan-further l = rw (one-more h, e, l)

@@ -1,4 +1,3 @@
 pub mod Number
 pub mod Line
-pub mod Scan
 pub mod Told

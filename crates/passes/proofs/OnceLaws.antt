@@ -28,13 +28,15 @@ use Rattle.tables.specs.LookUp.{Found, At, findFrom}
 use Rattle.lines.specs.declared.Number.the-variants.{Is}
 use Rattle.lines.specs.declared.Line.{Line}
 use Rattle.lines.specs.declared.Line.the-variants.{Read}
-use Rattle.lines.specs.declared.Scan.{Scan}
-use Rattle.lines.specs.declared.Scan.the-variants.{Done, Refused}
 use Rattle.lines.specs.Number.{numberAt}
 use Rattle.lines.specs.Line.{lineAt}
-use Rattle.lines.specs.Scan.{endsAt, after, scanFrom, scanSet}
-use Rattle.lines.proofs.Laws.{number-within, scan-done, scan-full, scan-bad, scan-further}
-use Rattle.lines.proofs.Bridge.{asNumber, number-is, ends-is, read-back}
+use Rattle.lines.proofs.Laws.{number-within}
+use Rattle.lines.proofs.Bridge.{asNumber, number-is, read-back}
+use Rattle.scans.specs.declared.Scan.{Scan}
+use Rattle.scans.specs.declared.Scan.the-variants.{Done, Refused}
+use Rattle.scans.specs.Scan.{endsAt, after, scanFrom, scanSet}
+use Rattle.scans.proofs.Laws.{scan-done, scan-full, scan-bad, scan-further}
+use Rattle.scans.proofs.Bridge.{ends-is}
 use Rattle.lacks.specs.declared.Group.{Group}
 use Rattle.lacks.specs.Lacks.{orElse, State, noFlags, begin, openLack, firstLack, finish, stateOf}
 use Rattle.steps.specs.declared.Step.{Step}

@@ -14,10 +14,10 @@ use Rattle.meaning.specs.Lines.{lineLead, lineEnd}
 use Rattle.meaning.specs.Answers.{noRefusal}
 use Rattle.lines.specs.declared.Line.{Line}
 use Rattle.lines.specs.declared.Line.the-variants.{Read, Refused}
-use Rattle.lines.specs.declared.Scan.{Scan}
-use Rattle.lines.specs.declared.Scan.the-variants.{Done}
 use Rattle.lines.specs.Line.{lineAt}
-use Rattle.lines.specs.Scan.{scanFrom}
+use Rattle.scans.specs.declared.Scan.{Scan}
+use Rattle.scans.specs.declared.Scan.the-variants.{Done}
+use Rattle.scans.specs.Scan.{scanFrom}
 use Rattle.lacks.specs.Lacks.{State, begin, finish}
 use Rattle.steps.specs.Steps.{rowOf, lineNo, nextState, staysIn, lackThen}
 

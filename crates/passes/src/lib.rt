@@ -9,16 +9,16 @@ ghost use Rattle.meaning.specs.Limits.{maxLines};
 ghost use Rattle.meaning.specs.Rules.{typeNamed};
 ghost use Rattle.lines.specs.declared.Line.the-variants.{Read};
 ghost use Rattle.lines.specs.Line.{lineAt};
-ghost use Rattle.lines.specs.Scan.{scanFrom, scanSet};
+ghost use Rattle.scans.specs.Scan.{scanFrom, scanSet};
 ghost use Rattle.lacks.specs.Lacks.{finish, stateOf};
 ghost use Rattle.steps.specs.Steps.{rowOf, Stepped};
 ghost use Rattle.passes.specs.Pass.{contentOf, firstUnread, finishedScan, NextAt, passed};
 use lacks::Group;
 use lacks::ROWS;
 use lines::Line;
-use lines::Scan;
 use meaning::Refusal;
 use meaning::SetType;
+use scans::Scan;
 use steps::Step;
 
 // The next line: its label and its whole length.
@@ -51,7 +51,7 @@ pub fn unless_unread(s: &[u8], from: usize, before: usize, r: Refusal) -> Refusa
     requires { ⌜ (from ≤ length (now s)) × (before ≤ maxLines) ⌝ }
     ensures { λ q. ⌜ q ≡ firstUnread (scanFrom (now (s .entry)) from before (maxLines - before)) r ⌝ }
 {
-    match lines::scan_from(s, from, before) {
+    match scans::scan_from(s, from, before) {
         Scan::Refused(unread) => unread,
         Scan::Done {
             length: _,
@@ -92,7 +92,7 @@ fn ended(
     requires { ⌜ (from ≤ length (now s)) × (before ≤ maxLines) ⌝ }
     ensures { λ r. ⌜ r ≡ finishedScan (finish kind (stateOf group (now (members .entry)) (now (top .entry))) (group .lack)) (scanFrom (now (s .entry)) from before (maxLines - before)) ⌝ }
 {
-    match lines::scan_from(s, from, before) {
+    match scans::scan_from(s, from, before) {
         Scan::Refused(unread) => Scan::Refused(unread),
         Scan::Done { length, lines } => {
             let r = lacks::finish_at(kind, group, members, top);

@@ -31,7 +31,8 @@ use Rattle.meaning.proofs.FieldLaws.{sum-fits}
 use Rattle.meaning.proofs.SetLaws.{scanned, second-fits, later-sound}
 use Rattle.lines.specs.declared.Number.the-variants.{Is}
 use Rattle.lines.specs.Number.{numberAt}
-use Rattle.lines.proofs.Bridge.{summary, asNumber, number-is, scan-is, read-line}
+use Rattle.lines.proofs.Bridge.{asNumber, number-is, read-line}
+use Rattle.scans.proofs.Bridge.{summary, scan-is}
 use Rattle.lacks.specs.Lacks.{orElse, begin}
 use Rattle.lacks.proofs.FirstLaws.{firstOf, Real, first-append, real-append, real-ask, first-none, or-assoc, or-none, or-bad, or-then}
 use Rattle.lacks.proofs.FlagLaws.{begin-same}

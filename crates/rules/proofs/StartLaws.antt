@@ -22,13 +22,13 @@ use Rattle.meaning.specs.Answers.{noRefusal}
 use Rattle.lines.specs.declared.Number.the-variants.{Is, None}
 use Rattle.lines.specs.declared.Line.{Line}
 use Rattle.lines.specs.declared.Line.the-variants.{Read, Refused}
-use Rattle.lines.specs.declared.Scan.{Scan}
-use Rattle.lines.specs.declared.Scan.the-variants.{Done}
 use Rattle.lines.specs.Number.{numberAt}
 use Rattle.lines.specs.Line.{lineAt}
-use Rattle.lines.specs.Scan.{endsAt, scanFrom, scanSet}
-use Rattle.lines.proofs.Laws.{scan-bad, scan-further}
 use Rattle.lines.proofs.Bridge.{read-back}
+use Rattle.scans.specs.declared.Scan.{Scan}
+use Rattle.scans.specs.declared.Scan.the-variants.{Done}
+use Rattle.scans.specs.Scan.{endsAt, scanFrom, scanSet}
+use Rattle.scans.proofs.Laws.{scan-bad, scan-further}
 use Rattle.lacks.specs.Lacks.{orElse, begin}
 use Rattle.starts.specs.Sum.{sumWalk}
 use Rattle.passes.specs.Pass.{afterLine, contentOf, passFrom, firstUnread, doneUnless, Stops, passed}

@@ -16,10 +16,10 @@ use Rattle.meaning.specs.Rules.{typeNamed}
 use Rattle.meaning.specs.Answers.{noRefusal}
 use Rattle.lines.specs.declared.Line.{Line}
 use Rattle.lines.specs.declared.Line.the-variants.{Read, Refused}
-use Rattle.lines.specs.declared.Scan.{Scan}
-use Rattle.lines.specs.declared.Scan.the-variants.{Done}
 use Rattle.lines.specs.Line.{lineAt}
-use Rattle.lines.specs.Scan.{scanSet}
+use Rattle.scans.specs.declared.Scan.{Scan}
+use Rattle.scans.specs.declared.Scan.the-variants.{Done}
+use Rattle.scans.specs.Scan.{scanSet}
 use Rattle.lacks.specs.Lacks.{orElse, begin}
 use Rattle.starts.specs.Sum.{sumWalk}
 use Rattle.passes.specs.Pass.{afterLine, contentOf, passFrom}

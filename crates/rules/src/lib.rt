@@ -6,17 +6,17 @@ ghost use Rattle.meaning.specs.Rules.{typeNamed};
 ghost use Rattle.meaning.specs.Reading as Reading;
 ghost use Rattle.lines.specs.declared.Line.the-variants.{Read};
 ghost use Rattle.lines.specs.Line.{lineAt};
-ghost use Rattle.lines.specs.Scan.{scanSet};
+ghost use Rattle.scans.specs.Scan.{scanSet};
 ghost use Rattle.passes.specs.Pass.{contentOf};
 ghost use Rattle.rules.specs.Walks.{ruledWalk, asJudged, typedBy, firstBy, judgedScan};
 use lines::Line;
 use lines::Number;
-use lines::Scan;
 use meaning::Judged;
 use meaning::Known;
 use meaning::Refusal;
 use meaning::SetType;
 use meaning::Shape;
+use scans::Scan;
 
 // 11 to 17, where line 1 names this type and ends at `at`, and line 2 is 8100.
 fn summed(s: &[u8], kind: SetType, at: usize) -> Judged

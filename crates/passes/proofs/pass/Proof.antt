@@ -5,7 +5,7 @@ use native.Mathlib.Omega.{arith}
 use borrow.Author.Needs.{needs}
 use Prim.Native.Nat.{_-_}
 use Rattle.meaning.specs.Limits.{maxLines}
-use Rattle.lines.specs.declared.Scan.the-variants.{Refused}
+use Rattle.scans.specs.declared.Scan.the-variants.{Refused}
 use Rattle.lacks.specs.Lacks.{stateOf}
 use Rattle.passes.proofs.OnceLaws.{Along, along-start, along-end, along-few, along-least, along-within, along-bad, along-on}
 use Rattle.passes.proofs.pass.Statement.{statement}

@@ -2,7 +2,7 @@
 -- Assumes nothing.
 use mathlib.Core.Path.{sym, ap, _∙_}
 use borrow.Author.Needs.{needs}
-use Rattle.lines.specs.declared.Scan.{Scan}
+use Rattle.scans.specs.declared.Scan.{Scan}
 use Rattle.passes.specs.Pass.{firstUnread}
 use Rattle.passes.proofs.unless_unread.Statement.{statement}
 use Rattle.passes.proofs.unless_unread.Tie as tie

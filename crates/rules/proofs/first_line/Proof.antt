@@ -5,8 +5,8 @@ use native.Mathlib.Omega.{arith}
 use borrow.Author.Needs.{needs}
 use Rattle.meaning.specs.declared.Refusal.{Refusal}
 use Rattle.meaning.specs.declared.Judged.{Judged}
-use Rattle.lines.specs.Scan.{scanFrom}
 use Rattle.lines.proofs.Bridge.{read-back}
+use Rattle.scans.specs.Scan.{scanFrom}
 use Rattle.passes.specs.Pass.{firstUnread}
 use Rattle.rules.proofs.StartLaws.{first-other, first-untyped, first-start, first-named, first-typed}
 use Rattle.rules.proofs.first_line.Statement.{statement}

@@ -3,9 +3,9 @@
 use mathlib.Core.Path.{sym, ap, _∙_}
 use native.Mathlib.Omega.{arith}
 use borrow.Author.Needs.{needs}
-use Rattle.lines.specs.declared.Scan.{Scan}
-use Rattle.lines.specs.Scan.{scanSet}
 use Rattle.lines.proofs.Bridge.{read-back}
+use Rattle.scans.specs.declared.Scan.{Scan}
+use Rattle.scans.specs.Scan.{scanSet}
 use Rattle.starts.specs.Sum.{sumWalk}
 use Rattle.rules.specs.Walks.{asJudged, judgedScan}
 use Rattle.rules.proofs.StartLaws.{summed-is, judged-bad, judged-good}

@@ -6,11 +6,11 @@ use native.Mathlib.Omega.{arith}
 use borrow.Author.Needs.{needs}
 use lib.ListN.{length}
 use Rattle.meaning.specs.Limits.{maxLines}
-use Rattle.lines.specs.Scan.{scanFrom}
-use Rattle.lines.proofs.Laws.{scan-done, scan-full, scan-bad, scan-further}
 use Rattle.lines.proofs.Bridge.{read-back}
-use Rattle.lines.proofs.scan_from.Statement.{statement}
-use Rattle.lines.proofs.scan_from.Tie as tie
+use Rattle.scans.specs.Scan.{scanFrom}
+use Rattle.scans.proofs.Laws.{scan-done, scan-full, scan-bad, scan-further}
+use Rattle.scans.proofs.scan_from.Statement.{statement}
+use Rattle.scans.proofs.scan_from.Tie as tie
 
 abbrev Inv-loop : tie.InvT-loop
 Inv-loop s start before at₀ lines₀ at lines =

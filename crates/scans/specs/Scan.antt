@@ -1,4 +1,4 @@
--- The walks of `ends_at` and `scan_set`: the lines of a set, over the bytes and an offset.
+-- The walks of `ends_at` and `scan_from`, and that of a whole set: its lines, over the bytes and an offset.
 -- Assumes nothing: these are definitions. What they mean is `ends-is` and `scan-is` in proofs/Bridge.
 use mathlib.Core.Bool.{Bool, cond, _&&_, _||_}
 use mathlib.Core.List.{List}
@@ -9,11 +9,11 @@ use Rattle.meaning.specs.Limits.{maxLines}
 use Rattle.meaning.specs.Digits.{digitZero}
 use Rattle.meaning.specs.Refusals.{refusal, empty, tooManyLines}
 use Rattle.meaning.specs.Lines.{lengthDigits, lineLead}
 use Rattle.lines.specs.declared.Line.{Line}
 use Rattle.lines.specs.declared.Line.the-variants.{Read}
-use Rattle.lines.specs.declared.Scan.{Scan}
-use Rattle.lines.specs.declared.Scan.the-variants.{Done, Refused}
 use Rattle.lines.specs.Line.{lineAt}
+use Rattle.scans.specs.declared.Scan.{Scan}
+use Rattle.scans.specs.declared.Scan.the-variants.{Done, Refused}
 
 -- the four bytes at an offset read `8000`
 abbrev pub reads8000 : List ℕ → ℕ → Bool

@@ -1,10 +1,10 @@
 -- `ends_at` is the walk `endsAt`, test by test.
 -- Assumes nothing.
 use borrow.Author.Needs.{needs}
-use Rattle.lines.specs.Scan.{endsAt}
 use Rattle.lines.proofs.Laws.{tests}
-use Rattle.lines.proofs.ends_at.Statement.{statement}
-use Rattle.lines.proofs.ends_at.Tie as tie
+use Rattle.scans.specs.Scan.{endsAt}
+use Rattle.scans.proofs.ends_at.Statement.{statement}
+use Rattle.scans.proofs.ends_at.Tie as tie
 
 returns : tie.Need-returns
 unfolding endsAt
