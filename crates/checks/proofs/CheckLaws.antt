@@ -20,6 +20,7 @@ use Rattle.meaning.specs.Lines.{leastByte, lowBytes}
 use Rattle.meaning.specs.Entries.{entryLead, twoBytesAt, entryLabel, entryWidth, entryContent, entryField, entryWhole, maxLabel, entryFaults, entryForm, entryOk, listSize}
 use Rattle.meaning.proofs.Bools.{nil-is, and-left, and-right}
 use Rattle.meaning.proofs.FaultLaws.{ask-none, High, lows-none, refused-done, done-same}
+use Rattle.meaning.proofs.LeftLaws.{one-more, none-left}
 use Rattle.meaning.proofs.PieceLaws.{piece-back}
 use Rattle.contents.specs.Low.{firstLow}
 use Rattle.lines.proofs.Laws.{byte-then}
@@ -32,13 +33,6 @@ use Rattle.checks.specs.declared.Item.the-variants.{Read}
 use Rattle.checks.specs.declared.Checked.{Checked}
 use Rattle.checks.specs.declared.Checked.the-variants.{Done, Refused}
 use Rattle.checks.specs.Judging.{byHead, contentOf, checkContent, checkEntry, afterEntry, checkFrom}
-
--- how many entries may still come
-one-more : {n most : ℕ} → n < most → most - n ≡ suc (most - (n + 1))
-one-more h = omega arith
-
-none-left : {n most : ℕ} → most ≤ n → most - n ≡ 0
-none-left h = omega arith
 
 -- ---- one entry, as the code takes it
 

@@ -10,14 +10,8 @@ use lib.Dec.{leb}
 use lib.ListN.{getD}
 use borrow.Author.Tests.{le-leb, lt-leb}
 use Rattle.meaning.specs.Lines.{leastByte}
+use Rattle.meaning.proofs.LeftLaws.{one-more, none-left}
 use Rattle.contents.specs.Low.{firstLow}
-
--- what is left, e - i, is one more than what is left after one turn, or nothing
-pub one-more : {i e : ℕ} → i < e → e - i ≡ suc (e - (i + 1))
-one-more h = omega arith
-
-pub none-left : {i e : ℕ} → e ≤ i → e - i ≡ 0
-none-left h = omega arith
 
 -- ---- the first byte under 20h, one byte more; where no byte is left
 

@@ -4,7 +4,7 @@ use mathlib.Core.Path.{_≡_, refl, sym, ap, _∙_, subst}
 use mathlib.Core.Bool.{Bool, true, false, cond, not, _&&_, _||_, true≢false}
 use mathlib.Core.List.{List, [], _∷_}
 use mathlib.Core.Logic.{_⊎_, inl, inr, _≢_}
-use mathlib.Core.Option.{Option, none, some}
+use mathlib.Core.Option.{some}
 use Prim.Native.Nat.{ℕ, zero, suc, _+_, _%_, _≤_, _<_}
 use native.Mathlib.Omega.{arith}
 use lib.Dec.{leb, eqb}
@@ -15,6 +15,7 @@ use Rattle.meaning.specs.declared.SetType.the-variants.{T6300, T6301, T6302, T6
 use Rattle.meaning.specs.Field.{elem}
 use Rattle.meaning.specs.Tables.{setLevel, isPairLabel, rowLabel, rows6300, rows6301, rows6302, rows6310, rows6311, table, findIn, find}
 use Rattle.meaning.proofs.Bools.{and-left, and-right, not-true, Every}
+use Rattle.meaning.proofs.RowLaws.{allRows, some-same, none-some, found}
 use Rattle.keeps.specs.Keeps.{HasRow, IsName, IsOdd}
 
 -- ---- tests
@@ -117,29 +118,6 @@ odd-row-label l h = go (paired l)
     go (above p x y) = absurd (omega arith)
 
 -- ---- one test over the rows of a table
-
-abbrev allRows : (Row → Bool) → List Row → Bool
-allRows test [] = true
-allRows test (r ∷ rs) = test r && allRows test rs
-
-some-same : {A : Type 0} {a b : A} → _≡_ {A = Option A} (some a) (some b) → a ≡ b
-some-same e = cc
-
-none-some {ℓ} : {X : Type ℓ} {A : Type 0} {a : A} → _≡_ {A = Option A} none (some a) → X
-none-some e = let z : _≡_ {A = ℕ} 0 1 = cc in absurd (omega arith)
-
--- the row that is found has the label asked for, and passes what all rows pass
-found : (test : Row → Bool) (rs : List Row) (l : ℕ) (r : Row) → findIn rs l ≡ some r → allRows test rs ≡ true → (test r ≡ true) × (r .label ≡ l)
-unfolding findIn
-found test [] l r e a = none-some e
-found test (x ∷ xs) l r e a = go (λ q. found test xs l r q (and-right (test x) _ a)) (eqb l (x .label)) refl e
-  where
-    go : (findIn xs l ≡ some r → (test r ≡ true) × (r .label ≡ l)) → (b : Bool) → eqb l (x .label) ≡ b → cond b (some x) (findIn xs l) ≡ some r
-        → (test r ≡ true) × (r .label ≡ l)
-    go ih true p q =
-        let s : x ≡ r = some-same q in
-        (subst (λ (y : Row). test y ≡ true) s (and-left (test x) _ a), subst (λ (y : Row). y .label ≡ l) s (sym (eqb-true _ _ p)))
-    go ih false p q = ih q
 
 -- the members on which another depends, and those that depend
 abbrev pub conditional : List ℕ

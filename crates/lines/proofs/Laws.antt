@@ -15,7 +15,7 @@ use Rattle.meaning.specs.Digits.{digitZero, digitNine, digit, allDigits}
 use Rattle.meaning.specs.Refusals.{refusal, badLength}
 use Rattle.meaning.specs.Lines.{minLineBytes}
 use Rattle.meaning.proofs.Bools.{and-right}
-use Rattle.contents.proofs.Laws.{one-more, none-left}
+use Rattle.meaning.proofs.LeftLaws.{one-more, none-left}
 use Rattle.lines.specs.declared.Number.the-variants.{Is, None}
 use Rattle.lines.specs.declared.Line.{Line}
 use Rattle.lines.specs.Number.{numberFrom, numberAt, mostDigits}

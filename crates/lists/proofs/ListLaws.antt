@@ -42,7 +42,7 @@ use Rattle.buffers.specs.Places.{over}
 use Rattle.buffers.proofs.LendLaws.{mid-tail, put-tail, length-over}
 use Rattle.buffers.proofs.OverLaws.{over-none, over-then, over-lent, front-then-zeros}
 use Rattle.lists.specs.Listing.{AllRead, lineEntry, entriesFrom}
-use Rattle.lists.proofs.PartLaws.{one-more, none-left}
+use Rattle.meaning.proofs.LeftLaws.{one-more, none-left}
 
 -- ---- one entry
 

@@ -1,7 +1,7 @@
--- How long a part of a slice is, and what a loop that counts up has left.
+-- How long a part of a slice is.
 -- Assumes nothing.
 use mathlib.Core.Path.{_≡_}
-use Prim.Native.Nat.{ℕ, suc, _+_, _-_, _≤_, _<_}
+use Prim.Native.Nat.{ℕ, _+_, _-_}
 use native.Mathlib.Omega.{arith}
 
 -- a part that is told by its start and its length
@@ -11,10 +11,3 @@ part-length from n = omega arith
 -- the content of a line, told by the line's start and the content's length
 pub content-length : (at n : ℕ) → at + 7 + n - (at + 7) ≡ n + 9 - 9
 content-length at n = omega arith
-
--- one more is left, or none
-pub one-more : {k n : ℕ} → k < n → n - k ≡ suc (n - (k + 1))
-one-more h = omega arith
-
-pub none-left : {k n : ℕ} → n ≤ k → n - k ≡ 0
-none-left h = omega arith

@@ -1,10 +1,12 @@
 pub mod Bools
+pub mod LeftLaws
 pub mod DigitLaws
 pub mod FaultLaws
 pub mod PieceLaws
 pub mod LineLaws
 pub mod EntryLaws
 pub mod FieldLaws
+pub mod RowLaws
 pub mod RuleLaws
 pub mod SetLaws
 pub mod SizeLaws

@@ -7,7 +7,7 @@ use Prim.Native.Nat.{ℕ, zero, suc, _+_, _-_, _≤_, _<_}
 use Rattle.meaning.specs.declared.Refusal.{Refusal}
 use Rattle.meaning.specs.Limits.{maxLines}
 use Rattle.meaning.specs.Refusals.{refusal, tooManyLines}
-use Rattle.contents.proofs.Laws.{one-more, none-left}
+use Rattle.meaning.proofs.LeftLaws.{one-more, none-left}
 use Rattle.lines.specs.declared.Line.{Line}
 use Rattle.lines.specs.declared.Line.the-variants.{Read}
 use Rattle.lines.specs.Line.{lineAt}

@@ -2,7 +2,7 @@
 -- Assumes nothing.
 use mathlib.Core.Path.{_≡_, refl, sym, ap, _∙_}
 use mathlib.Core.Bool.{Bool, true, false, cond, not, _&&_, _||_, true≢false}
-use mathlib.Core.List.{List, [], _∷_, cons≢nil}
+use mathlib.Core.List.{List, [], cons≢nil}
 use mathlib.Core.Option.{Option, none, some}
 use Prim.Native.Nat.{ℕ, _+_, _%_}
 use native.Mathlib.Omega.{arith}
@@ -18,6 +18,7 @@ use Rattle.meaning.specs.Missing.{stays}
 use Rattle.meaning.specs.Rules.{Profile, lineRules}
 use Rattle.meaning.specs.Index.{headerLine}
 use Rattle.meaning.proofs.Bools.{and-left, and-right, not-true}
+use Rattle.meaning.proofs.RowLaws.{allRows, found}
 use Rattle.sets.specs.Walking.{isHeader, isMember, headerOf, lastBehind}
 use Rattle.sets.proofs.LabelLaws.{pair-least, pair-most, header-pair, member-pair}
 
@@ -54,11 +55,6 @@ odd-row l = go (isPairLabel l) refl
 
 -- ---- each row of the tables
 
--- every row passes a test
-abbrev allRows : (Row → Bool) → List Row → Bool
-allRows test [] = true
-allRows test (r ∷ rs) = test r && allRows test rs
-
 -- a row at set level has no member's label. Any other has a member's label and stands under a header's, under 6330 only the odd labels
 abbrev grouped : Row → Bool
 grouped r =
@@ -90,16 +86,6 @@ headerless-6311 : allRows headerless rows6311 ≡ true
 unfolding rows6311 isHeader isMember
 headerless-6311 = refl
 
--- a row that is found has the label asked for, and passes what every row passes
-found : (test : Row → Bool) (rs : List Row) (l : ℕ) (r : Row) → allRows test rs ≡ true → findIn rs l ≡ some r → (test r ≡ true) × (r .label ≡ l)
-unfolding findIn
-found test [] l r a e = let z : _≡_ {A = ℕ} 0 1 = cc in absurd (omega arith)
-found test (x ∷ rs) l r a e = go (λ h. found test rs l r (and-right (test x) _ a) h) (eqb l (x .label)) refl e
-  where
-    go : (findIn rs l ≡ some r → (test r ≡ true) × (r .label ≡ l)) → (b : Bool) → eqb l (x .label) ≡ b → cond b (some x) (findIn rs l) ≡ some r → (test r ≡ true) × (r .label ≡ l)
-    go rest true q h = let s : x ≡ r = cc in (ap test (sym s) ∙ and-left (test x) _ a, ap (λ (y : Row). y .label) (sym s) ∙ sym (eqb-true l (x .label) q))
-    go rest false q h = rest h
-
 -- ---- a line that 11 and 12 let pass
 
 -- it is at set level, or a member in its place
@@ -128,7 +114,7 @@ module _ (Kept : State → ℕ → Type 0) (test : Row → Bool) (rs : List Row)
     (inside : (r : Row) → test r ≡ true → r .label ≡ rowLabel l → (r .under ≡ setLevel → ⊥) → belongs r (st .header) l ≡ true → Goes Kept (member r) st k l last) where
   by-row : (r : Row) → findIn rs (rowLabel l) ≡ some r → Placed (roleOf r (st .header) l) → Goes Kept (roleOf r (st .header) l) st k l last
   unfolding roleOf
-  by-row r e = let f = found test rs (rowLabel l) r all e in go (f .0) (f .1) (eqb (r .under) setLevel) refl (belongs r (st .header) l) refl
+  by-row r e = let f = found test rs (rowLabel l) r e all in go (f .0) (f .1) (eqb (r .under) setLevel) refl (belongs r (st .header) l) refl
     where
       go : test r ≡ true → r .label ≡ rowLabel l → (a : Bool) → eqb (r .under) setLevel ≡ a → (b : Bool) → belongs r (st .header) l ≡ b
           → Placed (cond a (atSetLevel r) (cond b (member r) strayed)) → Goes Kept (cond a (atSetLevel r) (cond b (member r) strayed)) st k l last

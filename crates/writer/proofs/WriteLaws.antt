@@ -41,7 +41,7 @@ use Rattle.checks.proofs.EntryPass.{entries-found, rules-real}
 use Rattle.puts.specs.EntryLines.{entryLines}
 use Rattle.puts.proofs.LinePutLaws.{later-only, first-both}
 use Rattle.writer.specs.Writing.{linesFrom, linesLeft}
-use Rattle.lists.proofs.PartLaws.{one-more}
+use Rattle.meaning.proofs.LeftLaws.{one-more}
 use Rattle.lists.proofs.ListLaws.{sizes}
 
 -- ---- one line
