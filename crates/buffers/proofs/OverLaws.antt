@@ -1,6 +1,6 @@
 -- Bytes put into a buffer one behind the other, into a part of it that is lent, and zeros behind them.
 -- Assumes nothing.
-use mathlib.Core.Path.{_≡_, sym, ap, ap₂, _∙_}
+use mathlib.Core.Path.{_≡_, sym, ap, ap₂, _∙_, subst}
 use mathlib.Core.List.{List, [], _++_, append-assoc}
 use Prim.Native.Nat.{ℕ, _+_, _-_, _≤_}
 use native.Mathlib.Nat.{add-zero, zero-add}
@@ -9,7 +9,7 @@ use lib.ListN.{length, take, drop, replicate, length-drop, length-append, take-a
 use lib.Seq.{take-at, drop-at, drop-drop, length-take-le}
 use borrow.Rule.Slice.PartMut.{midOf, putMid}
 use Rattle.buffers.specs.Places.{over}
-use Rattle.buffers.proofs.LendLaws.{mid-tail, put-tail}
+use Rattle.buffers.proofs.LendLaws.{mid-tail, put-tail, length-over}
 
 -- nothing put
 pub over-none : (b : List ℕ) (to : ℕ) → b ≡ over to [] b
@@ -32,6 +32,28 @@ over-then b to x y h =
     let e : to + length x + length y ≡ to + length (x ++ y) = omega (arith, n) in
     ap₂ (λ (u v : List ℕ). u ++ (y ++ v)) t (d ∙ (drop-drop (length y) (to + length x) b ∙ ap (λ (m : ℕ). drop m b) e))
     ∙ (append-assoc (take to b) x (y ++ drop (to + length (x ++ y)) b) ∙ ap (λ (u : List ℕ). take to b ++ u) (sym (append-assoc x y (drop (to + length (x ++ y)) b))))
+
+-- A loop that puts piece after piece: what is left to put is always what was left, with the piece that was put.
+pub record Turned (out out′ all behind : List ℕ) (to to′ : ℕ) : Type 0 where
+  pub same-room : length out′ ≡ length out
+  pub has-room : to′ + length behind ≤ length out′
+  pub same : over to′ behind out′ ≡ over to all out
+
+module _ (out : List ℕ) (to : ℕ) (all here behind : List ℕ) (both : all ≡ here ++ behind) (g : to + length all ≤ length out) where
+  fits-both : to + length (here ++ behind) ≤ length out
+  fits-both = subst (λ (u : List ℕ). to + length u ≤ length out) both g
+
+  pub here-fits : to + length here ≤ length out
+  here-fits = omega (arith, fits-both, length-append here behind)
+
+  pub turned : (to′ : ℕ) (out′ : List ℕ) → to′ ≡ to + length here → out′ ≡ over to here out → Turned out out′ all behind to to′
+  turned to′ out′ a b =
+      let r : length out′ ≡ length out = ap length b ∙ length-over here out to here-fits in
+      record {
+        same-room = r;
+        has-room = omega (arith, fits-both, length-append here behind, a, r);
+        same = ap₂ (λ (x : ℕ) (u : List ℕ). over x behind u) a b ∙ (over-then out to here behind fits-both ∙ ap (λ (u : List ℕ). over to u out) (sym both));
+      }
 
 -- what a loan of the part from an offset on leaves, where x was put at its front
 pub over-lent : (b y : List ℕ) (to : ℕ) (x : List ℕ) → y ≡ x ++ drop (length x) (midOf to (length b - to) b) → putMid to (length b - to) b y ≡ over to x b

@@ -12,9 +12,6 @@ pub const NUMBER_BYTES: usize = 2;
 // The bytes before a content.
 pub const ENTRY_LEAD: usize = NUMBER_BYTES + NUMBER_BYTES;
 
-// A byte has so many values.
-pub const BYTE_VALUES: usize = 256;
-
 // What the head of an entry tells.
 pub enum Head {
     // The entry is all there: its kind (a label, in a sheet a line number), and the length of its content.
@@ -27,7 +24,7 @@ pub enum Head {
 fn number(low: u8, high: u8) -> usize
     ensures { λ r. ⌜ r ≡ low + high * byteValues ⌝ }
 {
-    low as usize + high as usize * BYTE_VALUES
+    low as usize + high as usize * meaning::BYTE_VALUES
 }
 
 // The number that the two bytes at an offset write, little-endian.

@@ -22,11 +22,8 @@ pub const CR: u8 = 13;
 
 pub const LF: u8 = 10;
 
-// A byte has so many values.
-const BYTE_VALUES: usize = 256;
-
 // Both as one number, the first byte the lower.
-const CR_LF: usize = CR as usize + LF as usize * BYTE_VALUES;
+const CR_LF: usize = CR as usize + LF as usize * meaning::BYTE_VALUES;
 
 // The bytes before a content.
 pub const LINE_LEAD: usize = LENGTH_DIGITS + LABEL_DIGITS;
@@ -274,7 +271,7 @@ fn usual_lead(s: &[u8], at: usize) -> bool
 fn line_ends(a: u8, b: u8) -> bool
     ensures { λ r. ⌜ (r ≡ true → (a ≡ cr) × (b ≡ lf)) ⌝ }
 {
-    a as usize + b as usize * BYTE_VALUES == CR_LF
+    a as usize + b as usize * meaning::BYTE_VALUES == CR_LF
 }
 
 // The line at an offset keeps 2 to 6: it starts with digits, these tell where it ends, and then the rest is tested. A line that is not a usual one may keep them too.

@@ -39,8 +39,8 @@ use Rattle.lines.proofs.ToldLaws.{read-told}
 use Rattle.passes.specs.Pass.{contentOf}
 use Rattle.passes.proofs.PassLaws.{reads-content, reads-on}
 use Rattle.buffers.specs.Places.{over}
-use Rattle.buffers.proofs.LendLaws.{mid-tail, put-tail, length-over}
-use Rattle.buffers.proofs.OverLaws.{over-none, over-then, over-lent, front-then-zeros}
+use Rattle.buffers.proofs.LendLaws.{mid-tail, put-tail}
+use Rattle.buffers.proofs.OverLaws.{over-none, Turned, here-fits, turned, over-lent, front-then-zeros}
 use Rattle.lists.specs.Listing.{AllRead, lineEntry, entriesFrom}
 use Rattle.meaning.proofs.LeftLaws.{one-more, none-left}
 
@@ -129,12 +129,7 @@ module _ (s : List ℕ) (at k n : ℕ) where
   unfolding entriesFrom
   entries-on h e = rw (one-more h, e)
 
--- what is left to put is always what was left, with the entry of one line
-pub record Turned (s out out′ : List ℕ) (at k n m to to′ : ℕ) : Type 0 where
-  pub same-room : length out′ ≡ length out
-  pub has-room : to′ + length (entriesFrom s (at + m) (k + 1) (n - (k + 1))) ≤ length out′
-  pub same : over to′ (entriesFrom s (at + m) (k + 1) (n - (k + 1))) out′ ≡ over to (entriesFrom s at k (n - k)) out
-
+-- one turn: the entry of one line, and what is left behind it
 module _ (s : List ℕ) (at k n : ℕ) (h : k < n) {l m : ℕ} (e : lineAt s at ≡ Read l m) (w : ℕ) (q : w ≡ m - 9) (out : List ℕ) (to : ℕ)
     (g : to + length (entriesFrom s at k (n - k)) ≤ length out) where
   abbrev here : List ℕ
@@ -146,23 +141,14 @@ module _ (s : List ℕ) (at k n : ℕ) (h : k < n) {l m : ℕ} (e : lineAt s at 
   both : entriesFrom s at k (n - k) ≡ here ++ behind
   both = entries-on s at k n h e ∙ ap (λ (x : ℕ). lineEntry k l (take x (drop (at + 7) s)) ++ behind) (sym q)
 
-  fits-both : to + length (here ++ behind) ≤ length out
-  fits-both = subst (λ (u : List ℕ). to + length u ≤ length out) both g
-
   pub line-fits : to + length here ≤ length out
-  line-fits = omega (arith, fits-both, length-append here behind)
+  line-fits = here-fits out to _ here behind both g
 
   pub line-short : length (take w (drop (at + 7) s)) < 65536
   line-short = omega (arith, read-back s at e .most, length-take w (drop (at + 7) s))
 
-  pub put-turn : (to′ : ℕ) (out′ : List ℕ) → to′ ≡ to + length here → out′ ≡ over to here out → Turned s out out′ at k n m to to′
-  put-turn to′ out′ a b =
-      let r : length out′ ≡ length out = ap length b ∙ length-over here out to line-fits in
-      record {
-        same-room = r;
-        has-room = omega (arith, fits-both, length-append here behind, a, r);
-        same = ap₂ (λ (x : ℕ) (u : List ℕ). over x behind u) a b ∙ (over-then out to here behind fits-both ∙ ap (λ (u : List ℕ). over to u out) (sym both));
-      }
+  pub put-turn : (to′ : ℕ) (out′ : List ℕ) → to′ ≡ to + length here → out′ ≡ over to here out → Turned out out′ (entriesFrom s at k (n - k)) behind to to′
+  put-turn = turned out to _ here behind both g
 
 -- ---- the walk over the lines of a set
 

@@ -26,8 +26,8 @@ fn put_two(n: usize, out: &mut [u8])
     requires { ⌜ (n < 65536) × (2 ≤ length (now out)) ⌝ }
     ensures { λ _. ⌜ now (out .exit) ≡ twoBytes n (drop 2 (now (out .entry))) ⌝ }
 {
-    out[0] = (n % entries::BYTE_VALUES) as u8;
-    out[1] = (n / entries::BYTE_VALUES) as u8;
+    out[0] = (n % meaning::BYTE_VALUES) as u8;
+    out[1] = (n / meaning::BYTE_VALUES) as u8;
 }
 
 // The entry of a field at the front of some bytes.

@@ -4,6 +4,9 @@ ghost use mathlib.Core.Path.{_≡_};
 ghost use Rattle.meaning.specs.Limits.{limits, typeOf, typeNumber};
 ghost use Rattle.meaning.specs.Refusals.{numbers};
 
+// A byte has so many values.
+pub const BYTE_VALUES: usize = 256;
+
 // The five set types of GDT 2.1 that are read and written.
 pub enum SetType {
     T6300,

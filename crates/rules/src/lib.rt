@@ -1,4 +1,4 @@
-// The rules over the lines of a set, in the paper's order, and `judge`: what a set at the front of some bytes is, or its first refusal, 1 to 17.
+// `judge`: what a set at the front of some bytes is, or its first refusal, 1 to 17, in the paper's order: line 1, line 2, all lines, the sum.
 // Assumes nothing: `judge` has no `requires`. The other functions are its parts; each contract cites a walk of specs/, and proofs/JudgeLaws says what the walks mean.
 ghost use mathlib.Core.Path.{_≡_};
 ghost use Rattle.meaning.specs.declared.Known.the-variants.{Of};

@@ -1,12 +1,12 @@
 -- The walk of `write` over a list: what is left to put as it goes, what it gives for a checked list, and the answers of `write`.
 -- Assumes nothing.
-use mathlib.Core.Path.{_≡_, refl, sym, ap, ap₂, _∙_, subst}
+use mathlib.Core.Path.{_≡_, refl, sym, ap, ap₂, _∙_}
 use mathlib.Core.Bool.{Bool, true, false, cond, _&&_}
 use mathlib.Core.List.{List, [], _∷_, _++_, append-assoc}
 use Prim.Native.Nat.{ℕ, zero, suc, _+_, _-_, _*_, _≤_, _<_}
 use native.Mathlib.Omega.{arith}
 use lib.Dec.{leb, eqb}
-use lib.ListN.{length, take, drop, replicate, length-append}
+use lib.ListN.{length, take, drop, replicate}
 use borrow.Author.Tests.{le-leb, lt-leb, ne-eqb, eqb-true}
 use borrow.Rule.Slice.PartMut.{midOf, putMid}
 use Rattle.meaning.specs.declared.Refusal.{Refusal}
@@ -31,8 +31,7 @@ use Rattle.entries.specs.declared.Head.the-variants.{Whole, Cut}
 use Rattle.entries.specs.Head.{entryAt}
 use Rattle.lacks.proofs.FirstLaws.{firstOf, Real}
 use Rattle.buffers.specs.Places.{over}
-use Rattle.buffers.proofs.LendLaws.{length-over}
-use Rattle.buffers.proofs.OverLaws.{over-then, front-then-zeros}
+use Rattle.buffers.proofs.OverLaws.{Turned, here-fits, turned, front-then-zeros}
 use Rattle.checks.specs.declared.Checked.{Checked}
 use Rattle.checks.specs.declared.Checked.the-variants.{Done as Counted, Refused as Unchecked}
 use Rattle.checks.specs.Judging.{byHead, contentOf, checkFrom, judgeEntries, doneUnless, ruled, judgedList}
@@ -86,12 +85,7 @@ module _ (l sum : List ℕ) where
         (ap (λ (u : List ℕ). entryLines at label (contentOf l at m) sum ++ u)
         (lines-enough (length l - (at + 1)) (length l - (at + (entryLead + m))) (at + (entryLead + m)) (omega arith) (omega arith)))
 
--- what is left to put is always what was left, with the lines of one entry
-pub record Put (l sum out out′ : List ℕ) (at end to to′ : ℕ) : Type 0 where
-  pub same-room : length out′ ≡ length out
-  pub has-room : to′ + length (linesLeft l sum end) ≤ length out′
-  pub same : over to′ (linesLeft l sum end) out′ ≡ over to (linesLeft l sum at) out
-
+-- one turn: the lines of one entry, and what is left behind them
 module _ (l sum : List ℕ) (at : ℕ) (h : at < length l) {label m : ℕ} (e : entryAt l at ≡ Whole label m) (w : ℕ) (q : w ≡ m) (end : ℕ) (x : end ≡ at + (entryLead + m))
     (out : List ℕ) (to : ℕ) (g : to + length (linesLeft l sum at) ≤ length out) where
   abbrev here : List ℕ
@@ -103,20 +97,11 @@ module _ (l sum : List ℕ) (at : ℕ) (h : at < length l) {label m : ℕ} (e : 
   both : linesLeft l sum at ≡ here ++ behind
   both = lines-on l sum at h e ∙ ap₂ (λ (y z : ℕ). entryLines at label (take y (drop (at + entryLead) l)) sum ++ linesLeft l sum z) (sym q) (sym x)
 
-  fits-both : to + length (here ++ behind) ≤ length out
-  fits-both = subst (λ (u : List ℕ). to + length u ≤ length out) both g
-
   pub lines-fit : to + length here ≤ length out
-  lines-fit = omega (arith, fits-both, length-append here behind)
+  lines-fit = here-fits out to _ here behind both g
 
-  pub put-turn : (to′ : ℕ) (out′ : List ℕ) → to′ ≡ to + length here → out′ ≡ over to here out → Put l sum out out′ at end to to′
-  put-turn to′ out′ a b =
-      let r : length out′ ≡ length out = ap length b ∙ length-over here out to lines-fit in
-      record {
-        same-room = r;
-        has-room = omega (arith, fits-both, length-append here behind, a, r);
-        same = ap₂ (λ (y : ℕ) (u : List ℕ). over y behind u) a b ∙ (over-then out to here behind fits-both ∙ ap (λ (u : List ℕ). over to u out) (sym both));
-      }
+  pub put-turn : (to′ : ℕ) (out′ : List ℕ) → to′ ≡ to + length here → out′ ≡ over to here out → Turned out out′ (linesLeft l sum at) behind to to′
+  put-turn = turned out to _ here behind both g
 
 -- ---- what the walk gives
 
