@@ -27,7 +27,7 @@ use Rattle.meaning.specs.Rules.{profile, typeDigits, typeNamed, labelIs, isKnow
 use Rattle.meaning.specs.Lists.{inList}
 use Rattle.meaning.specs.Answers.{noRefusal}
 use Rattle.meaning.proofs.Bools.{and-left, and-right}
-use Rattle.tables.specs.LookUp.{Found, findFrom}
+use Rattle.tables.specs.LookUp.{Found, findFrom, numberOf, numberFrom}
 use Rattle.entries.specs.declared.Head.the-variants.{Whole}
 use Rattle.entries.specs.Head.{entryAt}
 use Rattle.lacks.specs.Lacks.{orElse, State, noFlags, begin, lackUnder, groupLack, openLack, firstLack, stateOf}
@@ -99,7 +99,7 @@ abbrev begun : State
 begun = record { header = 8000; place = 0; members = noFlags; top = set noFlags row8000 true }
 
 line-1 : (kind : SetType) (c : List ℕ) (F : State → Refusal → Refusal) → fitsLabel 8000 c ≡ true → stepThen kind begin noRefusal 0 8000 c F ≡ F begun noRefusal
-unfolding table rows6300 rows6301 rows6302 rows6310 rows6311 findFrom rowLabel lineNo labelNo placeNo againNo contentNo versionNo nextState staysIn orElse openLack firstLack
+unfolding table rows6300 rows6301 rows6302 rows6310 rows6311 findFrom numberOf numberFrom fieldTable rowLabel lineNo labelNo placeNo againNo contentNo versionNo nextState staysIn orElse openLack firstLack
 line-1 T6300 c F e = rw e
 line-1 T6301 c F e = rw e
 line-1 T6302 c F e = rw e
@@ -107,7 +107,7 @@ line-1 T6310 c F e = rw e
 line-1 T6311 c F e = rw e
 
 line-2 : (kind : SetType) (c : List ℕ) (F : State → Refusal → Refusal) → fitsLabel 8100 c ≡ true → stepThen kind begun noRefusal 0 8100 c F ≡ F started noRefusal
-unfolding table rows6300 rows6301 rows6302 rows6310 rows6311 findFrom rowLabel lineNo labelNo placeNo againNo contentNo versionNo nextState staysIn orElse openLack firstLack groupLack lackUnder
+unfolding table rows6300 rows6301 rows6302 rows6310 rows6311 findFrom numberOf numberFrom fieldTable rowLabel lineNo labelNo placeNo againNo contentNo versionNo nextState staysIn orElse openLack firstLack groupLack lackUnder
 line-2 T6300 c F e = rw e
 line-2 T6301 c F e = rw e
 line-2 T6302 c F e = rw e
@@ -148,7 +148,7 @@ list-next (x ∷ es) (suc j) f fs e =
 module _ (l : List ℕ) (kind : SetType) (es : List Field) where
   -- the entries fs, with j entries before them and so, with line 2, j + 1 lines: by induction on fs
   later-found : (fs : List Field) (at j : ℕ) (st : State) (ms : G.State) (lack : Refusal) → Reads l at fs → at ≡ inList es (suc j) start → drop j es ≡ fs
-      → Same (table kind) (inList es) st ms → entriesPass l kind at st lack (length fs) ≡ whole kind (inList es) ms (suc j) fs lack
+      → Same (inList es) st ms → entriesPass l kind at st lack (length fs) ≡ whole kind (inList es) ms (suc j) fs lack
   unfolding entriesPass
   later-found [] at j st ms lack rd e d sm = pass-finish kind (inList es) (suc j) st ms lack refl sm
   later-found (f ∷ fs) at j st ms lack rd e d sm =
@@ -171,7 +171,7 @@ set-found l kind c fs sum rd g₁ g₂ =
     let both : stepThen kind begin noRefusal 0 8000 c (λ st lack. stepThen kind st lack 0 8100 sum others) ≡ others started noRefusal =
     line-1 kind c (λ st lack. stepThen kind st lack 0 8100 sum others) g₁ ∙ line-2 kind sum others g₂ in
     sym both ∙ (
-    pass-line kind (inList es) (field 8000 c) (field 8100 sum ∷ fs) 0 0 begin G.first noRefusal (begin-same kind (inList es) refl) refl
+    pass-line kind (inList es) (field 8000 c) (field 8100 sum ∷ fs) 0 0 begin G.first noRefusal (begin-same (inList es) refl) refl
     (λ st lack. stepThen kind st lack 0 8100 sum others)
     (λ st ms lack sm. pass-line kind (inList es) (field 8100 sum) fs 0 (0 + 1) st ms lack sm refl others
     (λ st′ ms′ lack′ sm′. later-found l kind es fs (entryLead + length c) 1 st′ ms′ lack′ rd′ p refl sm′))

@@ -72,12 +72,12 @@ entriesPass l kind at st lack (suc n) =
     byHead (entryAt l at) (refusal badList at 0) (λ label m.
     stepThen kind st lack at label (contentOf l at m) (λ st′ lack′. entriesPass l kind (at + (entryLead + m)) st′ lack′ n))
 
--- the rows of 8000 and 8100 in every table
+-- the numbers of 8000 and 8100
 abbrev pub row8000 : ℕ
-row8000 = 0
+row8000 = 31
 
 abbrev pub row8100 : ℕ
-row8100 = 1
+row8100 = 32
 
 -- what the judging of an entry and the flags behind it say: a refusal that waited still waits; else the entry's step, and its refusal where it has one
 pub record Turned (kind : SetType) (at l : ℕ) (c : List ℕ) (t : Turn) (members top : List Bool) (r : Turn) (members′ top′ : List Bool) : Type 0 where

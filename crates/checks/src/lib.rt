@@ -138,8 +138,8 @@ fn pass_entries(list: &[u8], kind: SetType, late: Refusal, start: usize, before:
 {
     let mut members = [false; lacks::ROWS];
     let mut top = [false; lacks::ROWS];
-    top[lacks::ROW_8000] = true;
-    top[lacks::ROW_8100] = true;
+    top[lacks::NO_8000] = true;
+    top[lacks::NO_8100] = true;
     let group = Group {
         header: 8100,
         place: 0,

@@ -164,6 +164,122 @@ pub const OF_9206: u16 = 1 * EXACTLY + CHARSET * KIND;
 
 pub const OF_9218: u16 = 5 * EXACTLY + VERSION * KIND;
 
+// ---- the number of a label: how many rows stand before its own
+
+pub const NO_102: u8 = 0;
+
+pub const NO_103: u8 = 1;
+
+pub const NO_132: u8 = 2;
+
+pub const NO_3000: u8 = 3;
+
+pub const NO_3100: u8 = 4;
+
+pub const NO_3101: u8 = 5;
+
+pub const NO_3102: u8 = 6;
+
+pub const NO_3103: u8 = 7;
+
+pub const NO_3104: u8 = 8;
+
+pub const NO_3105: u8 = 9;
+
+pub const NO_3106: u8 = 10;
+
+pub const NO_3107: u8 = 11;
+
+pub const NO_3108: u8 = 12;
+
+pub const NO_3110: u8 = 13;
+
+pub const NO_3622: u8 = 14;
+
+pub const NO_3623: u8 = 15;
+
+pub const NO_3628: u8 = 16;
+
+pub const NO_6200: u8 = 17;
+
+pub const NO_6201: u8 = 18;
+
+pub const NO_6205: u8 = 19;
+
+pub const NO_6220: u8 = 20;
+
+pub const NO_6221: u8 = 21;
+
+pub const NO_6226: u8 = 22;
+
+pub const NO_6227: u8 = 23;
+
+pub const NO_6228: u8 = 24;
+
+pub const NO_6302: u8 = 25;
+
+pub const NO_6303: u8 = 26;
+
+pub const NO_6304: u8 = 27;
+
+pub const NO_6305: u8 = 28;
+
+pub const NO_6330: u8 = 29;
+
+pub const NO_6331: u8 = 30;
+
+pub const NO_8000: u8 = 31;
+
+pub const NO_8100: u8 = 32;
+
+pub const NO_8315: u8 = 33;
+
+pub const NO_8316: u8 = 34;
+
+pub const NO_8402: u8 = 35;
+
+pub const NO_8410: u8 = 36;
+
+pub const NO_8411: u8 = 37;
+
+pub const NO_8418: u8 = 38;
+
+pub const NO_8420: u8 = 39;
+
+pub const NO_8421: u8 = 40;
+
+pub const NO_8428: u8 = 41;
+
+pub const NO_8429: u8 = 42;
+
+pub const NO_8430: u8 = 43;
+
+pub const NO_8431: u8 = 44;
+
+pub const NO_8432: u8 = 45;
+
+pub const NO_8437: u8 = 46;
+
+pub const NO_8438: u8 = 47;
+
+pub const NO_8439: u8 = 48;
+
+pub const NO_8460: u8 = 49;
+
+pub const NO_8461: u8 = 50;
+
+pub const NO_8462: u8 = 51;
+
+pub const NO_8470: u8 = 52;
+
+pub const NO_8480: u8 = 53;
+
+pub const NO_8990: u8 = 54;
+
+pub const NO_9206: u8 = 55;
+
+pub const NO_9218: u8 = 56;
+
 // No length fits a label that has no row.
 const OF_NONE: u16 = FROM_ONE + ALNUM * KIND;
 

@@ -1,67 +1,51 @@
--- Flags by row number say the same as the labels of the rows that were seen.
+-- Flags say the same as the labels that were seen.
 -- Assumes nothing.
 use mathlib.Core.Path.{_≡_, refl, sym, ap, _∙_}
 use mathlib.Core.Bool.{Bool, true, false, _||_}
 use mathlib.Core.List.{List, [], _∷_}
-use Prim.Native.Nat.{ℕ, zero, suc, _≤_}
+use Prim.Native.Nat.{ℕ, zero, suc, _<_}
 use native.Mathlib.Omega.{arith}
-use lib.Dec.{eqb}
 use lib.ListN.{length, getD, set, replicate, length-set, length-replicate}
 use lib.Seq.{getD-set-other, getD-set-same}
+use lib.Dec.{eqb}
 use borrow.Author.Tests.{eqb-true, eqb-false}
-use Rattle.meaning.specs.declared.Row.{Row}
-use Rattle.meaning.specs.declared.SetType.{SetType}
 use Rattle.meaning.specs.Field.{elem}
 use Rattle.meaning.specs.Refusals.{Spot, start}
-use Rattle.meaning.specs.Tables.{table}
 use Rattle.meaning.specs.Groups as G
 use Rattle.meaning.specs.Groups.{first}
-use Rattle.tables.specs.LookUp.{Found, At, Nothing, findFrom}
-use Rattle.tables.proofs.Laws.{found-row, found-below, found-here}
-use Rattle.lacks.specs.Lacks.{rowCount, noFlags, flag, flagged, State, begin}
+use Rattle.tables.specs.LookUp.{numberOf}
+use Rattle.tables.proofs.Laws.{one-number}
+use Rattle.lacks.specs.Lacks.{rowCount, noFlags, seen, State, begin}
 
 -- the flags say which labels are among ls: for every label, also one without a row
-pub record Flags (rs : List Row) (on : List Bool) (ls : List ℕ) : Type 0 where
+pub record Flags (on : List Bool) (ls : List ℕ) : Type 0 where
   pub long : length on ≡ rowCount
-  pub same : (l : ℕ) → flagged rs on l ≡ elem l ls
+  pub same : (l : ℕ) → seen on l ≡ elem l ls
 
-flag-set : (o : Found) (on : List Bool) (i : ℕ) → ((j : ℕ) (r : Row) → o ≡ At j r → j ≡ i → ⊥) → flag o (set on i true) ≡ flag o on
-flag-set Nothing on i h = refl
-flag-set (At j r) on i h = getD-set-other on i j true false (h j r refl)
-
-pub flags-mark : (rs : List Row) (on : List Bool) (ls : List ℕ) (i : ℕ) (r : Row) → Flags rs on ls → findFrom rs (r .label) 0 ≡ At i r → length rs ≤ rowCount
-    → Flags rs (set on i true) (r .label ∷ ls)
-unfolding flagged elem
-flags-mark rs on ls i r f q n = record { long = length-set on i true ∙ f .long; same = λ l. go l (eqb l (r .label)) refl }
+pub flags-mark : (on : List Bool) (ls : List ℕ) (l : ℕ) → Flags on ls → numberOf l < rowCount → Flags (set on (numberOf l) true) (l ∷ ls)
+unfolding seen elem
+flags-mark on ls l f n = record { long = length-set on (numberOf l) true ∙ f .long; same = λ m. go m (eqb m l) refl }
   where
-    go : (l : ℕ) (b : Bool) → eqb l (r .label) ≡ b → flag (findFrom rs l 0) (set on i true) ≡ b || elem l ls
-    go l true e =
-        let z : findFrom rs l 0 ≡ At i r = ap (λ (m : ℕ). findFrom rs m 0) (eqb-true l (r .label) e) ∙ q in
-        ap (λ (o : Found). flag o (set on i true)) z ∙ getD-set-same on i true false (omega (arith, found-below rs (r .label) i r q, f .long))
-    go l false e = flag-set (findFrom rs l 0) on i (λ j r′ z w.
-        let s : r′ ≡ r = sym (found-here rs l j r′ z r) ∙ (ap (λ (m : ℕ). getD rs m r) w ∙ found-here rs (r .label) i r q r) in
-        eqb-false l (r .label) e (sym (found-row rs l j r′ z) ∙ ap (λ (y : Row). y .label) s)) ∙ f .same l
+    go : (m : ℕ) (b : Bool) → eqb m l ≡ b → getD (set on (numberOf l) true) (numberOf m) false ≡ b || elem m ls
+    go m true e = ap (λ (x : ℕ). getD (set on (numberOf l) true) (numberOf x) false) (eqb-true m l e) ∙ getD-set-same on (numberOf l) true false (omega (arith, f .long))
+    go m false e = getD-set-other on (numberOf l) (numberOf m) true false (λ q. eqb-false m l e (sym (one-number l m (sym q) n))) ∙ f .same m
 
 replicate-false : (n i : ℕ) → getD (replicate n false) i false ≡ false
 replicate-false zero i = refl
 replicate-false (suc n) zero = refl
 replicate-false (suc n) (suc i) = replicate-false n i
 
-pub flags-none : (rs : List Row) → Flags rs noFlags []
-unfolding flagged elem
-flags-none rs = record { long = length-replicate rowCount false; same = λ l. go (findFrom rs l 0) }
-  where
-    go : (o : Found) → flag o noFlags ≡ false
-    go Nothing = refl
-    go (At i r) = replicate-false rowCount i
+pub flags-none : Flags noFlags []
+unfolding seen elem
+flags-none = record { long = length-replicate rowCount false; same = λ l. replicate-false rowCount (numberOf l) }
 
 -- ---- the two states say the same
 
-pub record Same (rs : List Row) (pl : ℕ → Spot → ℕ) (st : State) (ms : G.State) : Type 0 where
+pub record Same (pl : ℕ → Spot → ℕ) (st : State) (ms : G.State) : Type 0 where
   pub header : st .header ≡ ms .header
   pub place : st .place ≡ pl (ms .line) start
-  pub members : Flags rs (st .members) (ms .members)
-  pub top : Flags rs (st .top) (ms .top)
+  pub members : Flags (st .members) (ms .members)
+  pub top : Flags (st .top) (ms .top)
 
-pub begin-same : (kind : SetType) (pl : ℕ → Spot → ℕ) → 0 ≡ pl 0 start → Same (table kind) pl begin first
-begin-same kind pl e = record { header = refl; place = e; members = flags-none (table kind); top = flags-none (table kind) }
+pub begin-same : (pl : ℕ → Spot → ℕ) → 0 ≡ pl 0 start → Same pl begin first
+begin-same pl e = record { header = refl; place = e; members = flags-none; top = flags-none }

@@ -19,7 +19,7 @@ use Rattle.meaning.specs.Answers.{noRefusal}
 use Rattle.meaning.specs.Groups as G
 use Rattle.meaning.specs.Groups.{Role, role, next, noHeader}
 use Rattle.meaning.proofs.Bools.{and-left, and-right}
-use Rattle.lacks.specs.Lacks.{lacks, lackHere, valued, lack8437, lack8410, lack6302, lackName, lackUnder, groupLack, lackAll, requiredLabels, State, flagged, openLack}
+use Rattle.lacks.specs.Lacks.{lacks, lackHere, valued, lack8437, lack8410, lack6302, lackName, lackUnder, groupLack, lackAll, requiredLabels, State, seen, openLack}
 use Rattle.lacks.proofs.FlagLaws.{Same}
 use Rattle.lacks.proofs.FirstLaws.{firstOf, Real, first-rule, real-rule, real-append}
 
@@ -211,10 +211,10 @@ module _ (has : ℕ → Bool) (pl : ℕ → Spot → ℕ) (h k place : ℕ) (e :
 
 -- ---- the open group, and all groups
 
-pub open-is : (kind : SetType) (pl : ℕ → Spot → ℕ) (st : State) (ms : G.State) → Same (table kind) pl st ms → openLack kind (st .header) (st .place) (st .members) ≡ firstOf pl (openLacking (table kind) ms)
+pub open-is : (kind : SetType) (pl : ℕ → Spot → ℕ) (st : State) (ms : G.State) → Same pl st ms → openLack kind (st .header) (st .place) (st .members) ≡ firstOf pl (openLacking (table kind) ms)
 unfolding openLack openLacking
 open-is kind pl st ms s =
-    ap (λ (h : ℕ). cond (eqb h noHeader) noRefusal (groupLack kind (flagged (table kind) (st .members)) h (st .place))) (s .header)
+    ap (λ (h : ℕ). cond (eqb h noHeader) noRefusal (groupLack kind (seen (st .members)) h (st .place))) (s .header)
     ∙ (ap (λ (has : ℕ → Bool). cond (eqb (ms .header) noHeader) noRefusal (groupLack kind has (ms .header) (st .place))) (λ i l. s .members .same l i)
     ∙ go (eqb (ms .header) noHeader) refl)
   where

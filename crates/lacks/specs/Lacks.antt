@@ -6,14 +6,13 @@ use Prim.Native.Nat.{ℕ, _+_}
 use lib.ListN.{getD, replicate}
 use lib.Dec.{eqb}
 use Rattle.meaning.specs.declared.Refusal.{Refusal}
-use Rattle.meaning.specs.declared.Row.{Row}
 use Rattle.meaning.specs.declared.SetType.{SetType}
 use Rattle.meaning.specs.declared.SetType.the-variants.{T6300, T6301, T6302, T6310, T6311}
 use Rattle.meaning.specs.Refusals.{refusal, missing}
-use Rattle.meaning.specs.Tables.{table, rowLabel}
+use Rattle.meaning.specs.Tables.{rowLabel}
 use Rattle.meaning.specs.Groups.{noHeader}
 use Rattle.meaning.specs.Answers.{noRefusal}
-use Rattle.tables.specs.LookUp.{Found, At, Nothing as NoRow, findFrom}
+use Rattle.tables.specs.LookUp.{numberOf}
 use Rattle.lacks.specs.declared.Group.{Group}
 
 -- the first of two refusals; number 0 is none
@@ -37,9 +36,9 @@ noFlags = replicate rowCount false
 abbrev pub begin : State
 begin = record { header = noHeader; place = 0; members = noFlags; top = noFlags }
 
-abbrev pub flag : Found → List Bool → Bool
-flag NoRow on = false
-flag (At i r) on = getD on i false
+-- a label's flag
+unfoldable pub seen : List Bool → ℕ → Bool
+seen on l = getD on (numberOf l) false
 
 -- ---- 16, by the few labels that are needed
 
@@ -84,15 +83,11 @@ unfoldable pub lackAll : (ℕ → Bool) → List ℕ → Refusal
 lackAll has [] = noRefusal
 lackAll has (l ∷ ls) = let rest = lackAll has ls in cond (has l) rest (lackHere 0 l)
 
--- those that have the same rows in every table
-abbrev pub fixedLabels : List ℕ
-fixedLabels = 8000 ∷ 8100 ∷ 9218 ∷ []
-
 abbrev pub basicLabels : List ℕ
-basicLabels = 3000 ∷ fixedLabels
+basicLabels = 3000 ∷ 8000 ∷ 8100 ∷ 9218 ∷ []
 
 abbrev pub patientLabels : List ℕ
-patientLabels = 3000 ∷ 3101 ∷ 3102 ∷ 3103 ∷ fixedLabels
+patientLabels = 3000 ∷ 3101 ∷ 3102 ∷ 3103 ∷ 8000 ∷ 8100 ∷ 9218 ∷ []
 
 abbrev pub testLabels : List ℕ
 testLabels = 3000 ∷ 8000 ∷ 8100 ∷ 8402 ∷ 9218 ∷ []
@@ -104,13 +99,9 @@ requiredLabels T6302 = patientLabels
 requiredLabels T6310 = testLabels
 requiredLabels T6311 = basicLabels
 
--- a label's flag
-unfoldable pub flagged : List Row → List Bool → ℕ → Bool
-flagged rs on l = flag (findFrom rs l 0) on
-
 -- the open group's lack, where one is open
 unfoldable pub openLack : SetType → ℕ → ℕ → List Bool → Refusal
-openLack kind header place members = cond (eqb header noHeader) noRefusal (groupLack kind (flagged (table kind) members) header place)
+openLack kind header place members = cond (eqb header noHeader) noRefusal (groupLack kind (seen members) header place)
 
 -- the first group's lack so far
 unfoldable pub firstLack : SetType → ℕ → ℕ → List Bool → Refusal → Refusal
@@ -118,7 +109,7 @@ firstLack kind header place members lack = orElse lack (openLack kind header pla
 
 -- the set's lack
 unfoldable pub setLack : SetType → List Bool → Refusal
-setLack kind top = lackAll (flagged (table kind) top) (requiredLabels kind)
+setLack kind top = lackAll (seen top) (requiredLabels kind)
 
 -- set level first, then groups and pairs in order
 unfoldable pub finish : SetType → State → Refusal → Refusal

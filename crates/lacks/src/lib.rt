@@ -1,66 +1,56 @@
-// Which rows were seen, as flags by row number, and rule 16: what a group and the set lack.
-// Assumes nothing: `finish_at` has no `requires`; `has` and `mark`, which only other crates here call, assume that a row has the number that they are given. Each contract
+// Which labels were seen, as flags by the label's number, and rule 16: what a group and the set lack.
+// Assumes nothing: `finish_at` has no `requires`; `has` and `mark`, which only other crates here call, assume that a label has the number that they are given. Each contract
 // cites a walk of specs/, and proofs/LackLaws says what the walks mean.
 ghost use mathlib.Core.Path.{_≡_};
-ghost use mathlib.Core.Bool.{true, false};
+ghost use mathlib.Core.Bool.{true, false, cond};
 ghost use Prim.Native.Nat.{_<_};
 ghost use lib.ListN.{getD, set};
 ghost use Rattle.meaning.specs.Refusals.{refusal};
-ghost use Rattle.meaning.specs.Tables.{rows6300, rows6301, rows6302, rows6310, table, rowLabel};
+ghost use Rattle.meaning.specs.Tables.{rowLabel};
 ghost use Rattle.meaning.specs.Answers.{noRefusal};
-ghost use Rattle.lacks.specs.Lacks.{rowCount, noFlags, flagged, valued, lack8437, lack8410, lack6302, lackName, lackUnder, lackAll, fixedLabels, basicLabels, patientLabels, testLabels, groupLack, firstLack, setLack, finish, stateOf};
+ghost use Rattle.lacks.specs.Lacks.{rowCount, noFlags, seen, valued, lack8437, lack8410, lack6302, lackName, lackUnder, lackAll, basicLabels, patientLabels, testLabels, groupLack, firstLack, setLack, finish, stateOf};
 use meaning::Refusal;
 use meaning::SetType;
 
-// The rows of the longest table.
+// The labels of the field table; the flags go by their numbers.
 pub const ROWS: usize = 57;
 
-// The numbers of some rows of the 6310 table.
-const ROW_8402: usize = 23;
+// The numbers of the labels that 16 asks for.
+const NO_3000: usize = fields::NO_3000 as usize;
 
-const ROW_6303: usize = 33;
+const NO_3101: usize = fields::NO_3101 as usize;
 
-const ROW_6304: usize = 34;
+const NO_3102: usize = fields::NO_3102 as usize;
 
-const ROW_6305: usize = 35;
+const NO_3103: usize = fields::NO_3103 as usize;
 
-const ROW_6331: usize = 37;
+const NO_6303: usize = fields::NO_6303 as usize;
 
-const ROW_8437: usize = 44;
+const NO_6304: usize = fields::NO_6304 as usize;
 
-const ROW_8438: usize = 45;
+const NO_6305: usize = fields::NO_6305 as usize;
 
-const ROW_8420: usize = 47;
+const NO_6331: usize = fields::NO_6331 as usize;
 
-const ROW_8421: usize = 48;
+pub const NO_8000: usize = fields::NO_8000 as usize;
 
-const ROW_8461: usize = 52;
+pub const NO_8100: usize = fields::NO_8100 as usize;
 
-const ROW_8462: usize = 53;
+const NO_8402: usize = fields::NO_8402 as usize;
 
-// The numbers of the rows of required labels: these in every table.
-pub const ROW_8000: usize = 0;
+const NO_8420: usize = fields::NO_8420 as usize;
 
-pub const ROW_8100: usize = 1;
+const NO_8421: usize = fields::NO_8421 as usize;
 
-const ROW_9218: usize = 5;
+const NO_8437: usize = fields::NO_8437 as usize;
 
-// 3000 in the tables of 6300, 6301 and 6311, then in those of 6302 and 6310.
-const ROW_3000: usize = 6;
+const NO_8438: usize = fields::NO_8438 as usize;
 
-const LATER_3000: usize = 9;
+const NO_8461: usize = fields::NO_8461 as usize;
 
-const ROW_3101_OF_6301: usize = 8;
+const NO_8462: usize = fields::NO_8462 as usize;
 
-const ROW_3102_OF_6301: usize = 9;
-
-const ROW_3103_OF_6301: usize = 10;
-
-const ROW_3101_OF_6302: usize = 11;
-
-const ROW_3102_OF_6302: usize = 12;
-
-const ROW_3103_OF_6302: usize = 13;
+const NO_9218: usize = fields::NO_9218 as usize;
 
 // The open header or name (0: none), the place of its line, and what the first group that ended with a lack lacks (number 0: none so far).
 pub struct Group {
@@ -91,9 +81,9 @@ pub fn refused_at(no: usize, place: usize) -> Refusal
     }
 }
 
-// ---- which rows were seen
+// ---- which labels were seen
 
-// The row with this number was seen.
+// The label with this number was seen.
 pub fn has(flags: &[bool; ROWS], i: usize) -> bool
     requires { ⌜ i < rowCount ⌝ }
     ensures { λ r. ⌜ r ≡ getD (now (flags .entry)) i false ⌝ }
@@ -101,7 +91,7 @@ pub fn has(flags: &[bool; ROWS], i: usize) -> bool
     flags[i]
 }
 
-// The row with this number is seen now.
+// The label with this number is seen now.
 pub fn mark(flags: &mut [bool; ROWS], i: usize)
     requires { ⌜ i < rowCount ⌝ }
     ensures { λ _. ⌜ now (flags .exit) ≡ set (now (flags .entry)) i true ⌝ }
@@ -109,7 +99,7 @@ pub fn mark(flags: &mut [bool; ROWS], i: usize)
     flags[i] = true;
 }
 
-// No row was seen.
+// No label was seen.
 pub fn clear(flags: &mut [bool; ROWS])
     ensures { λ _. ⌜ now (flags .exit) ≡ noFlags ⌝ }
 {
@@ -130,23 +120,23 @@ fn missing(place: usize, label: usize) -> Refusal
 
 // A group that has a value or a limit.
 fn has_value(members: &[bool; ROWS]) -> bool
-    ensures { λ r. ⌜ r ≡ valued (flagged rows6310 (now (members .entry))) ⌝ }
+    ensures { λ r. ⌜ r ≡ valued (seen (now (members .entry))) ⌝ }
 {
-    if has(members, ROW_8420) {
+    if has(members, NO_8420) {
         return true;
     }
-    if has(members, ROW_8461) {
+    if has(members, NO_8461) {
         return true;
     }
-    has(members, ROW_8462)
+    has(members, NO_8462)
 }
 
 // An 8410 group: "8437 is required in a group that has 8438", 8421 in one that has a value or a limit.
 fn lack_8410(members: &[bool; ROWS], place: usize) -> Refusal
-    ensures { λ r. ⌜ r ≡ lack8410 (flagged rows6310 (now (members .entry))) place ⌝ }
+    ensures { λ r. ⌜ r ≡ lack8410 (seen (now (members .entry))) place ⌝ }
 {
     if has_value(members) {
-        if has(members, ROW_8421) {
+        if has(members, NO_8421) {
             return lack_8437(members, place);
         }
         return missing(place, 8421);
@@ -155,10 +145,10 @@ fn lack_8410(members: &[bool; ROWS], place: usize) -> Refusal
 }
 
 fn lack_8437(members: &[bool; ROWS], place: usize) -> Refusal
-    ensures { λ r. ⌜ r ≡ lack8437 (flagged rows6310 (now (members .entry))) place ⌝ }
+    ensures { λ r. ⌜ r ≡ lack8437 (seen (now (members .entry))) place ⌝ }
 {
-    if has(members, ROW_8438) {
-        if has(members, ROW_8437) {
+    if has(members, NO_8438) {
+        if has(members, NO_8437) {
             return nothing();
         }
         return missing(place, 8437);
@@ -168,11 +158,11 @@ fn lack_8437(members: &[bool; ROWS], place: usize) -> Refusal
 
 // A 6302 group: "6303, 6304 and 6305 are its members, each required once".
 fn lack_6302(members: &[bool; ROWS], place: usize) -> Refusal
-    ensures { λ r. ⌜ r ≡ lack6302 (flagged rows6310 (now (members .entry))) place ⌝ }
+    ensures { λ r. ⌜ r ≡ lack6302 (seen (now (members .entry))) place ⌝ }
 {
-    if has(members, ROW_6303) {
-        if has(members, ROW_6304) {
-            if has(members, ROW_6305) {
+    if has(members, NO_6303) {
+        if has(members, NO_6304) {
+            if has(members, NO_6305) {
                 return nothing();
             }
             return missing(place, 6305);
@@ -185,9 +175,9 @@ fn lack_6302(members: &[bool; ROWS], place: usize) -> Refusal
 // A name: "the next line must be the label one higher".
 fn lack_name(members: &[bool; ROWS], name: usize, place: usize) -> Refusal
     requires { ⌜ name < 10000 ⌝ }
-    ensures { λ r. ⌜ r ≡ lackName (flagged rows6310 (now (members .entry))) name place ⌝ }
+    ensures { λ r. ⌜ r ≡ lackName (seen (now (members .entry))) name place ⌝ }
 {
-    if has(members, ROW_6331) {
+    if has(members, NO_6331) {
         return nothing();
     }
     missing(place, name + 1)
@@ -195,7 +185,7 @@ fn lack_name(members: &[bool; ROWS], name: usize, place: usize) -> Refusal
 
 // What the group of a header lacks in a 6310 set.
 fn lack_under(members: &[bool; ROWS], header: usize, place: usize) -> Refusal
-    ensures { λ r. ⌜ r ≡ lackUnder (rowLabel header) (flagged rows6310 (now (members .entry))) header place ⌝ }
+    ensures { λ r. ⌜ r ≡ lackUnder (rowLabel header) (seen (now (members .entry))) header place ⌝ }
 {
     if header == 8410 {
         return lack_8410(members, place);
@@ -214,7 +204,7 @@ fn lack_under(members: &[bool; ROWS], header: usize, place: usize) -> Refusal
 
 // What the group of a header lacks: only 6310 has groups.
 fn group_lack(kind: SetType, members: &[bool; ROWS], header: usize, place: usize) -> Refusal
-    ensures { λ r. ⌜ r ≡ groupLack kind (flagged (table kind) (now (members .entry))) header place ⌝ }
+    ensures { λ r. ⌜ r ≡ groupLack kind (seen (now (members .entry))) header place ⌝ }
 {
     match kind {
         SetType::T6310 => lack_under(members, header, place),
@@ -239,87 +229,70 @@ pub fn first_lack(kind: SetType, group: Group, members: &[bool; ROWS]) -> Refusa
     group_lack(kind, members, group.header, group.place)
 }
 
-// "Required at set level: 8000, 8100, 9218, 3000 in all": the first three.
-fn lack_fixed(top: &[bool; ROWS]) -> Refusal
-    ensures { λ r. ⌜ r ≡ lackAll (flagged rows6300 (now (top .entry))) fixedLabels ⌝ }
+// "Required at set level: 8000, 8100, 9218, 3000 in all".
+fn lack_basic(top: &[bool; ROWS]) -> Refusal
+    ensures { λ r. ⌜ r ≡ lackAll (seen (now (top .entry))) basicLabels ⌝ }
 {
-    if !has(top, ROW_8000) {
+    if !has(top, NO_3000) {
+        return missing(0, 3000);
+    }
+    if !has(top, NO_8000) {
         return missing(0, 8000);
     }
-    if !has(top, ROW_8100) {
+    if !has(top, NO_8100) {
         return missing(0, 8100);
     }
-    if !has(top, ROW_9218) {
+    if !has(top, NO_9218) {
         return missing(0, 9218);
     }
     nothing()
 }
 
-// What a 6300 or a 6311 set lacks.
-fn lack_basic(top: &[bool; ROWS]) -> Refusal
-    ensures { λ r. ⌜ r ≡ lackAll (flagged rows6300 (now (top .entry))) basicLabels ⌝ }
+// "3101, 3102, 3103 also in 6301 and 6302".
+fn lack_patient(top: &[bool; ROWS]) -> Refusal
+    ensures { λ r. ⌜ r ≡ lackAll (seen (now (top .entry))) patientLabels ⌝ }
 {
-    if !has(top, ROW_3000) {
+    if !has(top, NO_3000) {
         return missing(0, 3000);
     }
-    lack_fixed(top)
-}
-
-// What a 6301 set lacks: "3101, 3102, 3103 also in 6301 and 6302".
-fn lack_in_6301(top: &[bool; ROWS]) -> Refusal
-    ensures { λ r. ⌜ r ≡ lackAll (flagged rows6301 (now (top .entry))) patientLabels ⌝ }
-{
-    if !has(top, ROW_3000) {
-        return missing(0, 3000);
-    }
-    if !has(top, ROW_3101_OF_6301) {
+    if !has(top, NO_3101) {
         return missing(0, 3101);
     }
-    if !has(top, ROW_3102_OF_6301) {
+    if !has(top, NO_3102) {
         return missing(0, 3102);
     }
-    if !has(top, ROW_3103_OF_6301) {
+    if !has(top, NO_3103) {
         return missing(0, 3103);
     }
-    lack_fixed(top)
-}
-
-// What a 6302 set lacks.
-fn lack_in_6302(top: &[bool; ROWS]) -> Refusal
-    ensures { λ r. ⌜ r ≡ lackAll (flagged rows6302 (now (top .entry))) patientLabels ⌝ }
-{
-    if !has(top, LATER_3000) {
-        return missing(0, 3000);
-    }
-    if !has(top, ROW_3101_OF_6302) {
-        return missing(0, 3101);
-    }
-    if !has(top, ROW_3102_OF_6302) {
-        return missing(0, 3102);
-    }
-    if !has(top, ROW_3103_OF_6302) {
-        return missing(0, 3103);
-    }
-    lack_fixed(top)
-}
-
-// What a 6310 set lacks: "8402 also in 6310".
-fn lack_in_6310(top: &[bool; ROWS]) -> Refusal
-    ensures { λ r. ⌜ r ≡ lackAll (flagged rows6310 (now (top .entry))) testLabels ⌝ }
-{
-    if !has(top, LATER_3000) {
-        return missing(0, 3000);
-    }
-    if !has(top, ROW_8000) {
+    if !has(top, NO_8000) {
         return missing(0, 8000);
     }
-    if !has(top, ROW_8100) {
+    if !has(top, NO_8100) {
         return missing(0, 8100);
     }
-    if !has(top, ROW_8402) {
+    if !has(top, NO_9218) {
+        return missing(0, 9218);
+    }
+    nothing()
+}
+
+// "8402 also in 6310".
+fn lack_test(top: &[bool; ROWS]) -> Refusal
+    ensures { λ r. ⌜ r ≡ lackAll (seen (now (top .entry))) testLabels ⌝ }
+{
+    if !has(top, NO_3000) {
+        return missing(0, 3000);
+    }
+    if !has(top, NO_8000) {
+        return missing(0, 8000);
+    }
+    if !has(top, NO_8100) {
+        return missing(0, 8100);
+    }
+    if !has(top, NO_8402) {
         return missing(0, 8402);
     }
-    if !has(top, ROW_9218) {
+    if !has(top, NO_9218) {
         return missing(0, 9218);
     }
     nothing()
@@ -331,9 +304,9 @@ fn set_lack(kind: SetType, top: &[bool; ROWS]) -> Refusal
 {
     match kind {
         SetType::T6300 => lack_basic(top),
-        SetType::T6301 => lack_in_6301(top),
-        SetType::T6302 => lack_in_6302(top),
-        SetType::T6310 => lack_in_6310(top),
+        SetType::T6301 => lack_patient(top),
+        SetType::T6302 => lack_patient(top),
+        SetType::T6310 => lack_test(top),
         SetType::T6311 => lack_basic(top),
     }
 }

@@ -33,6 +33,10 @@ pub not-true : (b : Bool) → not b ≡ true → b ≡ false
 not-true true e = sym e
 not-true false e = refl
 
+pub not-false : (b : Bool) → not b ≡ false → b ≡ true
+not-false true e = refl
+not-false false e = sym e
+
 -- ---- lists of no bytes
 
 pub nil-is : (t : List ℕ) → isNil t ≡ true → t ≡ []

@@ -24,7 +24,7 @@ use Rattle.meaning.specs.FieldTable.{fieldTable, fieldRowIn, fieldRow, hasLengt
 use Rattle.meaning.specs.Rules.{typeNamed, typeDigits}
 use Rattle.meaning.specs.Answers.{noRefusal}
 use Rattle.meaning.proofs.LineLaws.{whole}
-use Rattle.tables.specs.LookUp.{Found, At, findFrom}
+use Rattle.tables.specs.LookUp.{Found, At, findFrom, numberOf, numberFrom}
 use Rattle.lines.specs.declared.Number.the-variants.{Is}
 use Rattle.lines.specs.declared.Line.{Line}
 use Rattle.lines.specs.declared.Line.the-variants.{Read}
@@ -140,9 +140,9 @@ scan-first s q =
     let r = read-back s 0 q in
     rw (ne-eqb (length s) 0 (λ z. omega (arith, r .least, r .within)), q)
 
--- 8000 has row 0 in every table
-start-row : (kind : SetType) → rowOf kind 8000 ≡ At 0 (row 8000 setLevel single M)
-unfolding table rows6300 rows6301 rows6302 rows6310 rows6311 rowLabel findFrom
+-- the number and the row of 8000 in every table
+start-row : (kind : SetType) → rowOf kind 8000 ≡ At 31 (row 8000 setLevel single M)
+unfolding table rows6300 rows6301 rows6302 rows6310 rows6311 rowLabel findFrom numberOf numberFrom fieldTable
 start-row T6300 = refl
 start-row T6301 = refl
 start-row T6302 = refl
@@ -163,7 +163,7 @@ abbrev pub startGroup : Group
 startGroup = record { header = 8000; place = 0; lack = noRefusal }
 
 abbrev pub startTop : List Bool
-startTop = set noFlags 0 true
+startTop = set noFlags 31 true
 
 -- the step of line 1: a line 8000 that names a type is never refused
 start-step : (kind : SetType) (c : List ℕ) → typeNamed c ≡ Of kind → Stepped (rowOf kind 8000) kind begin noRefusal 0 8000 c (record { no = 0; group = startGroup }) noFlags startTop

@@ -80,7 +80,7 @@ module _ (s : List ℕ) (kind : SetType) (all : List Field) where
   next-place at k f fs e d = rw add-one (omega (arith, e, offset-next all k f fs d .0))
 
   pub pass-is : (fs : List Field) (t : List ℕ) (at k : ℕ) (st : State) (ms : G.State) (lack : Refusal) → Every Sound fs → drop at s ≡ render fs t → at ≤ length s
-      → at ≡ inSet all k start → drop k all ≡ fs → Same (table kind) (inSet all) st ms → passFrom s kind at st lack (length fs) ≡ whole kind (inSet all) ms k fs lack
+      → at ≡ inSet all k start → drop k all ≡ fs → Same (inSet all) st ms → passFrom s kind at st lack (length fs) ≡ whole kind (inSet all) ms k fs lack
   unfolding passFrom
   pass-is [] t at k st ms lack h w b e d sm = pass-finish kind (inSet all) k st ms lack refl sm
   pass-is (f ∷ fs) t at k st ms lack h w b e d sm =

@@ -112,7 +112,7 @@ pub fn pass(s: &[u8], kind: SetType, start: usize) -> Scan
 {
     let mut members = [false; ROWS];
     let mut top = [false; ROWS];
-    lacks::mark(&mut top, lacks::ROW_8000);
+    lacks::mark(&mut top, lacks::NO_8000);
     let mut group = Group {
         header: 8000,
         place: 0,

@@ -47,7 +47,7 @@ use Rattle.rules.specs.Walks.{secondBy, secondWalk, asJudged, typedBy, f
 
 pass-found : (s : List ℕ) (kind : SetType) (fs : List Field) (t : List ℕ) → Every Sound fs → s ≡ render fs t
     → passFrom s kind 0 begin noRefusal (length fs) ≡ firstOf (inSet fs) (middle (ofType kind) fs)
-pass-found s kind fs t h w = pass-is s kind fs fs t 0 0 begin first noRefusal h w (omega arith) refl refl (begin-same kind (inSet fs) refl) ∙ whole-found kind (inSet fs) fs
+pass-found s kind fs t h w = pass-is s kind fs fs t 0 0 begin first noRefusal h w (omega arith) refl refl (begin-same (inSet fs) refl) ∙ whole-found kind (inSet fs) fs
 
 -- ---- all rules, as found
 

@@ -4,10 +4,10 @@ use mathlib.Core.Path.{_≡_, refl, sym, ap, ap₂, _∙_, subst}
 use mathlib.Core.Bool.{Bool, true, false, cond, not, _||_}
 use mathlib.Core.List.{List, [], _∷_, _++_}
 use mathlib.Core.Option.{Option, none, some}
-use Prim.Native.Nat.{ℕ, _+_, _≤_}
+use Prim.Native.Nat.{ℕ, _+_, _<_}
 use native.Mathlib.Omega.{arith}
 use lib.Dec.{eqb}
-use lib.ListN.{length, getD, set}
+use lib.ListN.{getD, set}
 use borrow.Author.Tests.{eqb-true, eqb-false, ne-eqb}
 use Rattle.meaning.specs.declared.Refusal.{Refusal}
 use Rattle.meaning.specs.declared.Row.{Row}
@@ -23,9 +23,9 @@ use Rattle.meaning.specs.Groups.{Role, unknown, strayed, atSetLevel, member, be
 use Rattle.meaning.specs.Missing.{lacking, among, openLacking, stays, groupsLacking}
 use Rattle.meaning.specs.Rules.{Profile, roleIn, fits, current, contentFaults, contentRules, lineRules, rulesFrom}
 use Rattle.meaning.specs.Answers.{noRefusal}
-use Rattle.tables.specs.LookUp.{Found, At, Nothing, findFrom, justRow}
-use Rattle.tables.proofs.Laws.{find-is, found-row, few-rows}
-use Rattle.lacks.specs.Lacks.{orElse, rowCount, State, noFlags, flag, flagged, openLack, firstLack, lackAll, requiredLabels, setLack, finish}
+use Rattle.tables.specs.LookUp.{Found, At, Nothing, justRow, numberOf}
+use Rattle.tables.proofs.Laws.{find-is, found-number, row-below}
+use Rattle.lacks.specs.Lacks.{orElse, rowCount, State, noFlags, seen, openLack, firstLack, lackAll, requiredLabels, setLack, finish}
 use Rattle.lacks.proofs.FirstLaws.{firstOf, Real, first-append, real-append, real-ask, or-assoc, or-none, or-bad}
 use Rattle.lacks.proofs.FlagLaws.{Flags, flags-mark, flags-none, Same}
 use Rattle.lacks.proofs.LackLaws.{set-lack, open-is, real-open}
@@ -119,9 +119,9 @@ real-rules p ms k (f ∷ fs) =
 -- ---- one line, by what the table has for it
 
 -- what a line's number, next state and staying tell, where the states say the same
-record LineSame (rs : List Row) (pl : ℕ → Spot → ℕ) (o : Role) (p : Profile) (st : State) (ms : G.State) (k at : ℕ) (f : Field) (found : Found) : Type 0 where
+record LineSame (pl : ℕ → Spot → ℕ) (o : Role) (p : Profile) (st : State) (ms : G.State) (k at : ℕ) (f : Field) (found : Found) : Type 0 where
   number-so : numbered (lineNo found st (f .label) (f .content)) at (f .label) ≡ firstOf pl (lineRules o p ms k f)
-  state-so : lineNo found st (f .label) (f .content) ≡ 0 → Same rs pl (nextState found st at (f .label)) (next o ms k (f .label))
+  state-so : lineNo found st (f .label) (f .content) ≡ 0 → Same pl (nextState found st at (f .label)) (next o ms k (f .label))
   stays-so : lineNo found st (f .label) (f .content) ≡ 0 → staysIn found ≡ stays o
 
 -- a line that is not refused has its label in place
@@ -132,8 +132,8 @@ placed a b at = go (eqb a 0) refl
     go true e q = eqb-true a 0 e
     go false e q = q
 
-module _ (rs : List Row) (few : length rs ≤ rowCount) (pl : ℕ → Spot → ℕ) (st : State) (ms : G.State) (s : Same rs pl st ms) (k at : ℕ) (e : at ≡ pl k start) (p : Profile) (f : Field) where
-  unknown-line : LineSame rs pl unknown p st ms k at f Nothing
+module _ (pl : ℕ → Spot → ℕ) (st : State) (ms : G.State) (s : Same pl st ms) (k at : ℕ) (e : at ≡ pl k start) (p : Profile) (f : Field) where
+  unknown-line : LineSame pl unknown p st ms k at f Nothing
   unfolding lineNo labelNo lineRules labelFaults contentRules
   unknown-line = record {
     number-so = ap (λ (x : ℕ). refusal notInSet x (f .label)) e;
@@ -141,24 +141,27 @@ module _ (rs : List Row) (few : length rs ≤ rowCount) (pl : ℕ → Spot → �
     stays-so = λ z. absurd (omega arith);
   }
 
-  module _ (i : ℕ) (r : Row) (q : findFrom rs (r .label) 0 ≡ At i r) where
-    seen-so : (on : List Bool) (ls : List ℕ) → Flags rs on ls → getD on i false ≡ elem (r .label) ls
-    unfolding flagged
-    seen-so on ls fl = ap (λ (o : Found). flag o on) (sym q) ∙ fl .same (r .label)
+  module _ (i : ℕ) (r : Row) (q : i ≡ numberOf (r .label)) (few : i < rowCount) where
+    seen-so : (on : List Bool) (ls : List ℕ) → Flags on ls → getD on i false ≡ elem (r .label) ls
+    unfolding seen
+    seen-so on ls fl = ap (λ (n : ℕ). getD on n false) q ∙ fl .same (r .label)
 
-    opened-same : Same rs pl (record { header = f .label; place = at; members = noFlags; top = set (st .top) i true }) (G.opened ms r k (f .label))
-    opened-same = record { header = refl; place = e; members = flags-none rs; top = flags-mark rs (st .top) (ms .top) i r (s .top) q few }
+    marked-so : (on : List Bool) (ls : List ℕ) → Flags on ls → Flags (set on i true) (r .label ∷ ls)
+    marked-so on ls fl = subst (λ (n : ℕ). Flags (set on n true) (r .label ∷ ls)) (sym q) (flags-mark on ls (r .label) fl (omega arith))
 
-    joined-same : Same rs pl (record { header = cond (isPairLabel (f .label)) noHeader (st .header); place = st .place; members = set (st .members) i true; top = st .top }) (G.joined ms r (f .label))
+    opened-same : Same pl (record { header = f .label; place = at; members = noFlags; top = set (st .top) i true }) (G.opened ms r k (f .label))
+    opened-same = record { header = refl; place = e; members = flags-none; top = marked-so (st .top) (ms .top) (s .top) }
+
+    joined-same : Same pl (record { header = cond (isPairLabel (f .label)) noHeader (st .header); place = st .place; members = set (st .members) i true; top = st .top }) (G.joined ms r (f .label))
     joined-same = record {
       header = ap (λ (h : ℕ). cond (isPairLabel (f .label)) noHeader h) (s .header);
       place = s .place;
-      members = flags-mark rs (st .members) (ms .members) i r (s .members) q few;
+      members = marked-so (st .members) (ms .members) (s .members);
       top = s .top;
     }
 
     next-by : (a b : Bool) → labelNoBy a b (r .many) (getD (st .top) i false) (getD (st .members) i false) ≡ 0
-        → Same rs pl (cond a (record { header = f .label; place = at; members = noFlags; top = set (st .top) i true })
+        → Same pl (cond a (record { header = f .label; place = at; members = noFlags; top = set (st .top) i true })
         (record { header = cond (isPairLabel (f .label)) noHeader (st .header); place = st .place; members = set (st .members) i true; top = st .top }))
         (next (roleBy a b r) ms k (f .label))
     unfolding next
@@ -193,24 +196,23 @@ module _ (rs : List Row) (few : length rs ≤ rowCount) (pl : ℕ → Spot → �
     unfolding role roleOf
     role-so = ap (λ (h : ℕ). roleBy isTop (belongs r h (f .label)) r) (sym (s .header))
 
-    known-line : LineSame rs pl (role (some r) (ms .header) (f .label)) p st ms k at f (At i r)
+    known-line : LineSame pl (role (some r) (ms .header) (f .label)) p st ms k at f (At i r)
     unfolding lineNo labelNo placeNo nextState staysIn
     known-line = record {
       number-so = number-by ∙ ap (λ (o : Role). firstOf pl (lineRules o p ms k f)) (sym role-so);
-      state-so = λ z. subst (λ (o : Role). Same rs pl (nextState (At i r) st at (f .label)) (next o ms k (f .label))) (sym role-so) (next-by isTop isOurs (placed no (contentNo (f .label) (f .content)) at z));
+      state-so = λ z. subst (λ (o : Role). Same pl (nextState (At i r) st at (f .label)) (next o ms k (f .label))) (sym role-so) (next-by isTop isOurs (placed no (contentNo (f .label) (f .content)) at z));
       stays-so = λ z. stays-by isTop isOurs (placed no (contentNo (f .label) (f .content)) at z) ∙ ap stays (sym role-so);
     }
 
-  line-same : (found : Found) → findFrom rs (rowLabel (f .label)) 0 ≡ found → LineSame rs pl (role (find rs (f .label)) (ms .header) (f .label)) p st ms k at f found
+  line-same : (kind : SetType) (found : Found) → rowOf kind (f .label) ≡ found → LineSame pl (role (find (table kind) (f .label)) (ms .header) (f .label)) p st ms k at f found
   unfolding role
-  line-same Nothing q =
-      let w : find rs (f .label) ≡ none = find-is rs (f .label) ∙ ap justRow q in
-      subst (λ (o : Option Row). LineSame rs pl (role o (ms .header) (f .label)) p st ms k at f Nothing) (sym w) unknown-line
-  line-same (At i r) q =
-      let w : find rs (f .label) ≡ some r = find-is rs (f .label) ∙ ap justRow q in
-      let n : r .label ≡ rowLabel (f .label) = found-row rs (rowLabel (f .label)) i r q in
-      subst (λ (o : Option Row). LineSame rs pl (role o (ms .header) (f .label)) p st ms k at f (At i r)) (sym w)
-      (known-line i r (ap (λ (m : ℕ). findFrom rs m 0) n ∙ q))
+  line-same kind Nothing q =
+      let w : find (table kind) (f .label) ≡ none = find-is (table kind) (f .label) ∙ ap justRow q in
+      subst (λ (o : Option Row). LineSame pl (role o (ms .header) (f .label)) p st ms k at f Nothing) (sym w) unknown-line
+  line-same kind (At i r) q =
+      let w : find (table kind) (f .label) ≡ some r = find-is (table kind) (f .label) ∙ ap justRow q in
+      subst (λ (o : Option Row). LineSame pl (role o (ms .header) (f .label)) p st ms k at f (At i r)) (sym w)
+      (known-line i r (found-number (table kind) (rowLabel (f .label)) i r q) (row-below kind (rowLabel (f .label)) i r q))
 
 -- ---- one line more
 
@@ -226,7 +228,7 @@ module _ (kind : SetType) (pl : ℕ → Spot → ℕ) where
       (orElse (firstOf pl (lacking (table kind) setLevel 0 (among (after (table kind) ms k (labels fs) .top))))
       (orElse lack (firstOf pl (groupsLacking (table kind) ms k (labels fs)))))
 
-  lack-joins : (st : State) (ms : G.State) → Same (table kind) pl st ms → (lack : Refusal) (b : Bool) (m : List Fault)
+  lack-joins : (st : State) (ms : G.State) → Same pl st ms → (lack : Refusal) (b : Bool) (m : List Fault)
       → orElse (lackThen b kind st lack) (firstOf pl m) ≡ orElse lack (firstOf pl (cond b [] (openLacking (table kind) ms) ++ m))
   unfolding firstLack
   lack-joins st ms sm lack true m = refl
@@ -236,10 +238,10 @@ module _ (kind : SetType) (pl : ℕ → Spot → ℕ) where
       ∙ sym (first-append pl (openLacking (table kind) ms) m (real-open (table kind) ms)))
 
   -- one line more, where the rest is known
-  pass-step : (f : Field) (fs : List Field) (at k : ℕ) (st : State) (ms : G.State) (lack : Refusal) → Same (table kind) pl st ms
-      → (found : Found) → LineSame (table kind) pl (roleIn profileOf ms f) profileOf st ms k at f found
+  pass-step : (f : Field) (fs : List Field) (at k : ℕ) (st : State) (ms : G.State) (lack : Refusal) → Same pl st ms
+      → (found : Found) → LineSame pl (roleIn profileOf ms f) profileOf st ms k at f found
       → (F : State → Refusal → Refusal)
-      → ((st′ : State) (ms′ : G.State) (lack′ : Refusal) → Same (table kind) pl st′ ms′ → F st′ lack′ ≡ whole ms′ (k + 1) fs lack′)
+      → ((st′ : State) (ms′ : G.State) (lack′ : Refusal) → Same pl st′ ms′ → F st′ lack′ ≡ whole ms′ (k + 1) fs lack′)
       → cond (eqb (lineNo found st (f .label) (f .content)) 0) (F (nextState found st at (f .label)) (lackThen (staysIn found) kind st lack)) (refusal (lineNo found st (f .label) (f .content)) at (f .label))
       ≡ whole ms k (f ∷ fs) lack
   unfolding rulesFrom after groupsLacking
@@ -288,17 +290,17 @@ module _ (kind : SetType) (pl : ℕ → Spot → ℕ) where
           sym (ap (λ (x : Refusal). orElse x (orElse tops (orElse lack (firstOf pl (groups ++ more))))) r ∙ or-bad (refusal no at (f .label)) _ z)
 
   -- the same, with the line's row looked up
-  pub pass-line : (f : Field) (fs : List Field) (at k : ℕ) (st : State) (ms : G.State) (lack : Refusal) → Same (table kind) pl st ms → at ≡ pl k start
+  pub pass-line : (f : Field) (fs : List Field) (at k : ℕ) (st : State) (ms : G.State) (lack : Refusal) → Same pl st ms → at ≡ pl k start
       → (F : State → Refusal → Refusal)
-      → ((st′ : State) (ms′ : G.State) (lack′ : Refusal) → Same (table kind) pl st′ ms′ → F st′ lack′ ≡ whole ms′ (k + 1) fs lack′)
+      → ((st′ : State) (ms′ : G.State) (lack′ : Refusal) → Same pl st′ ms′ → F st′ lack′ ≡ whole ms′ (k + 1) fs lack′)
       → cond (eqb (lineNo (rowOf kind (f .label)) st (f .label) (f .content)) 0) (F (nextState (rowOf kind (f .label)) st at (f .label)) (lackThen (staysIn (rowOf kind (f .label))) kind st lack))
       (refusal (lineNo (rowOf kind (f .label)) st (f .label) (f .content)) at (f .label))
       ≡ whole ms k (f ∷ fs) lack
   pass-line f fs at k st ms lack sm e F ih =
-      pass-step f fs at k st ms lack sm (rowOf kind (f .label)) (line-same (table kind) (few-rows kind) pl st ms sm k at e profileOf f (rowOf kind (f .label)) refl) F ih
+      pass-step f fs at k st ms lack sm (rowOf kind (f .label)) (line-same pl st ms sm k at e profileOf f kind (rowOf kind (f .label)) refl) F ih
 
   -- behind the last line
-  pub pass-finish : (k : ℕ) (st : State) (ms : G.State) (lack : Refusal) → 0 ≡ pl 0 start → Same (table kind) pl st ms → finish kind st lack ≡ whole ms k [] lack
+  pub pass-finish : (k : ℕ) (st : State) (ms : G.State) (lack : Refusal) → 0 ≡ pl 0 start → Same pl st ms → finish kind st lack ≡ whole ms k [] lack
   unfolding finish setLack firstLack rulesFrom after groupsLacking
   pass-finish k st ms lack z sm =
       ap₂ orElse

@@ -2,27 +2,28 @@
 -- Assumes nothing.
 use mathlib.Core.Path.{_≡_, refl, sym, ap, _∙_}
 use mathlib.Core.Bool.{Bool, true, false, cond, not, _&&_}
-use mathlib.Core.List.{List, map}
+use mathlib.Core.List.{List}
 use Prim.Native.Nat.{ℕ, _+_, _-_, _%_, _≤_}
 use native.Mathlib.Omega.{arith}
 use lib.Dec.{eqb}
-use lib.ListN.{length, getD, set, drop, length-drop, List·getD-map}
+use lib.ListN.{length, set, drop, length-drop}
 use lib.Seq.{length-take-le}
 use borrow.Author.Tests.{le-leb, ne-eqb, eqb-true, eqb-false, eq-eqb}
 use Rattle.meaning.specs.declared.Refusal.{Refusal}
 use Rattle.meaning.specs.declared.Row.{Row}
 use Rattle.meaning.specs.declared.SetType.{SetType}
 use Rattle.meaning.specs.Refusals.{notInSet, badContent}
-use Rattle.meaning.specs.Tables.{setLevel, single, K, row, rows6300, rows6301, rows6302, rows6310, rows6311, table, isPairLabel, rowLabel}
+use Rattle.meaning.specs.Tables.{setLevel, rows6300, rows6301, rows6302, rows6310, rows6311, table, isPairLabel, rowLabel}
 use Rattle.meaning.specs.Kinds.{isAlnum, ofKind}
 use Rattle.meaning.specs.FieldTable.{fieldTable, fieldRowIn, fieldRow, fitsLabel}
 use Rattle.meaning.specs.Groups.{namesRow}
 use Rattle.fields.specs.Codes.{kindNumber, kindOf, fieldCode, kindIn}
+use Rattle.meaning.proofs.RowLaws.{allRows}
 use Rattle.kinds.specs.Fitting.{lengthFits}
 use Rattle.kinds.proofs.Laws.{fits-not, fits-kind}
 use Rattle.tables.specs.LookUp.{Found, At, Nothing, findFrom}
 use Rattle.tables.specs.Codes.{numberIn, underIn}
-use Rattle.tables.proofs.Laws.{table-all, found-row, found-here}
+use Rattle.tables.proofs.Laws.{table-all, found-row, found-passes}
 use Rattle.tables.proofs.CodeLaws.{Coded}
 use Rattle.lacks.specs.declared.Group.{Group}
 use Rattle.lacks.specs.Lacks.{State, noFlags, firstLack}
@@ -55,19 +56,20 @@ abbrev underName : Row → Bool
 underName r = eqb (r .under) namesRow
 
 -- they are the same rows, in every table
-pairs-test : (kind : SetType) → map pairMember (table kind) ≡ map underName (table kind)
+abbrev pairTest : Row → Bool
+pairTest r = cond (pairMember r) (underName r) (not (underName r))
+
+pairs-test : (kind : SetType) → allRows pairTest (table kind) ≡ true
 unfolding rows6300 rows6301 rows6302 rows6310 rows6311
-pairs-test = table-all (λ rs. map pairMember rs ≡ map underName rs) refl refl refl refl refl
+pairs-test = table-all (λ rs. allRows pairTest rs ≡ true) refl refl refl refl refl
 
-abbrev noRow : Row
-noRow = row 0 setLevel single K
-
-found-pair : (kind : SetType) (l i : ℕ) (r : Row) → findFrom (table kind) l 0 ≡ At i r → pairMember r ≡ underName r
-found-pair kind l i r e =
-    let here : getD (table kind) i noRow ≡ r = found-here (table kind) l i r e noRow in
-    ap pairMember (sym here)
-    ∙ (sym (List·getD-map pairMember (table kind) i noRow) ∙ (ap (λ (x : List Bool). getD x i false) (pairs-test kind) ∙ List·getD-map underName (table kind) i noRow))
-    ∙ ap underName here
+found-pair : (kind : SetType) (l i : ℕ) (r : Row) → findFrom (table kind) l ≡ At i r → pairMember r ≡ underName r
+found-pair kind l i r e = go (pairMember r) (underName r) (found-passes (table kind) l i r e pairTest (pairs-test kind))
+  where
+    go : (a b : Bool) → cond a b (not b) ≡ true → a ≡ b
+    go true b q = sym q
+    go false true q = q
+    go false false q = refl
 
 -- the row of a label is a name's or an odd label's where the label is one
 pair-row : (l : ℕ) → isPairLabel (rowLabel l) ≡ isPairLabel l

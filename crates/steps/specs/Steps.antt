@@ -22,7 +22,7 @@ use Rattle.steps.specs.declared.Step.{Step}
 
 -- the row of a label, with its number
 abbrev pub rowOf : SetType → ℕ → Found
-rowOf kind l = findFrom (table kind) (rowLabel l) 0
+rowOf kind l = findFrom (table kind) (rowLabel l)
 
 -- ---- 11 to 15 of one line, 0 where none of them is given
 

@@ -55,17 +55,17 @@ none-coded (At i r) e = absurd (omega (arith, code-some _ (row-small (r .label))
 -- what a code that is not 0 tells of a label's row
 pub record Coded (kind : SetType) (l c : ℕ) : Type 0 where
   pub row : Row
-  pub is : findFrom (table kind) (rowLabel l) 0 ≡ At (numberIn c) row
+  pub is : findFrom (table kind) (rowLabel l) ≡ At (numberIn c) row
   pub under-so : row .under ≡ underIn c
   pub many-so : row .many ≡ manyIn c
   pub field-so : fieldIn c ≡ fieldCode (fieldRow l)
   pub below : numberIn c < 57
 
-module _ (kind : SetType) (l c : ℕ) (e : c ≡ code (findFrom (table kind) (rowLabel l) 0)) where
-  pub code-nothing : c ≡ 0 → findFrom (table kind) (rowLabel l) 0 ≡ Nothing
-  code-nothing z = none-coded (findFrom (table kind) (rowLabel l) 0) (sym e ∙ z)
+module _ (kind : SetType) (l c : ℕ) (e : c ≡ code (findFrom (table kind) (rowLabel l))) where
+  pub code-nothing : c ≡ 0 → findFrom (table kind) (rowLabel l) ≡ Nothing
+  code-nothing z = none-coded (findFrom (table kind) (rowLabel l)) (sym e ∙ z)
 
-  row-coded : (i : ℕ) (r : Row) → findFrom (table kind) (rowLabel l) 0 ≡ At i r → Coded kind l c
+  row-coded : (i : ℕ) (r : Row) → findFrom (table kind) (rowLabel l) ≡ At i r → Coded kind l c
   unfolding code fieldRow
   row-coded i r q =
       let below : i < 57 = row-below kind (rowLabel l) i r q in
@@ -85,8 +85,8 @@ module _ (kind : SetType) (l c : ℕ) (e : c ≡ code (findFrom (table kind) (ro
 
   pub coded : (c ≡ 0 → ⊥) → Coded kind l c
   unfolding code
-  coded n = go (findFrom (table kind) (rowLabel l) 0) refl
+  coded n = go (findFrom (table kind) (rowLabel l)) refl
     where
-      go : (o : Found) → findFrom (table kind) (rowLabel l) 0 ≡ o → Coded kind l c
+      go : (o : Found) → findFrom (table kind) (rowLabel l) ≡ o → Coded kind l c
       go Nothing q = absurd (n (e ∙ ap code q))
       go (At i r) q = row-coded i r q

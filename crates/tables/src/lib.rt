@@ -7,7 +7,7 @@ ghost use Rattle.tables.specs.LookUp.{findFrom};
 ghost use Rattle.tables.specs.Codes.{rowCode, code, numberIn, underIn, manyIn, fieldIn};
 use meaning::SetType;
 
-// A row's code: the code of its field, 65,536 times its number in the table, and above them whether it repeats, and its header.
+// A row's code: the code of its field, 65,536 times its label's number, and above them whether it repeats, and its header.
 const FIELDS: usize = 65_536;
 
 const NUMBERS: usize = 256;
@@ -39,189 +39,189 @@ fn at(number: u8, under: u16, many: u8, field: u16) -> usize
 
 // The code of a label's row in the table of 6300.
 fn find_6300(label: usize) -> usize
-    ensures { λ r. ⌜ r ≡ code (findFrom rows6300 (rowLabel label) 0) ⌝ }
+    ensures { λ r. ⌜ r ≡ code (findFrom rows6300 (rowLabel label)) ⌝ }
 {
     match label {
-        8000 => at(0, SET_LEVEL, ONCE, fields::OF_8000),
-        8100 => at(1, SET_LEVEL, ONCE, fields::OF_8100),
-        8315 => at(2, SET_LEVEL, ONCE, fields::OF_8315),
-        8316 => at(3, SET_LEVEL, ONCE, fields::OF_8316),
-        9206 => at(4, SET_LEVEL, ONCE, fields::OF_9206),
-        9218 => at(5, SET_LEVEL, ONCE, fields::OF_9218),
-        3000 => at(6, SET_LEVEL, ONCE, fields::OF_3000),
+        8000 => at(fields::NO_8000, SET_LEVEL, ONCE, fields::OF_8000),
+        8100 => at(fields::NO_8100, SET_LEVEL, ONCE, fields::OF_8100),
+        8315 => at(fields::NO_8315, SET_LEVEL, ONCE, fields::OF_8315),
+        8316 => at(fields::NO_8316, SET_LEVEL, ONCE, fields::OF_8316),
+        9206 => at(fields::NO_9206, SET_LEVEL, ONCE, fields::OF_9206),
+        9218 => at(fields::NO_9218, SET_LEVEL, ONCE, fields::OF_9218),
+        3000 => at(fields::NO_3000, SET_LEVEL, ONCE, fields::OF_3000),
         _ => NOTHING,
     }
 }
 
 // The code of a label's row in the table of 6301.
 fn find_6301(label: usize) -> usize
-    ensures { λ r. ⌜ r ≡ code (findFrom rows6301 (rowLabel label) 0) ⌝ }
+    ensures { λ r. ⌜ r ≡ code (findFrom rows6301 (rowLabel label)) ⌝ }
 {
     match label {
-        8000 => at(0, SET_LEVEL, ONCE, fields::OF_8000),
-        8100 => at(1, SET_LEVEL, ONCE, fields::OF_8100),
-        8315 => at(2, SET_LEVEL, ONCE, fields::OF_8315),
-        8316 => at(3, SET_LEVEL, ONCE, fields::OF_8316),
-        9206 => at(4, SET_LEVEL, ONCE, fields::OF_9206),
-        9218 => at(5, SET_LEVEL, ONCE, fields::OF_9218),
-        3000 => at(6, SET_LEVEL, ONCE, fields::OF_3000),
-        3100 => at(7, SET_LEVEL, ONCE, fields::OF_3100),
-        3101 => at(8, SET_LEVEL, ONCE, fields::OF_3101),
-        3102 => at(9, SET_LEVEL, ONCE, fields::OF_3102),
-        3103 => at(10, SET_LEVEL, ONCE, fields::OF_3103),
-        3104 => at(11, SET_LEVEL, ONCE, fields::OF_3104),
-        3105 => at(12, SET_LEVEL, ONCE, fields::OF_3105),
-        3106 => at(13, SET_LEVEL, ONCE, fields::OF_3106),
-        3107 => at(14, SET_LEVEL, ONCE, fields::OF_3107),
-        3108 => at(15, SET_LEVEL, ONCE, fields::OF_3108),
-        3110 => at(16, SET_LEVEL, ONCE, fields::OF_3110),
-        3622 => at(17, SET_LEVEL, ONCE, fields::OF_3622),
-        3623 => at(18, SET_LEVEL, ONCE, fields::OF_3623),
-        3628 => at(19, SET_LEVEL, ONCE, fields::OF_3628),
+        8000 => at(fields::NO_8000, SET_LEVEL, ONCE, fields::OF_8000),
+        8100 => at(fields::NO_8100, SET_LEVEL, ONCE, fields::OF_8100),
+        8315 => at(fields::NO_8315, SET_LEVEL, ONCE, fields::OF_8315),
+        8316 => at(fields::NO_8316, SET_LEVEL, ONCE, fields::OF_8316),
+        9206 => at(fields::NO_9206, SET_LEVEL, ONCE, fields::OF_9206),
+        9218 => at(fields::NO_9218, SET_LEVEL, ONCE, fields::OF_9218),
+        3000 => at(fields::NO_3000, SET_LEVEL, ONCE, fields::OF_3000),
+        3100 => at(fields::NO_3100, SET_LEVEL, ONCE, fields::OF_3100),
+        3101 => at(fields::NO_3101, SET_LEVEL, ONCE, fields::OF_3101),
+        3102 => at(fields::NO_3102, SET_LEVEL, ONCE, fields::OF_3102),
+        3103 => at(fields::NO_3103, SET_LEVEL, ONCE, fields::OF_3103),
+        3104 => at(fields::NO_3104, SET_LEVEL, ONCE, fields::OF_3104),
+        3105 => at(fields::NO_3105, SET_LEVEL, ONCE, fields::OF_3105),
+        3106 => at(fields::NO_3106, SET_LEVEL, ONCE, fields::OF_3106),
+        3107 => at(fields::NO_3107, SET_LEVEL, ONCE, fields::OF_3107),
+        3108 => at(fields::NO_3108, SET_LEVEL, ONCE, fields::OF_3108),
+        3110 => at(fields::NO_3110, SET_LEVEL, ONCE, fields::OF_3110),
+        3622 => at(fields::NO_3622, SET_LEVEL, ONCE, fields::OF_3622),
+        3623 => at(fields::NO_3623, SET_LEVEL, ONCE, fields::OF_3623),
+        3628 => at(fields::NO_3628, SET_LEVEL, ONCE, fields::OF_3628),
         _ => NOTHING,
     }
 }
 
 // The code of a label's row in the table of 6302.
 fn find_6302(label: usize) -> usize
-    ensures { λ r. ⌜ r ≡ code (findFrom rows6302 (rowLabel label) 0) ⌝ }
+    ensures { λ r. ⌜ r ≡ code (findFrom rows6302 (rowLabel label)) ⌝ }
 {
     match label {
-        8000 => at(0, SET_LEVEL, ONCE, fields::OF_8000),
-        8100 => at(1, SET_LEVEL, ONCE, fields::OF_8100),
-        8315 => at(2, SET_LEVEL, ONCE, fields::OF_8315),
-        8316 => at(3, SET_LEVEL, ONCE, fields::OF_8316),
-        9206 => at(4, SET_LEVEL, ONCE, fields::OF_9206),
-        9218 => at(5, SET_LEVEL, ONCE, fields::OF_9218),
-        102 => at(6, SET_LEVEL, ONCE, fields::OF_102),
-        103 => at(7, SET_LEVEL, ONCE, fields::OF_103),
-        132 => at(8, SET_LEVEL, ONCE, fields::OF_132),
-        3000 => at(9, SET_LEVEL, ONCE, fields::OF_3000),
-        3100 => at(10, SET_LEVEL, ONCE, fields::OF_3100),
-        3101 => at(11, SET_LEVEL, ONCE, fields::OF_3101),
-        3102 => at(12, SET_LEVEL, ONCE, fields::OF_3102),
-        3103 => at(13, SET_LEVEL, ONCE, fields::OF_3103),
-        3104 => at(14, SET_LEVEL, ONCE, fields::OF_3104),
-        3105 => at(15, SET_LEVEL, ONCE, fields::OF_3105),
-        3106 => at(16, SET_LEVEL, ONCE, fields::OF_3106),
-        3107 => at(17, SET_LEVEL, ONCE, fields::OF_3107),
-        3108 => at(18, SET_LEVEL, ONCE, fields::OF_3108),
-        3110 => at(19, SET_LEVEL, ONCE, fields::OF_3110),
-        3622 => at(20, SET_LEVEL, ONCE, fields::OF_3622),
-        3623 => at(21, SET_LEVEL, ONCE, fields::OF_3623),
-        3628 => at(22, SET_LEVEL, ONCE, fields::OF_3628),
-        8402 => at(23, SET_LEVEL, ONCE, fields::OF_8402),
-        8410 => at(24, SET_LEVEL, ONCE, fields::OF_8410),
+        8000 => at(fields::NO_8000, SET_LEVEL, ONCE, fields::OF_8000),
+        8100 => at(fields::NO_8100, SET_LEVEL, ONCE, fields::OF_8100),
+        8315 => at(fields::NO_8315, SET_LEVEL, ONCE, fields::OF_8315),
+        8316 => at(fields::NO_8316, SET_LEVEL, ONCE, fields::OF_8316),
+        9206 => at(fields::NO_9206, SET_LEVEL, ONCE, fields::OF_9206),
+        9218 => at(fields::NO_9218, SET_LEVEL, ONCE, fields::OF_9218),
+        102 => at(fields::NO_102, SET_LEVEL, ONCE, fields::OF_102),
+        103 => at(fields::NO_103, SET_LEVEL, ONCE, fields::OF_103),
+        132 => at(fields::NO_132, SET_LEVEL, ONCE, fields::OF_132),
+        3000 => at(fields::NO_3000, SET_LEVEL, ONCE, fields::OF_3000),
+        3100 => at(fields::NO_3100, SET_LEVEL, ONCE, fields::OF_3100),
+        3101 => at(fields::NO_3101, SET_LEVEL, ONCE, fields::OF_3101),
+        3102 => at(fields::NO_3102, SET_LEVEL, ONCE, fields::OF_3102),
+        3103 => at(fields::NO_3103, SET_LEVEL, ONCE, fields::OF_3103),
+        3104 => at(fields::NO_3104, SET_LEVEL, ONCE, fields::OF_3104),
+        3105 => at(fields::NO_3105, SET_LEVEL, ONCE, fields::OF_3105),
+        3106 => at(fields::NO_3106, SET_LEVEL, ONCE, fields::OF_3106),
+        3107 => at(fields::NO_3107, SET_LEVEL, ONCE, fields::OF_3107),
+        3108 => at(fields::NO_3108, SET_LEVEL, ONCE, fields::OF_3108),
+        3110 => at(fields::NO_3110, SET_LEVEL, ONCE, fields::OF_3110),
+        3622 => at(fields::NO_3622, SET_LEVEL, ONCE, fields::OF_3622),
+        3623 => at(fields::NO_3623, SET_LEVEL, ONCE, fields::OF_3623),
+        3628 => at(fields::NO_3628, SET_LEVEL, ONCE, fields::OF_3628),
+        8402 => at(fields::NO_8402, SET_LEVEL, ONCE, fields::OF_8402),
+        8410 => at(fields::NO_8410, SET_LEVEL, ONCE, fields::OF_8410),
         _ => NOTHING,
     }
 }
 
-// Rows 36 and 37 of the table of 6310: 6330 is printed for all names, 6331 for the odd labels behind them.
+// The two rows of the pairs in the table of 6310: 6330 is printed for all names, 6331 for the odd labels behind them.
 fn find_pair(label: usize) -> usize
-    ensures { λ r. ⌜ r ≡ cond (isPairLabel label) (code (findFrom rows6310 (rowLabel label) 0)) 0 ⌝ }
+    ensures { λ r. ⌜ r ≡ cond (isPairLabel label) (code (findFrom rows6310 (rowLabel label))) 0 ⌝ }
 {
     if fields::is_pair(label) {
         if label % 2 == 0 {
-            return at(36, SET_LEVEL, MANY, fields::OF_6330);
+            return at(fields::NO_6330, SET_LEVEL, MANY, fields::OF_6330);
         }
-        return at(37, 6330, ONCE, fields::OF_6331);
+        return at(fields::NO_6331, 6330, ONCE, fields::OF_6331);
     }
     NOTHING
 }
 
 // The code of a label's row in the table of 6310.
 fn find_6310(label: usize) -> usize
-    ensures { λ r. ⌜ r ≡ code (findFrom rows6310 (rowLabel label) 0) ⌝ }
+    ensures { λ r. ⌜ r ≡ code (findFrom rows6310 (rowLabel label)) ⌝ }
 {
     match label {
-        8000 => at(0, SET_LEVEL, ONCE, fields::OF_8000),
-        8100 => at(1, SET_LEVEL, ONCE, fields::OF_8100),
-        8315 => at(2, SET_LEVEL, ONCE, fields::OF_8315),
-        8316 => at(3, SET_LEVEL, ONCE, fields::OF_8316),
-        9206 => at(4, SET_LEVEL, ONCE, fields::OF_9206),
-        9218 => at(5, SET_LEVEL, ONCE, fields::OF_9218),
-        102 => at(6, SET_LEVEL, ONCE, fields::OF_102),
-        103 => at(7, SET_LEVEL, ONCE, fields::OF_103),
-        132 => at(8, SET_LEVEL, ONCE, fields::OF_132),
-        3000 => at(9, SET_LEVEL, ONCE, fields::OF_3000),
-        3100 => at(10, SET_LEVEL, ONCE, fields::OF_3100),
-        3101 => at(11, SET_LEVEL, ONCE, fields::OF_3101),
-        3102 => at(12, SET_LEVEL, ONCE, fields::OF_3102),
-        3103 => at(13, SET_LEVEL, ONCE, fields::OF_3103),
-        3104 => at(14, SET_LEVEL, ONCE, fields::OF_3104),
-        3105 => at(15, SET_LEVEL, ONCE, fields::OF_3105),
-        3106 => at(16, SET_LEVEL, ONCE, fields::OF_3106),
-        3107 => at(17, SET_LEVEL, ONCE, fields::OF_3107),
-        3108 => at(18, SET_LEVEL, ONCE, fields::OF_3108),
-        3110 => at(19, SET_LEVEL, ONCE, fields::OF_3110),
-        3622 => at(20, SET_LEVEL, ONCE, fields::OF_3622),
-        3623 => at(21, SET_LEVEL, ONCE, fields::OF_3623),
-        3628 => at(22, SET_LEVEL, ONCE, fields::OF_3628),
-        8402 => at(23, SET_LEVEL, ONCE, fields::OF_8402),
-        6200 => at(24, SET_LEVEL, ONCE, fields::OF_6200),
-        6201 => at(25, SET_LEVEL, ONCE, fields::OF_6201),
-        6205 => at(26, SET_LEVEL, MANY, fields::OF_6205),
-        6220 => at(27, SET_LEVEL, MANY, fields::OF_6220),
-        6221 => at(28, SET_LEVEL, MANY, fields::OF_6221),
-        6227 => at(29, SET_LEVEL, MANY, fields::OF_6227),
-        6226 => at(30, SET_LEVEL, MANY, fields::OF_6226),
-        6228 => at(31, SET_LEVEL, MANY, fields::OF_6228),
-        6302 => at(32, SET_LEVEL, MANY, fields::OF_6302),
-        6303 => at(33, 6302, ONCE, fields::OF_6303),
-        6304 => at(34, 6302, ONCE, fields::OF_6304),
-        6305 => at(35, 6302, ONCE, fields::OF_6305),
-        8410 => at(38, SET_LEVEL, MANY, fields::OF_8410),
-        8411 => at(39, 8410, ONCE, fields::OF_8411),
-        8428 => at(40, 8410, ONCE, fields::OF_8428),
-        8429 => at(41, 8410, ONCE, fields::OF_8429),
-        8430 => at(42, 8410, ONCE, fields::OF_8430),
-        8431 => at(43, 8410, MANY, fields::OF_8431),
-        8437 => at(44, 8410, ONCE, fields::OF_8437),
-        8438 => at(45, 8410, MANY, fields::OF_8438),
-        8418 => at(46, 8410, ONCE, fields::OF_8418),
-        8420 => at(47, 8410, ONCE, fields::OF_8420),
-        8421 => at(48, 8410, ONCE, fields::OF_8421),
-        8432 => at(49, 8410, ONCE, fields::OF_8432),
-        8439 => at(50, 8410, ONCE, fields::OF_8439),
-        8460 => at(51, 8410, ONCE, fields::OF_8460),
-        8461 => at(52, 8410, ONCE, fields::OF_8461),
-        8462 => at(53, 8410, ONCE, fields::OF_8462),
-        8470 => at(54, 8410, MANY, fields::OF_8470),
-        8480 => at(55, 8410, MANY, fields::OF_8480),
-        8990 => at(56, SET_LEVEL, ONCE, fields::OF_8990),
+        8000 => at(fields::NO_8000, SET_LEVEL, ONCE, fields::OF_8000),
+        8100 => at(fields::NO_8100, SET_LEVEL, ONCE, fields::OF_8100),
+        8315 => at(fields::NO_8315, SET_LEVEL, ONCE, fields::OF_8315),
+        8316 => at(fields::NO_8316, SET_LEVEL, ONCE, fields::OF_8316),
+        9206 => at(fields::NO_9206, SET_LEVEL, ONCE, fields::OF_9206),
+        9218 => at(fields::NO_9218, SET_LEVEL, ONCE, fields::OF_9218),
+        102 => at(fields::NO_102, SET_LEVEL, ONCE, fields::OF_102),
+        103 => at(fields::NO_103, SET_LEVEL, ONCE, fields::OF_103),
+        132 => at(fields::NO_132, SET_LEVEL, ONCE, fields::OF_132),
+        3000 => at(fields::NO_3000, SET_LEVEL, ONCE, fields::OF_3000),
+        3100 => at(fields::NO_3100, SET_LEVEL, ONCE, fields::OF_3100),
+        3101 => at(fields::NO_3101, SET_LEVEL, ONCE, fields::OF_3101),
+        3102 => at(fields::NO_3102, SET_LEVEL, ONCE, fields::OF_3102),
+        3103 => at(fields::NO_3103, SET_LEVEL, ONCE, fields::OF_3103),
+        3104 => at(fields::NO_3104, SET_LEVEL, ONCE, fields::OF_3104),
+        3105 => at(fields::NO_3105, SET_LEVEL, ONCE, fields::OF_3105),
+        3106 => at(fields::NO_3106, SET_LEVEL, ONCE, fields::OF_3106),
+        3107 => at(fields::NO_3107, SET_LEVEL, ONCE, fields::OF_3107),
+        3108 => at(fields::NO_3108, SET_LEVEL, ONCE, fields::OF_3108),
+        3110 => at(fields::NO_3110, SET_LEVEL, ONCE, fields::OF_3110),
+        3622 => at(fields::NO_3622, SET_LEVEL, ONCE, fields::OF_3622),
+        3623 => at(fields::NO_3623, SET_LEVEL, ONCE, fields::OF_3623),
+        3628 => at(fields::NO_3628, SET_LEVEL, ONCE, fields::OF_3628),
+        8402 => at(fields::NO_8402, SET_LEVEL, ONCE, fields::OF_8402),
+        6200 => at(fields::NO_6200, SET_LEVEL, ONCE, fields::OF_6200),
+        6201 => at(fields::NO_6201, SET_LEVEL, ONCE, fields::OF_6201),
+        6205 => at(fields::NO_6205, SET_LEVEL, MANY, fields::OF_6205),
+        6220 => at(fields::NO_6220, SET_LEVEL, MANY, fields::OF_6220),
+        6221 => at(fields::NO_6221, SET_LEVEL, MANY, fields::OF_6221),
+        6227 => at(fields::NO_6227, SET_LEVEL, MANY, fields::OF_6227),
+        6226 => at(fields::NO_6226, SET_LEVEL, MANY, fields::OF_6226),
+        6228 => at(fields::NO_6228, SET_LEVEL, MANY, fields::OF_6228),
+        6302 => at(fields::NO_6302, SET_LEVEL, MANY, fields::OF_6302),
+        6303 => at(fields::NO_6303, 6302, ONCE, fields::OF_6303),
+        6304 => at(fields::NO_6304, 6302, ONCE, fields::OF_6304),
+        6305 => at(fields::NO_6305, 6302, ONCE, fields::OF_6305),
+        8410 => at(fields::NO_8410, SET_LEVEL, MANY, fields::OF_8410),
+        8411 => at(fields::NO_8411, 8410, ONCE, fields::OF_8411),
+        8428 => at(fields::NO_8428, 8410, ONCE, fields::OF_8428),
+        8429 => at(fields::NO_8429, 8410, ONCE, fields::OF_8429),
+        8430 => at(fields::NO_8430, 8410, ONCE, fields::OF_8430),
+        8431 => at(fields::NO_8431, 8410, MANY, fields::OF_8431),
+        8437 => at(fields::NO_8437, 8410, ONCE, fields::OF_8437),
+        8438 => at(fields::NO_8438, 8410, MANY, fields::OF_8438),
+        8418 => at(fields::NO_8418, 8410, ONCE, fields::OF_8418),
+        8420 => at(fields::NO_8420, 8410, ONCE, fields::OF_8420),
+        8421 => at(fields::NO_8421, 8410, ONCE, fields::OF_8421),
+        8432 => at(fields::NO_8432, 8410, ONCE, fields::OF_8432),
+        8439 => at(fields::NO_8439, 8410, ONCE, fields::OF_8439),
+        8460 => at(fields::NO_8460, 8410, ONCE, fields::OF_8460),
+        8461 => at(fields::NO_8461, 8410, ONCE, fields::OF_8461),
+        8462 => at(fields::NO_8462, 8410, ONCE, fields::OF_8462),
+        8470 => at(fields::NO_8470, 8410, MANY, fields::OF_8470),
+        8480 => at(fields::NO_8480, 8410, MANY, fields::OF_8480),
+        8990 => at(fields::NO_8990, SET_LEVEL, ONCE, fields::OF_8990),
         _ => find_pair(label),
     }
 }
 
 // The code of a label's row in the table of 6311.
 fn find_6311(label: usize) -> usize
-    ensures { λ r. ⌜ r ≡ code (findFrom rows6311 (rowLabel label) 0) ⌝ }
+    ensures { λ r. ⌜ r ≡ code (findFrom rows6311 (rowLabel label)) ⌝ }
 {
     match label {
-        8000 => at(0, SET_LEVEL, ONCE, fields::OF_8000),
-        8100 => at(1, SET_LEVEL, ONCE, fields::OF_8100),
-        8315 => at(2, SET_LEVEL, ONCE, fields::OF_8315),
-        8316 => at(3, SET_LEVEL, ONCE, fields::OF_8316),
-        9206 => at(4, SET_LEVEL, ONCE, fields::OF_9206),
-        9218 => at(5, SET_LEVEL, ONCE, fields::OF_9218),
-        3000 => at(6, SET_LEVEL, ONCE, fields::OF_3000),
-        3100 => at(7, SET_LEVEL, ONCE, fields::OF_3100),
-        3101 => at(8, SET_LEVEL, ONCE, fields::OF_3101),
-        3102 => at(9, SET_LEVEL, ONCE, fields::OF_3102),
-        3103 => at(10, SET_LEVEL, ONCE, fields::OF_3103),
-        3104 => at(11, SET_LEVEL, ONCE, fields::OF_3104),
-        6200 => at(12, SET_LEVEL, ONCE, fields::OF_6200),
-        6201 => at(13, SET_LEVEL, ONCE, fields::OF_6201),
-        8402 => at(14, SET_LEVEL, ONCE, fields::OF_8402),
-        8432 => at(15, SET_LEVEL, ONCE, fields::OF_8432),
-        8439 => at(16, SET_LEVEL, ONCE, fields::OF_8439),
+        8000 => at(fields::NO_8000, SET_LEVEL, ONCE, fields::OF_8000),
+        8100 => at(fields::NO_8100, SET_LEVEL, ONCE, fields::OF_8100),
+        8315 => at(fields::NO_8315, SET_LEVEL, ONCE, fields::OF_8315),
+        8316 => at(fields::NO_8316, SET_LEVEL, ONCE, fields::OF_8316),
+        9206 => at(fields::NO_9206, SET_LEVEL, ONCE, fields::OF_9206),
+        9218 => at(fields::NO_9218, SET_LEVEL, ONCE, fields::OF_9218),
+        3000 => at(fields::NO_3000, SET_LEVEL, ONCE, fields::OF_3000),
+        3100 => at(fields::NO_3100, SET_LEVEL, ONCE, fields::OF_3100),
+        3101 => at(fields::NO_3101, SET_LEVEL, ONCE, fields::OF_3101),
+        3102 => at(fields::NO_3102, SET_LEVEL, ONCE, fields::OF_3102),
+        3103 => at(fields::NO_3103, SET_LEVEL, ONCE, fields::OF_3103),
+        3104 => at(fields::NO_3104, SET_LEVEL, ONCE, fields::OF_3104),
+        6200 => at(fields::NO_6200, SET_LEVEL, ONCE, fields::OF_6200),
+        6201 => at(fields::NO_6201, SET_LEVEL, ONCE, fields::OF_6201),
+        8402 => at(fields::NO_8402, SET_LEVEL, ONCE, fields::OF_8402),
+        8432 => at(fields::NO_8432, SET_LEVEL, ONCE, fields::OF_8432),
+        8439 => at(fields::NO_8439, SET_LEVEL, ONCE, fields::OF_8439),
         _ => NOTHING,
     }
 }
 
 // The code of a label's row in the table of a set type.
 pub fn find_row(kind: SetType, label: usize) -> usize
-    ensures { λ r. ⌜ r ≡ code (findFrom (table kind) (rowLabel label) 0) ⌝ }
+    ensures { λ r. ⌜ r ≡ code (findFrom (table kind) (rowLabel label)) ⌝ }
 {
     match kind {
         SetType::T6300 => find_6300(label),
@@ -234,7 +234,7 @@ pub fn find_row(kind: SetType, label: usize) -> usize
 
 // ---- the parts of a code
 
-// How many rows stand before it in the table.
+// Its label's number: how many labels of the field table stand before it.
 pub fn number_of(code: usize) -> usize
     ensures { λ r. ⌜ r ≡ numberIn code ⌝ }
 {

@@ -1,7 +1,6 @@
 -- `group_lack` asks in a 6310 set what the header's group lacks; no other set has groups.
 -- Assumes nothing.
 use borrow.Author.Needs.{needs}
-use Rattle.meaning.specs.Tables.{table}
 use Rattle.lacks.specs.Lacks.{groupLack}
 use Rattle.lacks.proofs.group_lack.Statement.{statement}
 use Rattle.lacks.proofs.group_lack.Tie as tie
@@ -37,23 +36,23 @@ nothing-requires-4 : tie.Need-nothing-requires-4
 nothing-requires-4 c κs = search needs
 
 returns : tie.Need-returns
-unfolding groupLack table
+unfolding groupLack
 returns c = rw (c .before .enum-told .given .1) (c .lack-under .ensures)
 
 returns-2 : tie.Need-returns-2
-unfolding groupLack table
+unfolding groupLack
 returns-2 c = rw (c .before .enum-told2 .given .1) (c .nothing .ensures)
 
 returns-3 : tie.Need-returns-3
-unfolding groupLack table
+unfolding groupLack
 returns-3 c = rw (c .before .enum-told3 .given .1) (c .nothing2 .ensures)
 
 returns-4 : tie.Need-returns-4
-unfolding groupLack table
+unfolding groupLack
 returns-4 c = rw (c .before .enum-told4 .given .1) (c .nothing3 .ensures)
 
 returns-5 : tie.Need-returns-5
-unfolding groupLack table
+unfolding groupLack
 returns-5 c = rw (c .before .enum-told5 .given .1) (c .nothing4 .ensures)
 
 pub group-lack-spec : {M : Type 1} → statement M

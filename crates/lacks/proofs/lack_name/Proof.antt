@@ -2,9 +2,9 @@
 -- Assumes nothing.
 use mathlib.Core.Path.{sym, _∙_}
 use borrow.Author.Needs.{needs}
-use Rattle.meaning.specs.Tables.{rows6310}
-use Rattle.tables.specs.LookUp.{findFrom}
-use Rattle.lacks.specs.Lacks.{lackName, flagged}
+use Rattle.meaning.specs.FieldTable.{fieldTable}
+use Rattle.tables.specs.LookUp.{numberOf, numberFrom}
+use Rattle.lacks.specs.Lacks.{lackName, seen}
 use Rattle.lacks.proofs.lack_name.Statement.{statement}
 use Rattle.lacks.proofs.lack_name.Tie as tie
 
@@ -15,7 +15,7 @@ nothing-requires : tie.Need-nothing-requires
 nothing-requires c κs = search needs
 
 returns : tie.Need-returns
-unfolding lackName flagged findFrom rows6310
+unfolding lackName seen numberOf numberFrom fieldTable
 returns c = rw (sym (c .before .before .has .ensures) ∙ c .before .if1 .taken) (c .nothing .ensures)
 
 add-missing : tie.Need-add-missing
@@ -25,7 +25,7 @@ missing-requires : tie.Need-missing-requires
 missing-requires c κs = search needs
 
 returns-2 : tie.Need-returns-2
-unfolding lackName flagged findFrom rows6310
+unfolding lackName seen numberOf numberFrom fieldTable
 returns-2 c = rw (sym (c .before .before .has .ensures) ∙ c .before .if1 .left) (c .missing .ensures)
 
 pub lack-name-spec : {M : Type 1} → statement M
