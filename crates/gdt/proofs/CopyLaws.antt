@@ -6,7 +6,7 @@ use Prim.Native.Nat.{ℕ, _-_, _≤_, _<_}
 use native.Mathlib.Omega.{arith}
 use lib.ListN.{length, take, drop, length-take, drop-of-length-le}
 use lib.Seq.{take-all}
-use Rattle.replies.specs.Replies.{copied}
+use Rattle.face_replies.specs.Replies.{copied}
 
 -- there is room for a part of it
 pub copied-part : (xs part b after : List ℕ) → part ≡ xs → length b < length part

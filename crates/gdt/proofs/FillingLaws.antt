@@ -21,13 +21,13 @@ use Rattle.meaning.specs.Reading.{read, shape, judge}
 use Rattle.meaning.specs.Index.{indexOf, index}
 use Rattle.meaning.specs.Answers.{indexCall}
 use Rattle.meaning.proofs.PlaceLaws.{index-count}
-use Rattle.sets.specs.declared.Walk.{Walk}
-use Rattle.sets.specs.declared.Next.{Next}
-use Rattle.sets.specs.Walking.{begin, nextEntry, entriesOf}
-use Rattle.sets.proofs.EntryWalk.{entries-are}
-use Rattle.replies.specs.declared.Plan.{Plan}
-use Rattle.replies.specs.Replies.{madeReply}
-use Rattle.replies.specs.Plans.{noEntries, allEntries, planIndex}
+use Rattle.index_walk.specs.declared.Walk.{Walk}
+use Rattle.index_walk.specs.declared.Next.{Next}
+use Rattle.index_walk.specs.Walking.{begin, nextEntry, entriesOf}
+use Rattle.index_walk.proofs.EntryWalk.{entries-are}
+use Rattle.face_replies.specs.declared.Plan.{Plan}
+use Rattle.face_replies.specs.Replies.{madeReply}
+use Rattle.face_replies.specs.Plans.{noEntries, allEntries, planIndex}
 use Rattle.gdt.specs.Filling.{walkAfter, stored}
 
 -- ---- the loop, turn by turn

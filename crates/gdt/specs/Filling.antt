@@ -4,8 +4,8 @@ use mathlib.Core.List.{List}
 use Prim.Native.Nat.{ℕ, zero, suc}
 use lib.ListN.{set}
 use Rattle.meaning.specs.declared.Entry.{Entry}
-use Rattle.sets.specs.declared.Walk.{Walk}
-use Rattle.sets.specs.Walking.{nextEntry}
+use Rattle.index_walk.specs.declared.Walk.{Walk}
+use Rattle.index_walk.specs.Walking.{nextEntry}
 
 -- the walk after n lines, from a walk on
 unfoldable pub walkAfter : List ℕ → Walk → ℕ → Walk

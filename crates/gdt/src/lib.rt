@@ -1,30 +1,30 @@
 // The C face of every call but the writer's: each exported function is thin, has no `requires`, and answers one record of numbers by value. include/gdt.h declares them for C.
-// Assumes nothing of the bytes. The contracts cite the replies of crate `replies`, which give the numbers of each answer; specs/Filling has how the index is written.
+// Assumes nothing of the bytes. The contracts cite the replies of crate `face_replies`, which give the numbers of each answer; specs/Filling has how the index is written.
 ghost use mathlib.Core.Path.{_≡_};
 ghost use lib.ListN.{length};
 ghost use Rattle.meaning.specs.Reading as Reading;
 ghost use Rattle.meaning.specs.Views as Views;
 ghost use Rattle.meaning.specs.Answers.{indexCall, listCall, correctCall};
-ghost use Rattle.replies.specs.Replies.{judgedReply, madeReply, viewedReply, copied};
-ghost use Rattle.replies.specs.Plans.{planIndex};
+ghost use Rattle.face_replies.specs.Replies.{judgedReply, madeReply, viewedReply, copied};
+ghost use Rattle.face_replies.specs.Plans.{planIndex};
+use face_replies::JudgedReply;
+use face_replies::MadeReply;
+use face_replies::Plan;
+use face_replies::ViewedReply;
 use meaning::Entry;
-use replies::JudgedReply;
-use replies::MadeReply;
-use replies::Plan;
-use replies::ViewedReply;
 
 #[no_mangle]
 pub extern "C" fn gdt_judge(set: &[u8]) -> JudgedReply
     ensures { λ r. ⌜ r ≡ judgedReply (Reading.judge (now (set .entry))) ⌝ }
 {
-    replies::judged_reply(rules::judge(set))
+    face_replies::judged_reply(judge::judge(set))
 }
 
 // What the index of this set comes to, judged and held against the room for its entries.
 fn plan_index(set: &[u8], room: usize) -> Plan
     ensures { λ r. ⌜ r ≡ planIndex (Reading.judge (now (set .entry))) room ⌝ }
 {
-    replies::plan_index(rules::judge(set), room)
+    face_replies::plan_index(judge::judge(set), room)
 }
 
 // Every refusal is in the plan, so that this function has no branch: a reference to a slice of records is proved by hand (proofs/gdt_index).
@@ -33,10 +33,10 @@ pub extern "C" fn gdt_index(set: &[u8], out: &mut [Entry]) -> MadeReply
     ensures { λ r. ⌜ (r ≡ madeReply (indexCall (now (set .entry)) (now (out .entry)) .answer)) × (now (out .exit) ≡ indexCall (now (set .entry)) (now (out .entry)) .buffer) ⌝ }
 {
     let plan = plan_index(set, out.len());
-    let mut walk = sets::start();
+    let mut walk = index_walk::start();
     let mut i = 0;
     while i < plan.count {
-        let next = sets::next_entry(set, walk);
+        let next = index_walk::next_entry(set, walk);
         out[i] = next.entry;
         walk = next.walk;
         i += 1;
@@ -48,7 +48,7 @@ pub extern "C" fn gdt_index(set: &[u8], out: &mut [Entry]) -> MadeReply
 pub extern "C" fn gdt_list(set: &[u8], out: &mut [u8]) -> MadeReply
     ensures { λ r. ⌜ (r ≡ madeReply (listCall (now (set .entry)) (now (out .entry)) .answer)) × (now (out .exit) ≡ listCall (now (set .entry)) (now (out .entry)) .buffer) ⌝ }
 {
-    replies::made_reply(lists::list(set, out))
+    face_replies::made_reply(list::list(set, out))
 }
 
 #[no_mangle]
@@ -60,14 +60,14 @@ pub extern "C" fn gdt_correct(
 ) -> MadeReply
     ensures { λ r. ⌜ (r ≡ madeReply (correctCall (now (buffer .entry)) used line (now (content .entry)) .answer)) × (now (buffer .exit) ≡ correctCall (now (buffer .entry)) used line (now (content .entry)) .buffer) ⌝ }
 {
-    replies::made_reply(changes::correct(buffer, used, line, content))
+    face_replies::made_reply(correct::correct(buffer, used, line, content))
 }
 
 #[no_mangle]
 pub extern "C" fn gdt_view(set: &[u8], sheet: &[u8], line: usize) -> ViewedReply
     ensures { λ r. ⌜ r ≡ viewedReply (Views.viewed (now (set .entry)) (now (sheet .entry)) line) ⌝ }
 {
-    replies::viewed_reply(views::viewed(set, sheet, line))
+    face_replies::viewed_reply(view::viewed(set, sheet, line))
 }
 
 // The content that a view shows, as far as there is room for it; its whole length is the answer. Bytes behind it stay as they were.
@@ -80,13 +80,13 @@ pub extern "C" fn gdt_view_copy<'a>(
 ) -> usize
     ensures { λ r. ⌜ (r ≡ length (Views.view (now (set .entry)) (now (sheet .entry)) line)) × (now (out .exit) ≡ copied (Views.view (now (set .entry)) (now (sheet .entry)) line) (now (out .entry))) ⌝ }
 {
-    let part = views::view(set, sheet, line);
+    let part = view::view(set, sheet, line);
     let n = part.len();
     let room = out.len();
     if room < n {
-        buffers::copy_front(out, &part[0..room]);
+        byte_put::copy_front(out, &part[0..room]);
         return n;
     }
-    buffers::copy_front(out, part);
+    byte_put::copy_front(out, part);
     n
 }

@@ -1,5 +1,5 @@
 // Prints each set of standard input in turn, line by line, until a refusal; an input of over 65,536 bytes prints only `too long`.
-// Assumes nothing. Every function is proved safe and ending; what is printed of a set is what `rules::judge` and `sets::next_entry` answer.
+// Assumes nothing. Every function is proved safe and ending; what is printed of a set is what `judge::judge` and `index_walk::next_entry` answer.
 ghost use mathlib.Core.Path.{_≡_};
 ghost use Rattle.meaning.specs.Reading.{judge};
 ghost use Rattle.meaning.specs.Answers.{judgedShape};
@@ -73,10 +73,10 @@ fn print_entry(number: usize, entry: Entry) {
 
 // The n lines of the set at the front of some bytes.
 fn print_entries(s: &[u8], n: usize) {
-    let mut walk = sets::start();
+    let mut walk = index_walk::start();
     let mut k: usize = 0;
     while k < n {
-        let next = sets::next_entry(s, walk);
+        let next = index_walk::next_entry(s, walk);
         let entry = next.entry;
         let after = next.walk;
         k += 1;
@@ -95,7 +95,7 @@ fn print_accepted(s: &[u8], shape: Shape) {
 fn print_set(s: &[u8]) -> usize
     ensures { λ r. ⌜ r ≡ judgedShape (judge (now (s .entry))) .length ⌝ }
 {
-    match rules::judge(s) {
+    match judge::judge(s) {
         Judged::Refused(r) => {
             print_refusal(r);
             0

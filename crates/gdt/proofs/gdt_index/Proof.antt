@@ -52,27 +52,27 @@ use Rattle.meaning.specs.declared.Entry.{Entry}
 use Rattle.meaning.specs.Reading.{judge}
 use Rattle.meaning.proofs.Entry as E
 use Rattle.meaning.proofs.Entry.Laws as E′
-use Rattle.sets.specs.declared.Walk.{Walk}
-use Rattle.sets.specs.declared.Next.{Next}
-use Rattle.sets.specs.Walking.{begin, nextEntry}
-use Rattle.sets.proofs.Walk as L
-use Rattle.sets.proofs.Walk.Laws as L′
-use Rattle.sets.proofs.Next as N
-use Rattle.sets.proofs.Next.Laws as N′
-use Rattle.sets.proofs.start as start-fn
-use Rattle.sets.proofs.start.Symbol as start-def
-use Rattle.sets.proofs.start.Symbol.{name as #start}
-use Rattle.sets.proofs.start.Met as start-thm
-use Rattle.sets.proofs.next_entry as next-fn
-use Rattle.sets.proofs.next_entry.Symbol as next-def
-use Rattle.sets.proofs.next_entry.Symbol.{name as #next-entry}
-use Rattle.sets.proofs.next_entry.Met as next-thm
-use Rattle.replies.specs.declared.Plan.{Plan}
-use Rattle.replies.specs.Plans.{planIndex}
-use Rattle.replies.proofs.Plan as P
-use Rattle.replies.proofs.Plan.Laws as P′
-use Rattle.replies.proofs.MadeReply as R
-use Rattle.replies.proofs.MadeReply.Laws as R′
+use Rattle.index_walk.specs.declared.Walk.{Walk}
+use Rattle.index_walk.specs.declared.Next.{Next}
+use Rattle.index_walk.specs.Walking.{begin, nextEntry}
+use Rattle.index_walk.proofs.Walk as L
+use Rattle.index_walk.proofs.Walk.Laws as L′
+use Rattle.index_walk.proofs.Next as N
+use Rattle.index_walk.proofs.Next.Laws as N′
+use Rattle.index_walk.proofs.start as start-fn
+use Rattle.index_walk.proofs.start.Symbol as start-def
+use Rattle.index_walk.proofs.start.Symbol.{name as #start}
+use Rattle.index_walk.proofs.start.Met as start-thm
+use Rattle.index_walk.proofs.next_entry as next-fn
+use Rattle.index_walk.proofs.next_entry.Symbol as next-def
+use Rattle.index_walk.proofs.next_entry.Symbol.{name as #next-entry}
+use Rattle.index_walk.proofs.next_entry.Met as next-thm
+use Rattle.face_replies.specs.declared.Plan.{Plan}
+use Rattle.face_replies.specs.Plans.{planIndex}
+use Rattle.face_replies.proofs.Plan as P
+use Rattle.face_replies.proofs.Plan.Laws as P′
+use Rattle.face_replies.proofs.MadeReply as R
+use Rattle.face_replies.proofs.MadeReply.Laws as R′
 use Rattle.gdt.specs.Filling.{walkAfter, stored}
 use Rattle.gdt.proofs.FillingLaws.{walk-none, stored-none, walk-next, stored-next, length-stored, Fills, fills}
 use Rattle.gdt.proofs.plan_index as plan-fn

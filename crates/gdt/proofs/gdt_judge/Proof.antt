@@ -2,7 +2,7 @@
 -- Assumes nothing.
 use mathlib.Core.Path.{ap, _∙_}
 use borrow.Author.Needs.{needs}
-use Rattle.replies.specs.Replies.{judgedReply}
+use Rattle.face_replies.specs.Replies.{judgedReply}
 use Rattle.gdt.proofs.gdt_judge.Statement.{statement}
 use Rattle.gdt.proofs.gdt_judge.Tie as tie
 

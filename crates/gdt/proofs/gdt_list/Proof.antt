@@ -2,7 +2,7 @@
 -- Assumes nothing.
 use mathlib.Core.Path.{ap, _∙_}
 use borrow.Author.Needs.{needs}
-use Rattle.replies.specs.Replies.{madeReply}
+use Rattle.face_replies.specs.Replies.{madeReply}
 use Rattle.gdt.proofs.gdt_list.Statement.{statement}
 use Rattle.gdt.proofs.gdt_list.Tie as tie
 

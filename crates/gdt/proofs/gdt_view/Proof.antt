@@ -2,7 +2,7 @@
 -- Assumes nothing.
 use mathlib.Core.Path.{ap, _∙_}
 use borrow.Author.Needs.{needs}
-use Rattle.replies.specs.Replies.{viewedReply}
+use Rattle.face_replies.specs.Replies.{viewedReply}
 use Rattle.gdt.proofs.gdt_view.Statement.{statement}
 use Rattle.gdt.proofs.gdt_view.Tie as tie
 

@@ -1,0 +1,44 @@
+-- `short_low` is the walk `firstLow`: two clean halves leave no byte between them.
+-- Assumes nothing.
+use mathlib.Core.Path.{sym}
+use native.Mathlib.Omega.{arith}
+use borrow.Author.Needs.{needs}
+use Rattle.byte_low.proofs.Laws.{low-ends}
+use Rattle.byte_low.proofs.short_low.Statement.{statement}
+use Rattle.byte_low.proofs.short_low.Tie as tie
+
+add-end : tie.Need-add-end
+add-end c = search needs
+
+clean-requires : tie.Need-clean-requires
+clean-requires c κs = search needs
+
+sub-clean : tie.Need-sub-clean
+sub-clean c = search needs
+
+clean-requires-2 : tie.Need-clean-requires-2
+clean-requires-2 c κs = search needs
+
+returns : tie.Need-returns
+returns c =
+    let b2 = c .before .before in
+    let b3 = b2 .before in
+    sym (low-ends _ _ _ _ (omega arith) (omega arith) (b3 .clean .ensures (b2 .if2 .taken)) (c .before .clean2 .ensures (c .if3 .taken)))
+
+seek-low-requires : tie.Need-seek-low-requires
+seek-low-requires c κs = search needs
+
+returns-2 : tie.Need-returns-2
+returns-2 c = c .seek-low .ensures
+
+pub short-low-spec : {M : Type 1} → statement M
+short-low-spec =
+    tie.close
+    (tie.spec
+    add-end
+    clean-requires
+    sub-clean
+    clean-requires-2
+    returns
+    seek-low-requires
+    returns-2)

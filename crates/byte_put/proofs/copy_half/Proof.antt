@@ -1,0 +1,66 @@
+-- `copy_half`: the stores are a block.
+-- Assumes nothing.
+use mathlib.Core.List.{[], _∷_}
+use native.Mathlib.Omega.{arith}
+use borrow.Author.Needs.{needs}
+use lib.Seq.{length-sets, lt-length-sets}
+use Rattle.byte_put.specs.Places.{halfWord}
+use Rattle.byte_put.proofs.PutLaws.{block-put}
+use Rattle.byte_put.proofs.copy_half.Statement.{statement}
+use Rattle.byte_put.proofs.copy_half.Tie as tie
+
+shared-slice-read-a : tie.Need-shared-slice-read-a
+shared-slice-read-a c = search needs
+
+shared-slice-read-b : tie.Need-shared-slice-read-b
+shared-slice-read-b c = search needs
+
+shared-slice-read-c : tie.Need-shared-slice-read-c
+shared-slice-read-c c = search needs
+
+shared-slice-read-d : tie.Need-shared-slice-read-d
+shared-slice-read-d c = search needs
+
+slice-write-dst : tie.Need-slice-write-dst
+slice-write-dst c = search needs
+
+slice-write-dst-2 : tie.Need-slice-write-dst-2
+slice-write-dst-2 c =
+    let b4 = c .before .before .before .before in
+    lt-length-sets (b4 .args .dst .now) 0 (_ ∷ []) (omega arith)
+
+slice-write-dst-3 : tie.Need-slice-write-dst-3
+slice-write-dst-3 c =
+    let b4 = c .before .before .before .before in
+    lt-length-sets (b4 .args .dst .now) 0 (_ ∷ _ ∷ []) (omega arith)
+
+slice-write-dst-4 : tie.Need-slice-write-dst-4
+slice-write-dst-4 c =
+    let b4 = c .before .before .before .before in
+    lt-length-sets (b4 .args .dst .now) 0 (_ ∷ _ ∷ _ ∷ []) (omega arith)
+
+same-length : tie.Need-same-length
+same-length c =
+    let b4 = c .before .before .before .before in
+    length-sets (b4 .args .dst .now) 0 (_ ∷ _ ∷ _ ∷ _ ∷ [])
+
+returns : tie.Need-returns
+returns c =
+    let b4 = c .before .before .before .before in
+    let a = b4 .args in
+    block-put halfWord (a .src .now) (a .dst .now) (b4 .pre .0) (b4 .pre .1)
+
+pub copy-half-spec : {M : Type 1} → statement M
+copy-half-spec =
+    tie.close
+    (tie.spec
+    shared-slice-read-a
+    shared-slice-read-b
+    shared-slice-read-c
+    shared-slice-read-d
+    slice-write-dst
+    slice-write-dst-2
+    slice-write-dst-3
+    slice-write-dst-4
+    same-length
+    returns)

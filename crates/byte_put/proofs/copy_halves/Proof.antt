@@ -1,0 +1,64 @@
+-- `copy_halves`: the last half and the first cover all.
+-- Assumes nothing.
+use mathlib.Core.Path.{_∙_}
+use Prim.Native.Nat.{_-_}
+use native.Mathlib.Omega.{arith}
+use borrow.Author.Needs.{needs}
+use lib.ListN.{length}
+use Rattle.byte_put.specs.Places.{halfWord}
+use Rattle.byte_put.proofs.PutLaws.{lent-block, blocks-all}
+use Rattle.byte_put.proofs.copy_halves.Statement.{statement}
+use Rattle.byte_put.proofs.copy_halves.Tie as tie
+
+sub-last : tie.Need-sub-last
+sub-last c = search needs
+
+sub-copy-half : tie.Need-sub-copy-half
+sub-copy-half c = search needs
+
+part-copy-half-start : tie.Need-part-copy-half-start
+part-copy-half-start c = search needs
+
+part-copy-half-end : tie.Need-part-copy-half-end
+part-copy-half-end c = search needs
+
+sub-copy-half-2 : tie.Need-sub-copy-half-2
+sub-copy-half-2 c = search needs
+
+part-copy-half-start-2 : tie.Need-part-copy-half-start-2
+part-copy-half-start-2 c = search needs
+
+part-copy-half-end-2 : tie.Need-part-copy-half-end-2
+part-copy-half-end-2 c = search needs
+
+copy-half-requires : tie.Need-copy-half-requires
+copy-half-requires c κs = search needs
+
+copy-half-requires-2 : tie.Need-copy-half-requires-2
+copy-half-requires-2 c κs = search needs
+
+same-length : tie.Need-same-length
+same-length c = search needs
+
+returns : tie.Need-returns
+returns c =
+    let b6 = c .before .before .before .before .before .before in
+    let b11 = b6 .before .before .before .before .before in
+    let a = b11 .args in
+    c .before .before .copy-half2 .ensures ∙ blocks-all (a .src .now) (a .dst .now) _ (length (a .src .now) - halfWord) halfWord halfWord (omega arith) (omega arith) (lent-block (a .src .now) (a .dst .now) _ _ halfWord (b6 .copy-half .ensures)) (omega arith) (omega arith)
+
+pub copy-halves-spec : {M : Type 1} → statement M
+copy-halves-spec =
+    tie.close
+    (tie.spec
+    sub-last
+    sub-copy-half
+    part-copy-half-start
+    part-copy-half-end
+    sub-copy-half-2
+    part-copy-half-start-2
+    part-copy-half-end-2
+    copy-half-requires
+    copy-half-requires-2
+    same-length
+    returns)

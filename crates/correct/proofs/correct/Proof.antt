@@ -1,0 +1,76 @@
+-- `correct` answers and leaves what the definition says: by what was planned.
+-- Assumes nothing.
+use mathlib.Core.Path.{sym, _∙_}
+use lib.Seq.{length-take-le}
+use borrow.Author.Needs.{needs}
+use Rattle.correct.proofs.CorrectLaws.{correct-over, kept, plan-refused, plan-made}
+use Rattle.correct.proofs.correct.Statement.{statement}
+use Rattle.correct.proofs.correct.Tie as tie
+
+returns : tie.Need-returns
+returns c =
+    let a = c .before .before .before .args in
+    kept (a .buffer .now) (a .content .now) (a .used) (a .line) _
+    (correct-over (a .buffer .now) (a .content .now) (a .used) (a .line) (c .if1 .taken))
+
+slice-reshare-prefix-plan-change : tie.Need-slice-reshare-prefix-plan-change
+slice-reshare-prefix-plan-change c = search needs
+
+slice-aggregate-plan-change : tie.Need-slice-aggregate-plan-change
+slice-aggregate-plan-change c =
+    let a = c .before .before .before .before .args in
+    sym (length-take-le (a .used) (a .buffer .now) (c .before .if1 .left))
+
+plan-change-requires : tie.Need-plan-change-requires
+plan-change-requires c κs = search needs
+
+enum-known-r : tie.Need-enum-known-r
+enum-known-r c = search needs
+
+enum-known-place : tie.Need-enum-known-place
+enum-known-place c = search needs
+
+put-content-requires : tie.Need-put-content-requires
+put-content-requires c κs =
+    let a = c .before .before .before .before .before .before .before .before .before .args in
+    let h = c .before .before .before .before .before .before .if1 .left in
+    let q = sym (c .before .before .before .before .plan-change .ensures) ∙ c .before .before .place .given .1 in
+    let m = plan-made (a .buffer .now) (a .content .now) (a .used) (a .line) _ _ _ h q in
+    ((m .within, h), (m .total-so, m .fits-in, m .sum-in))
+
+same-length : tie.Need-same-length
+same-length c = search needs
+
+returns-2 : tie.Need-returns-2
+returns-2 c =
+    let a = c .before .before .before .before .before .before .before .before .args in
+    let h = c .before .before .before .before .before .if1 .left in
+    kept (a .buffer .now) (a .content .now) (a .used) (a .line) _
+    (plan-refused (a .buffer .now) (a .content .now) (a .used) (a .line) _ h (sym (c .before .before .before .plan-change .ensures) ∙ c .before .r .given .1))
+
+same-length-2 : tie.Need-same-length-2
+same-length-2 c = search needs
+
+returns-3 : tie.Need-returns-3
+returns-3 c =
+    let a = c .before .before .before .before .before .before .before .before .before .before .before .before .args in
+    let h = c .before .before .before .before .before .before .before .before .before .if1 .left in
+    let q = sym (c .before .before .before .before .before .before .before .plan-change .ensures) ∙ c .before .before .before .before .before .place .given .1 in
+    let m = plan-made (a .buffer .now) (a .content .now) (a .used) (a .line) _ _ _ h q in
+    (m .answer, c .before .before .put-content .ensures ∙ m .buffer)
+
+pub correct-spec : {M : Type 1} → statement M
+correct-spec =
+    tie.close
+    (tie.spec
+    returns
+    slice-reshare-prefix-plan-change
+    slice-aggregate-plan-change
+    plan-change-requires
+    enum-known-r
+    enum-known-place
+    put-content-requires
+    same-length
+    returns-2
+    same-length-2
+    returns-3)

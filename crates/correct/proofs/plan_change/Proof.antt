@@ -1,0 +1,32 @@
+-- `plan_change` answers what was planned.
+-- Assumes nothing.
+use mathlib.Core.Path.{sym, _∙_}
+use Rattle.correct.proofs.CorrectLaws.{plan-unread}
+use borrow.Author.Needs.{needs}
+use Rattle.correct.proofs.plan_change.Statement.{statement}
+use Rattle.correct.proofs.plan_change.Tie as tie
+
+judge-requires : tie.Need-judge-requires
+judge-requires c κs = search needs
+
+enum-known-r : tie.Need-enum-known-r
+enum-known-r c = search needs
+
+enum-known-shape : tie.Need-enum-known-shape
+enum-known-shape c = search needs
+
+plan-judged-requires : tie.Need-plan-judged-requires
+plan-judged-requires c κs = sym (c .before .before .before .judge .ensures) ∙ c .before .shape .given .1
+
+returns : tie.Need-returns
+returns c =
+    let a = c .before .before .before .before .before .before .args in
+    sym (plan-unread (a .set .now) (a .content .now) (a .room) (a .line) _ (sym (c .before .before .before .judge .ensures) ∙ c .before .r .given .1))
+
+returns-2 : tie.Need-returns-2
+returns-2 c = search needs
+
+pub plan-change-spec : {M : Type 1} → statement M
+plan-change-spec =
+    tie.close
+    (tie.spec judge-requires enum-known-r enum-known-shape plan-judged-requires returns returns-2)

@@ -1,0 +1,46 @@
+-- `judge_offer`: 19 by the number alone, else what the line itself says.
+-- Assumes nothing.
+use mathlib.Core.Path.{ap, _∙_}
+use borrow.Author.Needs.{needs}
+use Rattle.correct_offer.specs.declared.OneLine.{OneLine}
+use Rattle.correct_offer.specs.Offered.{offeredTo}
+use Rattle.correct_offer.proofs.WalkLaws.{number-none, number-beyond, number-there}
+use Rattle.correct_offer.proofs.judge_offer.Statement.{statement}
+use Rattle.correct_offer.proofs.judge_offer.Tie as tie
+
+no-such-line-requires : tie.Need-no-such-line-requires
+no-such-line-requires c κs = search needs
+
+returns : tie.Need-returns
+returns c = c .no-such-line .ensures ∙ number-none _ (c .before .before .before .before .args .shape) _ _ (c .before .if1 .taken)
+
+no-such-line-requires-2 : tie.Need-no-such-line-requires-2
+no-such-line-requires-2 c κs = search needs
+
+returns-2 : tie.Need-returns-2
+returns-2 c = c .no-such-line2 .ensures ∙ number-beyond _ (c .before .before .before .before .before .before .args .shape) _ _ (c .before .if2 .taken)
+
+line-after-requires : tie.Need-line-after-requires
+line-after-requires c κs = search needs
+
+judge-for-requires : tie.Need-judge-for-requires
+judge-for-requires c κs = search needs
+
+returns-3 : tie.Need-returns-3
+returns-3 c =
+    let a = c .before .before .before .before .before .before .before .args in
+    c .judge-for .ensures
+    ∙ (ap (λ (x : OneLine). offeredTo x (a .content .now)) (c .before .line-after .ensures)
+    ∙ number-there _ (a .shape) _ _ (c .before .before .before .before .if1 .left) (c .before .before .if2 .left))
+
+pub judge-offer-spec : {M : Type 1} → statement M
+judge-offer-spec =
+    tie.close
+    (tie.spec
+    no-such-line-requires
+    returns
+    no-such-line-requires-2
+    returns-2
+    line-after-requires
+    judge-for-requires
+    returns-3)

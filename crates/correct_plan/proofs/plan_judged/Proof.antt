@@ -1,0 +1,91 @@
+-- `plan_judged` answers what was planned: a law of proofs/PlanLaws for each `return`.
+-- Assumes nothing.
+use mathlib.Core.Path.{sym, ap, _∙_}
+use Prim.Native.Nat.{ℕ}
+use Rattle.meaning.specs.Refusals.{refusal}
+use Rattle.correct_plan.specs.declared.Plan.the-variants.{Refused}
+use Rattle.correct_plan.proofs.PlanLaws.{Ready, plan-followed, plan-against, plan-ready}
+use borrow.Author.Needs.{needs}
+use Rattle.correct_plan.proofs.plan_judged.Statement.{statement}
+use Rattle.correct_plan.proofs.plan_judged.Tie as tie
+
+refused-requires : tie.Need-refused-requires
+refused-requires c κs = search needs
+
+returns : tie.Need-returns
+returns c =
+    let s = c .before .before .before .before .before in
+    let a = s .args in
+    c .refused .ensures ∙ sym (plan-followed (a .set .now) (a .content .now) (a .room) (a .line) (a .shape) (s .pre) (c .before .if1 .taken))
+
+judge-offer-requires : tie.Need-judge-offer-requires
+judge-offer-requires c κs = search needs
+
+place-of-requires : tie.Need-place-of-requires
+place-of-requires c κs = search needs
+
+refused-requires-2 : tie.Need-refused-requires-2
+refused-requires-2 c κs = search needs
+
+returns-2 : tie.Need-returns-2
+returns-2 c =
+    let s = c .before .before .before .before .before .before .before .before .before in
+    let a = s .args in
+    let o = c .before .before .before .before .judge-offer in
+    let r = o .result in
+    let h = c .before .before .before .before .before .if1 .left in
+    c .refused2 .ensures
+    ∙ ap (λ (p : ℕ). Refused (refusal (r .no) p (r .label))) (c .before .place-of .ensures)
+    ∙ sym (plan-against (a .set .now) (a .content .now) (a .room) (a .line) (a .shape) (s .pre) r h (o .ensures) (c .before .before .if2 .taken))
+
+sub-old : tie.Need-sub-old
+sub-old c =
+    let s = c .before .before .before .before .before .before .before .before in
+    let a = s .args in
+    let o = c .before .before .before .judge-offer in
+    let h = c .before .before .before .before .if1 .left in
+    let r : Ready (a .set .now) (a .content .now) (a .room) (a .line) (o .result) =
+    plan-ready (a .set .now) (a .content .now) (a .room) (a .line) (a .shape) (s .pre) (o .result) h (o .ensures) (c .before .if2 .left) in
+    r .least
+
+sub-total : tie.Need-sub-total
+sub-total c =
+    let s = c .before .before .before .before .before .before .before .before in
+    let a = s .args in
+    let o = c .before .before .before .judge-offer in
+    let h = c .before .before .before .before .if1 .left in
+    let r : Ready (a .set .now) (a .content .now) (a .room) (a .line) (o .result) =
+    plan-ready (a .set .now) (a .content .now) (a .room) (a .line) (a .shape) (s .pre) (o .result) h (o .ensures) (c .before .if2 .left) in
+    r .within
+
+add-total : tie.Need-add-total
+add-total c = search needs
+
+plan-total-requires : tie.Need-plan-total-requires
+plan-total-requires c κs = search needs
+
+returns-3 : tie.Need-returns-3
+returns-3 c =
+    let s = c .before .before .before .before .before .before .before .before .before in
+    let a = s .args in
+    let o = c .before .before .before .before .judge-offer in
+    let h = c .before .before .before .before .before .if1 .left in
+    let r : Ready (a .set .now) (a .content .now) (a .room) (a .line) (o .result) =
+    plan-ready (a .set .now) (a .content .now) (a .room) (a .line) (a .shape) (s .pre) (o .result) h (o .ensures) (c .before .before .if2 .left) in
+    c .plan-total .ensures ∙ sym (r .plan)
+
+pub plan-judged-spec : {M : Type 1} → statement M
+plan-judged-spec =
+    tie.close
+    (tie.spec
+    refused-requires
+    returns
+    judge-offer-requires
+    place-of-requires
+    refused-requires-2
+    returns-2
+    sub-old
+    sub-total
+    add-total
+    plan-total-requires
+    returns-3)

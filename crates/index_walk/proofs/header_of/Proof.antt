@@ -1,0 +1,19 @@
+-- `header_of`: what is asked of the label tells which of the two numbers it is.
+-- Assumes nothing.
+use mathlib.Core.Path.{sym, _∙_}
+use borrow.Author.Needs.{needs}
+use Rattle.index_walk.proofs.LabelLaws.{of-member, of-other}
+use Rattle.index_walk.proofs.header_of.Statement.{statement}
+use Rattle.index_walk.proofs.header_of.Tie as tie
+
+is-member-requires : tie.Need-is-member-requires
+is-member-requires c κs = search needs
+
+returns : tie.Need-returns
+returns c = sym (of-member _ _ (sym (c .before .is-member .ensures) ∙ c .if1 .taken))
+
+returns-2 : tie.Need-returns-2
+returns-2 c = sym (of-other _ _ (sym (c .before .is-member .ensures) ∙ c .if1 .left))
+
+pub header-of-spec : {M : Type 1} → statement M
+header-of-spec = tie.close (tie.spec is-member-requires returns returns-2)

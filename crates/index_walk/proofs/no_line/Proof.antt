@@ -1,0 +1,14 @@
+-- `no_line`: its walk is what `start` answers.
+-- Assumes nothing.
+use borrow.Author.Needs.{needs}
+use Rattle.index_walk.proofs.no_line.Statement.{statement}
+use Rattle.index_walk.proofs.no_line.Tie as tie
+
+start-requires : tie.Need-start-requires
+start-requires c κs = search needs
+
+returns : tie.Need-returns
+returns c = rw (c .start .ensures)
+
+pub no-line-spec : {M : Type 1} → statement M
+no-line-spec = tie.close (tie.spec start-requires returns)

@@ -1,0 +1,62 @@
+-- `second_line`: the label of line 2 is not read, it is another one, it is 8100.
+-- Assumes nothing.
+use mathlib.Core.Path.{sym, ap, _∙_}
+use native.Mathlib.Omega.{arith}
+use borrow.Author.Needs.{needs}
+use Rattle.meaning.specs.declared.Refusal.{Refusal}
+use Rattle.meaning.specs.declared.Judged.{Judged}
+use Rattle.line_read.proofs.Bridge.{read-back}
+use Rattle.line_scan.specs.Scan.{scanFrom}
+use Rattle.judge_lines.specs.Pass.{firstUnread}
+use Rattle.judge.proofs.StartLaws.{second-none, second-other, second-summed}
+use Rattle.judge.proofs.second_line.Statement.{statement}
+use Rattle.judge.proofs.second_line.Tie as tie
+
+refused-at-requires : tie.Need-refused-at-requires
+refused-at-requires c κs = search needs
+
+add-number-at : tie.Need-add-number-at
+add-number-at c = omega (arith, read-back (c .before .before .args .s .now) 0 (c .before .before .pre .0) .within)
+
+number-at-requires : tie.Need-number-at-requires
+number-at-requires c κs = search needs
+
+enum-known-number : tie.Need-enum-known-number
+enum-known-number c = search needs
+
+enum-told : tie.Need-enum-told
+enum-told c = search needs
+
+unless-unread-requires : tie.Need-unless-unread-requires
+unless-unread-requires c κs = (omega (arith, read-back (c .before .before .before .before .before .args .s .now) 0 (c .before .before .before .before .before .pre .0) .within), omega arith)
+
+returns : tie.Need-returns
+returns c = ap Judged.Refused (c .unless-unread .ensures ∙ ap (λ (x : Refusal). firstUnread (scanFrom (c .before .before .before .before .before .before .args .s .now) (c .before .before .before .before .before .before .args .at) 1 511) x) (c .before .before .before .before .refused-at .ensures)) ∙ second-none _ _ _ (c .before .before .before .before .before .before .pre .0) (sym (c .before .before .before .number-at .ensures) ∙ c .before .enum-told .given .1)
+
+unless-unread-requires-2 : tie.Need-unless-unread-requires-2
+unless-unread-requires-2 c κs = (omega (arith, read-back (c .before .before .before .before .before .before .before .args .s .now) 0 (c .before .before .before .before .before .before .before .pre .0) .within), omega arith)
+
+returns-2 : tie.Need-returns-2
+returns-2 c = ap Judged.Refused (c .unless-unread2 .ensures ∙ ap (λ (x : Refusal). firstUnread (scanFrom (c .before .before .before .before .before .before .before .before .args .s .now) (c .before .before .before .before .before .before .before .before .args .at) 1 511) x) (c .before .before .before .before .before .before .refused-at .ensures)) ∙ second-other _ _ _ (c .before .before .before .before .before .before .before .before .pre .0) _ (sym (c .before .before .before .before .before .number-at .ensures) ∙ c .before .before .before .number .given .1) (c .before .if1 .taken)
+
+summed-requires : tie.Need-summed-requires
+summed-requires c κs = (c .before .before .before .before .before .before .before .pre .0, c .before .before .before .before .before .before .before .pre .1)
+
+returns-3 : tie.Need-returns-3
+returns-3 c = c .summed .ensures ∙ second-summed _ _ _ (c .before .before .before .before .before .before .before .before .pre .0) _ (sym (c .before .before .before .before .before .number-at .ensures) ∙ c .before .before .before .number .given .1) (c .before .if1 .left)
+
+pub second-line-spec : {M : Type 1} → statement M
+second-line-spec =
+    tie.close
+    (tie.spec
+    refused-at-requires
+    add-number-at
+    number-at-requires
+    enum-known-number
+    enum-told
+    unless-unread-requires
+    returns
+    unless-unread-requires-2
+    returns-2
+    summed-requires
+    returns-3)

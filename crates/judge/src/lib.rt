@@ -1,0 +1,95 @@
+// `judge`: what a set at the front of some bytes is, or its first refusal, 1 to 17, in the paper's order: line 1, line 2, all lines, the sum.
+// Assumes nothing: `judge` has no `requires`. The other functions are its parts; each contract cites a walk of specs/, and proofs/JudgeLaws says what the walks mean.
+ghost use mathlib.Core.Path.{_≡_};
+ghost use Rattle.meaning.specs.declared.Known.the-variants.{Of};
+ghost use Rattle.meaning.specs.Rules.{typeNamed};
+ghost use Rattle.meaning.specs.Reading as Reading;
+ghost use Rattle.line_read.specs.declared.Line.the-variants.{Read};
+ghost use Rattle.line_read.specs.Line.{lineAt};
+ghost use Rattle.line_scan.specs.Scan.{scanSet};
+ghost use Rattle.judge_lines.specs.Pass.{contentOf};
+ghost use Rattle.judge.specs.Walks.{ruledWalk, asJudged, typedBy, firstBy, judgedScan};
+use line_read::Line;
+use line_read::Number;
+use line_scan::Scan;
+use meaning::Judged;
+use meaning::Known;
+use meaning::Refusal;
+use meaning::SetType;
+use meaning::Shape;
+
+// 11 to 17, where line 1 names this type and ends at `at`, and line 2 is 8100.
+fn summed(s: &[u8], kind: SetType, at: usize) -> Judged
+    requires { ⌜ (lineAt (now s) 0 ≡ Read 8000 at) × (typeNamed (contentOf (now s) 0 at) ≡ Of kind) ⌝ }
+    ensures { λ r. ⌜ r ≡ judgedScan (scanSet (now (s .entry))) (λ total lines. asJudged (ruledWalk (now (s .entry)) kind at total lines) kind total lines) ⌝ }
+{
+    match judge_lines::pass(s, kind, at) {
+        Scan::Refused(r) => Judged::Refused(r),
+        Scan::Done { length, lines } => {
+            let r = judge_start::sum_at(s, at, length);
+            if r.no != 0 {
+                return Judged::Refused(r);
+            }
+            Judged::Accepted(Shape {
+                length,
+                lines,
+                kind: kind.number(),
+            })
+        }
+    }
+}
+
+// 10 to 17, where line 1 names this type and ends at `at`: of line 2 only the label is asked here, the pass reads it.
+fn second_line(s: &[u8], kind: SetType, at: usize) -> Judged
+    requires { ⌜ (lineAt (now s) 0 ≡ Read 8000 at) × (typeNamed (contentOf (now s) 0 at) ≡ Of kind) ⌝ }
+    ensures { λ r. ⌜ r ≡ judgedScan (scanSet (now (s .entry))) (λ total lines. typedBy (now (s .entry)) (Of kind) at total lines) ⌝ }
+{
+    let no_sum = judge_missing::refused_at(Refusal::NO_SUM, at);
+    let number = line_read::number_at(s, at + line_read::LENGTH_DIGITS, line_read::LABEL_DIGITS);
+    let Number::Is(label) = number else {
+        return Judged::Refused(judge_lines::unless_unread(s, at, 1, no_sum));
+    };
+    if label != 8100 {
+        return Judged::Refused(judge_lines::unless_unread(s, at, 1, no_sum));
+    }
+    summed(s, kind, at)
+}
+
+// 8 to 17, where line 1 is read.
+fn first_line(s: &[u8], label: usize, size: usize) -> Judged
+    requires { ⌜ lineAt (now s) 0 ≡ Read label size ⌝ }
+    ensures { λ r. ⌜ r ≡ judgedScan (scanSet (now (s .entry))) (λ total lines. firstBy (now (s .entry)) label size total lines) ⌝ }
+{
+    if label != 8000 {
+        return Judged::Refused(judge_lines::unless_unread(
+            s,
+            size,
+            1,
+            judge_missing::refused_at(Refusal::NO_START, 0),
+        ));
+    }
+    let end = size - line_read::LINE_END;
+    let known = judge_start::type_of(&s[line_read::LINE_LEAD..end]);
+    let Known::Of(kind) = known else {
+        return Judged::Refused(judge_lines::unless_unread(
+            s,
+            size,
+            1,
+            judge_missing::refused_at(Refusal::UNKNOWN_SET, 0),
+        ));
+    };
+    second_line(s, kind, size)
+}
+
+// The set at the front of some bytes: accepted with its length, its lines and its type, or its first refusal in the paper's order.
+pub fn judge(set: &[u8]) -> Judged
+    ensures { λ r. ⌜ r ≡ Reading.judge (now (set .entry)) ⌝ }
+{
+    if set.len() == 0 {
+        return Judged::Refused(judge_missing::refused_at(Refusal::EMPTY, 0));
+    }
+    match line_read::line_at(set, 0) {
+        Line::Refused(r) => Judged::Refused(r),
+        Line::Read { label, size } => first_line(set, label, size),
+    }
+}

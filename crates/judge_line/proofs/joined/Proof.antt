@@ -1,0 +1,18 @@
+-- `joined`: the flag, and the header behind a pair.
+-- Assumes nothing.
+use borrow.Author.Needs.{needs}
+use Rattle.judge_line.proofs.StepLaws.{joined-is}
+use Rattle.judge_line.proofs.joined.Statement.{statement}
+use Rattle.judge_line.proofs.joined.Tie as tie
+
+mark-requires : tie.Need-mark-requires
+mark-requires c κs = search needs
+
+header-after-requires : tie.Need-header-after-requires
+header-after-requires c κs = search needs
+
+returns : tie.Need-returns
+returns c = (joined-is (c .before .before .before .before .args .under) _ (c .before .before .before .before .args .group) (c .before .header-after .ensures), c .before .before .mark .ensures)
+
+pub joined-spec : {M : Type 1} → statement M
+joined-spec = tie.close (tie.spec mark-requires header-after-requires returns)

@@ -1,0 +1,48 @@
+-- `place_no` asks by the flags of set level, or by those of the group that the label belongs to.
+-- Assumes nothing.
+use mathlib.Core.Path.{sym, _∙_}
+use borrow.Author.Needs.{needs}
+use borrow.Author.Tests.{ne-eqb}
+use Rattle.judge_line.specs.Steps.{placeNo}
+use Rattle.judge_line.proofs.place_no.Statement.{statement}
+use Rattle.judge_line.proofs.place_no.Tie as tie
+
+has-requires : tie.Need-has-requires
+has-requires c κs = search needs
+
+again-no-requires : tie.Need-again-no-requires
+again-no-requires c κs = search needs
+
+returns : tie.Need-returns
+unfolding placeNo
+returns c = λ r e m. rw (e, m, c .before .before .if1 .taken, ← c .before .has .ensures) (c .again-no .ensures)
+
+belongs-to-requires : tie.Need-belongs-to-requires
+belongs-to-requires c κs = search needs
+
+has-requires-2 : tie.Need-has-requires-2
+has-requires-2 c κs = search needs
+
+again-no-requires-2 : tie.Need-again-no-requires-2
+again-no-requires-2 c κs = search needs
+
+returns-2 : tie.Need-returns-2
+unfolding placeNo
+returns-2 c = λ r e m. rw (sym (c .before .before .before .belongs-to .ensures r e) ∙ c .before .before .if2 .taken, e, m, ne-eqb _ _ (c .before .before .before .before .if1 .left), ← c .before .has2 .ensures) (c .again-no2 .ensures)
+
+returns-3 : tie.Need-returns-3
+unfolding placeNo
+returns-3 c = λ r e m. rw (sym (c .before .belongs-to .ensures r e) ∙ c .if2 .left, e, m, ne-eqb _ _ (c .before .before .if1 .left))
+
+pub place-no-spec : {M : Type 1} → statement M
+place-no-spec =
+    tie.close
+    (tie.spec
+    has-requires
+    again-no-requires
+    returns
+    belongs-to-requires
+    has-requires-2
+    again-no-requires-2
+    returns-2
+    returns-3)

@@ -1,0 +1,79 @@
+-- `pass`: at each line start the loop stands for the scan and for the pass over the whole set.
+-- Assumes nothing.
+use mathlib.Core.Path.{ap, _∙_}
+use native.Mathlib.Omega.{arith}
+use borrow.Author.Needs.{needs}
+use Prim.Native.Nat.{_-_}
+use Rattle.meaning.specs.Limits.{maxLines}
+use Rattle.line_scan.specs.declared.Scan.the-variants.{Refused}
+use Rattle.judge_missing.specs.Lacks.{stateOf}
+use Rattle.judge_lines.proofs.OnceLaws.{Along, along-start, along-end, along-few, along-least, along-within, along-bad, along-on}
+use Rattle.judge_lines.proofs.pass.Statement.{statement}
+use Rattle.judge_lines.proofs.pass.Tie as tie
+
+abbrev Inv-loop : tie.InvT-loop
+Inv-loop s kind start members₀ top₀ group₀ at₀ lines₀ members top group at lines =
+    Along s kind at lines (stateOf group members top) (group .lack)
+
+abbrev μ-loop : tie.MeasureT-loop
+μ-loop s kind start members₀ top₀ group₀ at₀ lines₀ members top group at lines =
+    maxLines - lines
+
+mark-requires : tie.Need-mark-requires Inv-loop μ-loop
+mark-requires c κs = search needs
+
+nothing-requires : tie.Need-nothing-requires Inv-loop μ-loop
+nothing-requires c κs = search needs
+
+loop-holds : tie.Need-loop-holds Inv-loop μ-loop
+loop-holds c = along-start _ _ _ (c .before .before .before .before .pre .0) (c .before .before .before .before .pre .1) (c .nothing .ensures) (c .before .mark .ensures)
+
+next-line-requires : tie.Need-next-line-requires Inv-loop μ-loop
+next-line-requires c κs = search needs
+
+ended-requires : tie.Need-ended-requires Inv-loop μ-loop
+ended-requires c κs = (c .before .before .before .before .loop .inv .within, c .before .before .before .before .loop .inv .few)
+
+returns : tie.Need-returns Inv-loop μ-loop
+returns c = c .ended .ensures ∙ along-end (c .before .before .before .before .before .loop .inv) (c .before .before .before .before .next-line .ensures) (c .before .before .before .if1 .taken)
+
+line-step-requires : tie.Need-line-step-requires Inv-loop μ-loop
+line-step-requires c κs = (along-least (c .before .before .before .before .loop .inv) (c .before .before .before .next-line .ensures) (c .before .before .if1 .left), along-within (c .before .before .before .before .loop .inv) (c .before .before .before .next-line .ensures) (c .before .before .if1 .left))
+
+add-at : tie.Need-add-at Inv-loop μ-loop
+add-at c = omega (arith, along-within (c .before .before .before .before .before .before .loop .inv) (c .before .before .before .before .before .next-line .ensures) (c .before .before .before .before .if1 .left))
+
+add-lines : tie.Need-add-lines Inv-loop μ-loop
+add-lines c = omega (arith, along-few (c .before .before .before .before .before .before .loop .inv) (c .before .before .before .before .before .next-line .ensures) (c .before .before .before .before .if1 .left))
+
+unless-unread-requires : tie.Need-unless-unread-requires Inv-loop μ-loop
+unless-unread-requires c κs = (along-within (c .before .before .before .before .before .before .before .loop .inv) (c .before .before .before .before .before .before .next-line .ensures) (c .before .before .before .before .before .if1 .left), omega (arith, along-few (c .before .before .before .before .before .before .before .loop .inv) (c .before .before .before .before .before .before .next-line .ensures) (c .before .before .before .before .before .if1 .left)))
+
+returns-2 : tie.Need-returns-2 Inv-loop μ-loop
+returns-2 c = ap Refused (c .unless-unread .ensures) ∙ along-bad (c .before .before .before .before .before .before .before .before .loop .inv) (c .before .before .before .before .before .before .before .next-line .ensures) (c .before .before .before .before .before .before .if1 .left) _ _ _ (c .before .before .before .line-step .ensures) (c .before .if2 .taken)
+
+loop-less : tie.Need-loop-less Inv-loop μ-loop
+loop-less c = omega (arith, along-few (c .before .before .before .before .before .before .before .before .loop .inv) (c .before .before .before .before .before .before .before .next-line .ensures) (c .before .before .before .before .before .before .if1 .left))
+
+loop-again : tie.Need-loop-again Inv-loop μ-loop
+loop-again c = along-on (c .before .before .before .before .before .before .before .before .loop .inv) (c .before .before .before .before .before .before .before .next-line .ensures) (c .before .before .before .before .before .before .if1 .left) _ _ _ (c .before .before .before .line-step .ensures) (c .before .if2 .left)
+
+pub pass-spec : {M : Type 1} → statement M
+pass-spec =
+    tie.close
+    (tie.spec
+    Inv-loop
+    μ-loop
+    mark-requires
+    nothing-requires
+    loop-holds
+    next-line-requires
+    ended-requires
+    returns
+    line-step-requires
+    add-at
+    add-lines
+    unless-unread-requires
+    returns-2
+    loop-less
+    loop-again)

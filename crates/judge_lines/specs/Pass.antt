@@ -1,0 +1,72 @@
+-- 11 to 16 as the code walks them over the lines of a set: over offsets, with the rows that were seen as flags. proofs/PassLaws ties them to the rules of `meaning`.
+-- Assumes nothing: these are definitions.
+use mathlib.Core.Bool.{cond}
+use mathlib.Core.Path.{_≡_}
+use mathlib.Core.List.{List}
+use Prim.Native.Nat.{ℕ, zero, suc, _+_, _-_, _<_}
+use lib.ListN.{take, drop}
+use lib.Dec.{eqb}
+use Rattle.meaning.specs.declared.Refusal.{Refusal}
+use Rattle.meaning.specs.declared.SetType.{SetType}
+use Rattle.meaning.specs.Limits.{maxLines}
+use Rattle.meaning.specs.Refusals.{refusal}
+use Rattle.meaning.specs.Lines.{lineLead, lineEnd}
+use Rattle.meaning.specs.Answers.{noRefusal}
+use Rattle.line_read.specs.declared.Line.{Line}
+use Rattle.line_read.specs.declared.Line.the-variants.{Read, Refused}
+use Rattle.line_read.specs.Line.{lineAt}
+use Rattle.line_scan.specs.declared.Scan.{Scan}
+use Rattle.line_scan.specs.declared.Scan.the-variants.{Done}
+use Rattle.line_scan.specs.Scan.{scanFrom}
+use Rattle.judge_missing.specs.Lacks.{State, begin, finish}
+use Rattle.judge_line.specs.Steps.{rowOf, lineNo, nextState, staysIn, lackThen}
+
+-- ---- the pass
+
+-- what a line that is read comes to, else its refusal
+abbrev pub afterLine : Line → (ℕ → ℕ → Refusal) → Refusal
+afterLine (Read l n) f = f l n
+afterLine (Refused r) f = r
+
+-- where a line of n bytes at `at` has its content
+abbrev pub contentOf : List ℕ → ℕ → ℕ → List ℕ
+contentOf s at n = take (n - (lineLead + lineEnd)) (drop (at + lineLead) s)
+
+-- the n lines from a line start on: 11 to 15 of each, and 16 behind the last
+unfoldable pub passFrom : List ℕ → SetType → ℕ → State → Refusal → ℕ → Refusal
+passFrom s kind at st lack zero = finish kind st lack
+passFrom s kind at st lack (suc n) =
+    afterLine (lineAt s at) (λ l m.
+    let rest = passFrom s kind (at + m) (nextState (rowOf kind l) st at l) (lackThen (staysIn (rowOf kind l)) kind st lack) n in
+    cond (eqb (lineNo (rowOf kind l) st l (contentOf s at m)) 0) rest (refusal (lineNo (rowOf kind l) st l (contentOf s at m)) at l))
+
+-- ---- the scan and the pass at once
+
+-- the refusal of a scan, else r
+abbrev pub firstUnread : Scan → Refusal → Refusal
+firstUnread (Done total lines) r = r
+firstUnread (Scan.Refused q) r = q
+
+-- a set that is read, where nothing is refused
+unfoldable pub doneUnless : Refusal → ℕ → ℕ → Scan
+doneUnless r total lines = cond (eqb (r .no) 0) (Done total lines) (Scan.Refused r)
+
+-- a scan that has k lines before it and reads no more
+abbrev pub Stops : ℕ → Scan → Type 0
+Stops k (Done total lines) = lines ≡ k
+Stops k (Scan.Refused r) = Unit
+
+-- what is told of a line that has k lines before it: its label and size, where it is a line of the set; else the label is 8000
+pub record NextAt (s : List ℕ) (at k l n : ℕ) : Type 0 where
+  pub line-read : (l ≡ 8000 → ⊥) → (k < maxLines) × (lineAt s at ≡ Read l n)
+  pub scan-stops : l ≡ 8000 → Stops k (scanFrom s at k (maxLines - k))
+
+-- 16 behind a scan that is done
+abbrev pub finishedScan : Refusal → Scan → Scan
+finishedScan r (Done total lines) = doneUnless r total lines
+finishedScan r (Scan.Refused q) = Scan.Refused q
+
+-- 1 to 7 as the scan found them, then the pass over the lines
+abbrev pub passed : List ℕ → SetType → Scan → Scan
+passed s kind (Done total lines) = doneUnless (passFrom s kind 0 begin noRefusal lines) total lines
+passed s kind (Scan.Refused r) = Scan.Refused r

@@ -1,0 +1,139 @@
+// The pass over the lines of a set of a known type, each read once: 11 to 15 of each line, then 16.
+// Assumes of `pass` that line 1 was read and names the type, of `unless_unread` that the offset lies within the bytes and has at most 512 lines before it: only other crates here
+// call them, and they prove that. Each contract cites a walk of specs/; proofs/OnceLaws says what the loop stands for, proofs/PassLaws what the walks mean.
+ghost use mathlib.Core.Path.{_≡_};
+ghost use Prim.Native.Nat.{_+_, _-_, _≤_};
+ghost use lib.ListN.{length};
+ghost use Rattle.meaning.specs.declared.Known.the-variants.{Of};
+ghost use Rattle.meaning.specs.Limits.{maxLines};
+ghost use Rattle.meaning.specs.Rules.{typeNamed};
+ghost use Rattle.line_read.specs.declared.Line.the-variants.{Read};
+ghost use Rattle.line_read.specs.Line.{lineAt};
+ghost use Rattle.line_scan.specs.Scan.{scanFrom, scanSet};
+ghost use Rattle.judge_missing.specs.Lacks.{finish, stateOf};
+ghost use Rattle.judge_line.specs.Steps.{rowOf, Stepped};
+ghost use Rattle.judge_lines.specs.Pass.{contentOf, firstUnread, finishedScan, NextAt, passed};
+use judge_line::Step;
+use judge_missing::Group;
+use judge_missing::ROWS;
+use line_read::Line;
+use line_scan::Scan;
+use meaning::Refusal;
+use meaning::SetType;
+
+// The next line: its label and its whole length.
+struct Next {
+    label: usize,
+    size: usize,
+}
+
+// The step of the line of `size` bytes at an offset.
+fn line_step(
+    s: &[u8],
+    kind: SetType,
+    at: usize,
+    label: usize,
+    size: usize,
+    group: Group,
+    members: &mut [bool; ROWS],
+    top: &mut [bool; ROWS],
+) -> Step
+    requires { ⌜ (10 ≤ size) × (at + size ≤ length (now s)) ⌝ }
+    ensures { λ r. ⌜ Stepped (rowOf kind label) kind (stateOf group (now (members .entry)) (now (top .entry))) (group .lack) at label (contentOf (now (s .entry)) at size) r (now (members .exit)) (now (top .exit)) ⌝ }
+{
+    let from = at + line_read::LINE_LEAD;
+    let end = at + size - line_read::LINE_END;
+    judge_line::step_at(kind, at, label, s, from, end, group, members, top)
+}
+
+// "All lines, in order, each by 7, 2, 3, 4, 5, 6; then" the rules: the first refusal of the lines from `from` on, which have `before` lines before them, else r.
+pub fn unless_unread(s: &[u8], from: usize, before: usize, r: Refusal) -> Refusal
+    requires { ⌜ (from ≤ length (now s)) × (before ≤ maxLines) ⌝ }
+    ensures { λ q. ⌜ q ≡ firstUnread (scanFrom (now (s .entry)) from before (maxLines - before)) r ⌝ }
+{
+    match line_scan::scan_from(s, from, before) {
+        Scan::Refused(unread) => unread,
+        Scan::Done {
+            length: _,
+            lines: _,
+        } => r,
+    }
+}
+
+// The line at an offset that has so many lines before it. Where no line of this set is read there its label is 8000, which starts another set.
+fn next_line(s: &[u8], at: usize, before: usize) -> Next
+    ensures { λ r. ⌜ NextAt (now (s .entry)) at before (r .label) (r .size) ⌝ }
+{
+    if SetType::LINES <= before {
+        return Next {
+            label: 8000,
+            size: 0,
+        };
+    }
+    match line_read::usual_line(s, at) {
+        Line::Read { label, size } => Next { label, size },
+        Line::Refused(_) => Next {
+            label: 8000,
+            size: 0,
+        },
+    }
+}
+
+// Behind a line that is the last to be read: the set ends there, and 16 is asked, or the first refusal by 7 and 2 to 6 is given.
+fn ended(
+    s: &[u8],
+    kind: SetType,
+    group: Group,
+    members: &[bool; ROWS],
+    top: &[bool; ROWS],
+    from: usize,
+    before: usize,
+) -> Scan
+    requires { ⌜ (from ≤ length (now s)) × (before ≤ maxLines) ⌝ }
+    ensures { λ r. ⌜ r ≡ finishedScan (finish kind (stateOf group (now (members .entry)) (now (top .entry))) (group .lack)) (scanFrom (now (s .entry)) from before (maxLines - before)) ⌝ }
+{
+    match line_scan::scan_from(s, from, before) {
+        Scan::Refused(unread) => Scan::Refused(unread),
+        Scan::Done { length, lines } => {
+            let r = judge_missing::finish_at(kind, group, members, top);
+            if r.no != 0 {
+                return Scan::Refused(r);
+            }
+            Scan::Done { length, lines }
+        }
+    }
+}
+
+// The lines of a set of this type, each read once: 11 to 15 of each, then 16. Line 1 ends at `start` and names the type: no rule refuses it. A refusal by 11 to 15 waits until the
+// lines behind it are read.
+pub fn pass(s: &[u8], kind: SetType, start: usize) -> Scan
+    requires { ⌜ (lineAt (now s) 0 ≡ Read 8000 start) × (typeNamed (contentOf (now s) 0 start) ≡ Of kind) ⌝ }
+    ensures { λ r. ⌜ r ≡ passed (now (s .entry)) kind (scanSet (now (s .entry))) ⌝ }
+{
+    let mut members = [false; ROWS];
+    let mut top = [false; ROWS];
+    judge_missing::mark(&mut top, judge_missing::NO_8000);
+    let mut group = Group {
+        header: 8000,
+        place: 0,
+        lack: judge_missing::nothing(),
+    };
+    let mut at = start;
+    let mut lines: usize = 1;
+    loop {
+        let next = next_line(s, at, lines);
+        let label = next.label;
+        if label == 8000 {
+            return ended(s, kind, group, &members, &top, at, lines);
+        }
+        let step = line_step(s, kind, at, label, next.size, group, &mut members, &mut top);
+        let no = step.no;
+        let place = at;
+        at += next.size;
+        lines += 1;
+        if no != 0 {
+            return Scan::Refused(unless_unread(s, at, lines, Refusal { no, place, label }));
+        }
+        group = step.group;
+    }
+}

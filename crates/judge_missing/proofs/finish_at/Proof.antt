@@ -1,0 +1,24 @@
+-- `finish_at` says what the set lacks, else what its first group lacks.
+-- Assumes nothing.
+use borrow.Author.Needs.{needs}
+use borrow.Author.Tests.{ne-eqb}
+use Rattle.judge_missing.specs.Lacks.{orElse, finish}
+use Rattle.judge_missing.proofs.finish_at.Statement.{statement}
+use Rattle.judge_missing.proofs.finish_at.Tie as tie
+
+set-lack-requires : tie.Need-set-lack-requires
+set-lack-requires c κs = search needs
+
+returns : tie.Need-returns
+unfolding finish orElse
+returns c = rw (← c .before .before .set-lack .ensures, ne-eqb _ _ (c .if1 .taken))
+
+first-lack-requires : tie.Need-first-lack-requires
+first-lack-requires c κs = search needs
+
+returns-2 : tie.Need-returns-2
+unfolding finish orElse
+returns-2 c = rw (← c .before .before .before .set-lack .ensures, c .before .if1 .left) (c .first-lack .ensures)
+
+pub finish-at-spec : {M : Type 1} → statement M
+finish-at-spec = tie.close (tie.spec set-lack-requires returns first-lack-requires returns-2)

@@ -1,0 +1,29 @@
+-- `first_lack` keeps the lack that was found, else asks the open group.
+-- Assumes nothing.
+use borrow.Author.Needs.{needs}
+use borrow.Author.Tests.{ne-eqb}
+use Rattle.judge_missing.specs.Lacks.{orElse, openLack, firstLack}
+use Rattle.judge_missing.proofs.first_lack.Statement.{statement}
+use Rattle.judge_missing.proofs.first_lack.Tie as tie
+
+returns : tie.Need-returns
+unfolding firstLack openLack orElse
+returns c = rw (ne-eqb _ _ (c .if1 .taken))
+
+nothing-requires : tie.Need-nothing-requires
+nothing-requires c κs = search needs
+
+returns-2 : tie.Need-returns-2
+unfolding firstLack openLack orElse
+returns-2 c = rw (c .before .before .before .if1 .left, c .before .if2 .taken) (c .nothing .ensures)
+
+group-lack-requires : tie.Need-group-lack-requires
+group-lack-requires c κs = search needs
+
+returns-3 : tie.Need-returns-3
+unfolding firstLack openLack orElse
+returns-3 c = rw (c .before .before .before .if1 .left, ne-eqb _ _ (c .before .if2 .left)) (c .group-lack .ensures)
+
+pub first-lack-spec : {M : Type 1} → statement M
+first-lack-spec =
+    tie.close (tie.spec returns nothing-requires returns-2 group-lack-requires returns-3)

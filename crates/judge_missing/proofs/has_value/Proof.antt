@@ -1,0 +1,34 @@
+-- `has_value` reads the flags of 8420, 8461 and 8462.
+-- Assumes nothing.
+use mathlib.Core.Path.{sym, _∙_}
+use borrow.Author.Needs.{needs}
+use Rattle.meaning.specs.FieldTable.{fieldTable}
+use Rattle.table_find.specs.LookUp.{numberOf, numberFrom}
+use Rattle.judge_missing.specs.Lacks.{valued, seen}
+use Rattle.judge_missing.proofs.has_value.Statement.{statement}
+use Rattle.judge_missing.proofs.has_value.Tie as tie
+
+has-requires : tie.Need-has-requires
+has-requires c κs = search needs
+
+returns : tie.Need-returns
+unfolding valued seen numberOf numberFrom fieldTable
+returns c = rw (sym (c .before .has .ensures) ∙ c .if1 .taken)
+
+has-requires-2 : tie.Need-has-requires-2
+has-requires-2 c κs = search needs
+
+returns-2 : tie.Need-returns-2
+unfolding valued seen numberOf numberFrom fieldTable
+returns-2 c = rw (sym (c .before .before .before .has .ensures) ∙ c .before .before .if1 .left, sym (c .before .has2 .ensures) ∙ c .if2 .taken)
+
+has-requires-3 : tie.Need-has-requires-3
+has-requires-3 c κs = search needs
+
+returns-3 : tie.Need-returns-3
+unfolding valued seen numberOf numberFrom fieldTable
+returns-3 c = rw (sym (c .before .before .before .before .has .ensures) ∙ c .before .before .before .if1 .left, sym (c .before .before .has2 .ensures) ∙ c .before .if2 .left) (c .has3 .ensures)
+
+pub has-value-spec : {M : Type 1} → statement M
+has-value-spec =
+    tie.close (tie.spec has-requires returns has-requires-2 returns-2 has-requires-3 returns-3)

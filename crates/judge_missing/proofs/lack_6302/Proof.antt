@@ -1,0 +1,62 @@
+-- `lack_6302` asks for 6303, 6304 and 6305, in this order.
+-- Assumes nothing.
+use mathlib.Core.Path.{sym, _∙_}
+use borrow.Author.Needs.{needs}
+use Rattle.meaning.specs.FieldTable.{fieldTable}
+use Rattle.table_find.specs.LookUp.{numberOf, numberFrom}
+use Rattle.judge_missing.specs.Lacks.{lack6302, seen}
+use Rattle.judge_missing.proofs.lack_6302.Statement.{statement}
+use Rattle.judge_missing.proofs.lack_6302.Tie as tie
+
+has-requires : tie.Need-has-requires
+has-requires c κs = search needs
+
+has-requires-2 : tie.Need-has-requires-2
+has-requires-2 c κs = search needs
+
+has-requires-3 : tie.Need-has-requires-3
+has-requires-3 c κs = search needs
+
+nothing-requires : tie.Need-nothing-requires
+nothing-requires c κs = search needs
+
+returns : tie.Need-returns
+unfolding lack6302 seen numberOf numberFrom fieldTable
+returns c = rw (sym (c .before .before .before .before .before .before .has .ensures) ∙ c .before .before .before .before .before .if1 .taken, sym (c .before .before .before .before .has2 .ensures) ∙ c .before .before .before .if2 .taken, sym (c .before .before .has3 .ensures) ∙ c .before .if3 .taken) (c .nothing .ensures)
+
+missing-requires : tie.Need-missing-requires
+missing-requires c κs = search needs
+
+returns-2 : tie.Need-returns-2
+unfolding lack6302 seen numberOf numberFrom fieldTable
+returns-2 c = rw (sym (c .before .before .before .before .before .before .has .ensures) ∙ c .before .before .before .before .before .if1 .taken, sym (c .before .before .before .before .has2 .ensures) ∙ c .before .before .before .if2 .taken, sym (c .before .before .has3 .ensures) ∙ c .before .if3 .left) (c .missing .ensures)
+
+missing-requires-2 : tie.Need-missing-requires-2
+missing-requires-2 c κs = search needs
+
+returns-3 : tie.Need-returns-3
+unfolding lack6302 seen numberOf numberFrom fieldTable
+returns-3 c = rw (sym (c .before .before .before .before .has .ensures) ∙ c .before .before .before .if1 .taken, sym (c .before .before .has2 .ensures) ∙ c .before .if2 .left) (c .missing2 .ensures)
+
+missing-requires-3 : tie.Need-missing-requires-3
+missing-requires-3 c κs = search needs
+
+returns-4 : tie.Need-returns-4
+unfolding lack6302 seen numberOf numberFrom fieldTable
+returns-4 c = rw (sym (c .before .before .has .ensures) ∙ c .before .if1 .left) (c .missing3 .ensures)
+
+pub lack-6302-spec : {M : Type 1} → statement M
+lack-6302-spec =
+    tie.close
+    (tie.spec
+    has-requires
+    has-requires-2
+    has-requires-3
+    nothing-requires
+    returns
+    missing-requires
+    returns-2
+    missing-requires-2
+    returns-3
+    missing-requires-3
+    returns-4)

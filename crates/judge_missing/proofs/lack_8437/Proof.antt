@@ -1,0 +1,49 @@
+-- `lack_8437` asks for 8437 where 8438 stands.
+-- Assumes nothing.
+use mathlib.Core.Path.{sym, _∙_}
+use borrow.Author.Needs.{needs}
+use Rattle.meaning.specs.FieldTable.{fieldTable}
+use Rattle.table_find.specs.LookUp.{numberOf, numberFrom}
+use Rattle.judge_missing.specs.Lacks.{lack8437, seen}
+use Rattle.judge_missing.proofs.lack_8437.Statement.{statement}
+use Rattle.judge_missing.proofs.lack_8437.Tie as tie
+
+has-requires : tie.Need-has-requires
+has-requires c κs = search needs
+
+has-requires-2 : tie.Need-has-requires-2
+has-requires-2 c κs = search needs
+
+nothing-requires : tie.Need-nothing-requires
+nothing-requires c κs = search needs
+
+returns : tie.Need-returns
+unfolding lack8437 seen numberOf numberFrom fieldTable
+returns c = rw (sym (c .before .before .before .before .has .ensures) ∙ c .before .before .before .if1 .taken, sym (c .before .before .has2 .ensures) ∙ c .before .if2 .taken) (c .nothing .ensures)
+
+missing-requires : tie.Need-missing-requires
+missing-requires c κs = search needs
+
+returns-2 : tie.Need-returns-2
+unfolding lack8437 seen numberOf numberFrom fieldTable
+returns-2 c = rw (sym (c .before .before .before .before .has .ensures) ∙ c .before .before .before .if1 .taken, sym (c .before .before .has2 .ensures) ∙ c .before .if2 .left) (c .missing .ensures)
+
+nothing-requires-2 : tie.Need-nothing-requires-2
+nothing-requires-2 c κs = search needs
+
+returns-3 : tie.Need-returns-3
+unfolding lack8437 seen numberOf numberFrom fieldTable
+returns-3 c = rw (sym (c .before .before .has .ensures) ∙ c .before .if1 .left) (c .nothing2 .ensures)
+
+pub lack-8437-spec : {M : Type 1} → statement M
+lack-8437-spec =
+    tie.close
+    (tie.spec
+    has-requires
+    has-requires-2
+    nothing-requires
+    returns
+    missing-requires
+    returns-2
+    nothing-requires-2
+    returns-3)

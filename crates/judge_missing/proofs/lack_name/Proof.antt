@@ -1,0 +1,34 @@
+-- `lack_name` asks for the odd label behind the name.
+-- Assumes nothing.
+use mathlib.Core.Path.{sym, _∙_}
+use borrow.Author.Needs.{needs}
+use Rattle.meaning.specs.FieldTable.{fieldTable}
+use Rattle.table_find.specs.LookUp.{numberOf, numberFrom}
+use Rattle.judge_missing.specs.Lacks.{lackName, seen}
+use Rattle.judge_missing.proofs.lack_name.Statement.{statement}
+use Rattle.judge_missing.proofs.lack_name.Tie as tie
+
+has-requires : tie.Need-has-requires
+has-requires c κs = search needs
+
+nothing-requires : tie.Need-nothing-requires
+nothing-requires c κs = search needs
+
+returns : tie.Need-returns
+unfolding lackName seen numberOf numberFrom fieldTable
+returns c = rw (sym (c .before .before .has .ensures) ∙ c .before .if1 .taken) (c .nothing .ensures)
+
+add-missing : tie.Need-add-missing
+add-missing c = search needs
+
+missing-requires : tie.Need-missing-requires
+missing-requires c κs = search needs
+
+returns-2 : tie.Need-returns-2
+unfolding lackName seen numberOf numberFrom fieldTable
+returns-2 c = rw (sym (c .before .before .has .ensures) ∙ c .before .if1 .left) (c .missing .ensures)
+
+pub lack-name-spec : {M : Type 1} → statement M
+lack-name-spec =
+    tie.close
+    (tie.spec has-requires nothing-requires returns add-missing missing-requires returns-2)

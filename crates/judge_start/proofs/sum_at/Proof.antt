@@ -1,0 +1,52 @@
+-- `sum_at`: by what the five bytes of line 2 write.
+-- Assumes nothing.
+use mathlib.Core.Path.{sym, _∙_}
+use borrow.Author.Needs.{needs}
+use Rattle.judge_start.proofs.Laws.{sum-none, sum-right, sum-wrong}
+use Rattle.judge_start.proofs.sum_at.Statement.{statement}
+use Rattle.judge_start.proofs.sum_at.Tie as tie
+
+add-number-at : tie.Need-add-number-at
+add-number-at c = search needs
+
+number-at-requires : tie.Need-number-at-requires
+number-at-requires c κs = search needs
+
+enum-known-sum : tie.Need-enum-known-sum
+enum-known-sum c = search needs
+
+nothing-requires : tie.Need-nothing-requires
+nothing-requires c κs = search needs
+
+returns : tie.Need-returns
+returns c = c .nothing .ensures ∙ sum-right _ _ _ _ (sym (c .before .before .before .before .before .number-at .ensures) ∙ c .before .before .before .sum .given .1) (c .before .if1 .taken)
+
+refused-at-requires : tie.Need-refused-at-requires
+refused-at-requires c κs = search needs
+
+enum-told : tie.Need-enum-told
+enum-told c = search needs
+
+refused-at-requires-2 : tie.Need-refused-at-requires-2
+refused-at-requires-2 c κs = search needs
+
+returns-2 : tie.Need-returns-2
+returns-2 c = c .refused-at .ensures ∙ sum-wrong _ _ _ _ (sym (c .before .before .before .before .before .number-at .ensures) ∙ c .before .before .before .sum .given .1) (c .before .if1 .left)
+
+returns-3 : tie.Need-returns-3
+returns-3 c = c .refused-at2 .ensures ∙ sum-none _ _ _ (sym (c .before .before .before .number-at .ensures) ∙ c .before .enum-told .given .1)
+
+pub sum-at-spec : {M : Type 1} → statement M
+sum-at-spec =
+    tie.close
+    (tie.spec
+    add-number-at
+    number-at-requires
+    enum-known-sum
+    nothing-requires
+    returns
+    refused-at-requires
+    enum-told
+    refused-at-requires-2
+    returns-2
+    returns-3)

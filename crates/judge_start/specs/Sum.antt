@@ -1,0 +1,23 @@
+-- 17 as the code walks it, at the offset of line 2. `sum-is` in `judge` ties it to the meaning.
+-- Assumes nothing: these are definitions.
+use mathlib.Core.Bool.{Bool, false, cond}
+use mathlib.Core.List.{List}
+use Prim.Native.Nat.{ℕ, _+_}
+use lib.Dec.{eqb}
+use Rattle.meaning.specs.declared.Refusal.{Refusal}
+use Rattle.meaning.specs.Refusals.{refusal, badSum}
+use Rattle.meaning.specs.Lines.{lineLead}
+use Rattle.meaning.specs.Lists.{sumDigits}
+use Rattle.meaning.specs.Answers.{noRefusal}
+use Rattle.line_read.specs.declared.Number.{Number}
+use Rattle.line_read.specs.declared.Number.the-variants.{Is, None}
+use Rattle.line_read.specs.Number.{numberAt}
+
+-- five digits that write the set's length
+abbrev pub sumIs : Number → ℕ → Bool
+sumIs (Is n) total = eqb n total
+sumIs None total = false
+
+-- 17, where line 2 stands at `at` and its content fits
+unfoldable pub sumWalk : List ℕ → ℕ → ℕ → Refusal
+sumWalk s at total = cond (sumIs (numberAt s (at + lineLead) sumDigits) total) noRefusal (refusal badSum at 0)

@@ -1,0 +1,95 @@
+-- `sound_at`: a line that passes every test is read.
+-- Assumes nothing.
+use mathlib.Core.Path.{refl}
+use native.Mathlib.Omega.{arith}
+use borrow.Author.Needs.{needs}
+use Rattle.line_read.proofs.ToldLaws.{three-least, line-sound}
+use Rattle.line_read.proofs.sound_at.Statement.{statement}
+use Rattle.line_read.proofs.sound_at.Tie as tie
+
+returns : tie.Need-returns
+returns c = λ e. search needs
+
+sub-if2 : tie.Need-sub-if2
+sub-if2 c = search needs
+
+returns-2 : tie.Need-returns-2
+returns-2 c = λ e. search needs
+
+usual-lead-requires : tie.Need-usual-lead-requires
+usual-lead-requires c κs = search needs
+
+three-at-requires : tie.Need-three-at-requires
+three-at-requires c κs = search needs
+
+sub-size : tie.Need-sub-size
+sub-size c = omega (arith, three-least (c .before .before .before .before .before .before .args .s .now) (c .before .before .before .before .before .before .args .at) (omega arith) (c .before .before .usual-lead .ensures (c .before .if3 .taken)), c .three-at .ensures .0)
+
+returns-3 : tie.Need-returns-3
+returns-3 c = λ e. search needs
+
+sub-if5 : tie.Need-sub-if5
+sub-if5 c = search needs
+
+returns-4 : tie.Need-returns-4
+returns-4 c = λ e. search needs
+
+sub-end : tie.Need-sub-end
+sub-end c = search needs
+
+add-end : tie.Need-add-end
+add-end c = search needs
+
+add-clean-content : tie.Need-add-clean-content
+add-clean-content c = search needs
+
+clean-content-requires : tie.Need-clean-content-requires
+clean-content-requires c κs = search needs
+
+shared-slice-read-line-ends : tie.Need-shared-slice-read-line-ends
+shared-slice-read-line-ends c = search needs
+
+add-line-ends : tie.Need-add-line-ends
+add-line-ends c = search needs
+
+shared-slice-read-line-ends-2 : tie.Need-shared-slice-read-line-ends-2
+shared-slice-read-line-ends-2 c = search needs
+
+line-ends-requires : tie.Need-line-ends-requires
+line-ends-requires c κs = search needs
+
+returns-5 : tie.Need-returns-5
+returns-5 c = λ e.
+    let end = c .line-ends .ensures e in
+    line-sound _ _ _ _ refl (omega (arith, c .before .before .before .before .before .before .before .three-at .ensures .0)) (omega (arith, c .before .before .before .before .before .before .before .three-at .ensures .0)) (omega (arith, c .before .before .before .before .before .before .before .three-at .ensures .0)) (c .before .before .before .before .before .before .before .before .before .usual-lead .ensures (c .before .before .before .before .before .before .before .before .if3 .taken)) (c .before .before .before .before .clean-content .ensures (c .before .before .before .if6 .taken)) (end .0) (end .1)
+
+returns-6 : tie.Need-returns-6
+returns-6 c = λ e. search needs
+
+returns-7 : tie.Need-returns-7
+returns-7 c = λ e. search needs
+
+pub sound-at-spec : {M : Type 1} → statement M
+sound-at-spec =
+    tie.close
+    (tie.spec
+    returns
+    sub-if2
+    returns-2
+    usual-lead-requires
+    three-at-requires
+    sub-size
+    returns-3
+    sub-if5
+    returns-4
+    sub-end
+    add-end
+    add-clean-content
+    clean-content-requires
+    shared-slice-read-line-ends
+    add-line-ends
+    shared-slice-read-line-ends-2
+    line-ends-requires
+    returns-5
+    returns-6
+    returns-7)

@@ -1,0 +1,53 @@
+-- `usual_line` is the walk `lineAt`, by either way.
+-- Assumes nothing.
+use mathlib.Core.Path.{sym, ap, ap₂, _∙_}
+use Prim.Native.Nat.{ℕ, _-_}
+use native.Mathlib.Omega.{arith}
+use borrow.Author.Needs.{needs}
+use Rattle.line_read.specs.declared.Line.the-variants.{Read}
+use Rattle.line_read.specs.Told.{threeZeros, fourZeros}
+use Rattle.line_read.proofs.ToldLaws.{read-bytes}
+use Rattle.line_read.proofs.usual_line.Statement.{statement}
+use Rattle.line_read.proofs.usual_line.Tie as tie
+
+sound-at-requires : tie.Need-sound-at-requires
+sound-at-requires c κs = search needs
+
+add-four-at : tie.Need-add-four-at
+add-four-at c = omega (arith, read-bytes (c .before .before .before .args .s .now) (c .before .before .before .args .at) (c .before .sound-at .ensures (c .if1 .taken)) .0)
+
+four-at-requires : tie.Need-four-at-requires
+four-at-requires c κs = omega (arith, read-bytes (c .before .before .before .args .s .now) (c .before .before .before .args .at) (c .before .sound-at .ensures (c .if1 .taken)) .0)
+
+sub-t6 : tie.Need-sub-t6
+sub-t6 c = omega (arith, read-bytes (c .before .before .before .before .args .s .now) (c .before .before .before .before .args .at) (c .before .before .sound-at .ensures (c .before .if1 .taken)) .2, c .four-at .ensures)
+
+three-at-requires : tie.Need-three-at-requires
+three-at-requires c κs = omega (arith, read-bytes (c .before .before .before .before .args .s .now) (c .before .before .before .before .args .at) (c .before .before .sound-at .ensures (c .before .if1 .taken)) .0)
+
+sub-t8 : tie.Need-sub-t8
+sub-t8 c = omega (arith, read-bytes (c .before .before .before .before .before .args .s .now) (c .before .before .before .before .before .args .at) (c .before .before .before .sound-at .ensures (c .before .before .if1 .taken)) .1, c .three-at .ensures .0)
+
+returns : tie.Need-returns
+returns c =
+    ap₂ Read (ap (λ (n : ℕ). n - fourZeros) (c .before .four-at .ensures)) (ap (λ (n : ℕ). n - threeZeros) (c .three-at .ensures .0)) ∙ sym (c .before .before .before .sound-at .ensures (c .before .before .if1 .taken))
+
+line-at-requires : tie.Need-line-at-requires
+line-at-requires c κs = search needs
+
+returns-2 : tie.Need-returns-2
+returns-2 c = search needs
+
+pub usual-line-spec : {M : Type 1} → statement M
+usual-line-spec =
+    tie.close
+    (tie.spec
+    sound-at-requires
+    add-four-at
+    four-at-requires
+    sub-t6
+    three-at-requires
+    sub-t8
+    returns
+    line-at-requires
+    returns-2)

@@ -1,0 +1,315 @@
+// One line of a set at an offset, and what a line tells that was read before: 2 to 6 of the paper's replies.
+// Assumes nothing of the bytes. Each contract cites a walk of specs/, and proofs/Bridge and proofs/ToldLaws say what the walks mean.
+ghost use mathlib.Core.Path.{_≡_};
+ghost use mathlib.Core.Bool.{true};
+ghost use Prim.Native.Nat.{_+_, _-_, _*_, _≤_, _<_};
+ghost use lib.ListN.{length, take, drop};
+ghost use Rattle.meaning.specs.Digits.{digit, allDigits};
+ghost use Rattle.meaning.specs.Refusals.{refusal};
+ghost use Rattle.meaning.specs.Lines.{lengthDigits, labelDigits, lineLead, minLineBytes, cr, lf};
+ghost use Rattle.line_read.specs.declared.Line.the-variants.{Read};
+ghost use Rattle.line_read.specs.Number.{numberAt};
+ghost use Rattle.line_read.specs.Line.{labelledLine, sizedLine, lineAt};
+ghost use Rattle.line_read.specs.Told.{threeBytes, threeZeros, fourBytes, fourZeros, toldLength, toldLabel};
+use meaning::Refusal;
+
+// "A line is three digits (its whole length), four digits (label), content, 0Dh 0Ah."
+pub const LENGTH_DIGITS: usize = 3;
+
+pub const LABEL_DIGITS: usize = 4;
+
+pub const CR: u8 = 13;
+
+pub const LF: u8 = 10;
+
+// Both as one number, the first byte the lower.
+const CR_LF: usize = CR as usize + LF as usize * meaning::BYTE_VALUES;
+
+// The bytes before a content.
+pub const LINE_LEAD: usize = LENGTH_DIGITS + LABEL_DIGITS;
+
+// The bytes behind a content.
+pub const LINE_END: usize = 2;
+
+// "Length = content + 9."
+pub const LINE_FRAME: usize = LINE_LEAD + LINE_END;
+
+// The digits of a set type, the content of line 1.
+pub const TYPE_DIGITS: usize = 4;
+
+// "8100 has five digits", and its line so many bytes.
+pub const SUM_DIGITS: usize = 5;
+
+pub const SUM_LINE: usize = SUM_DIGITS + LINE_FRAME;
+
+// "Content has 1 byte or more, so lengths run 010 to 999."
+const MIN_LINE_BYTES: usize = LINE_FRAME + 1;
+
+// The largest byte that a content usually starts with.
+const USUAL_BYTE: u8 = 253;
+
+// "Digits" are 30h to 39h.
+const DIGIT_ZERO: u8 = b'0';
+
+const DIGIT_NINE: u8 = b'9';
+
+// What the bytes `000` and `0000` come to, each byte times the value of its digit.
+const THREE_ZEROS: usize = DIGIT_ZERO as usize * 111;
+
+const FOUR_ZEROS: usize = DIGIT_ZERO as usize * 1111;
+
+// So many digits write no number that is too large for a usize.
+const MOST_DIGITS: usize = 9;
+
+// What the bytes of a number write.
+pub enum Number {
+    // They are digits, and this is their number.
+    Is(usize),
+    // One of them is no digit, they are not all there, or they are too many.
+    None,
+}
+
+// What reading one line finds.
+pub enum Line {
+    // The line keeps 2 to 6: its label and its whole length.
+    Read { label: usize, size: usize },
+    // The first of 2 to 6 that it breaks.
+    Refused(Refusal),
+}
+
+// The number that the k bytes at an offset write, for k up to nine.
+pub fn number_at(s: &[u8], at: usize, k: usize) -> Number
+    ensures { λ r. ⌜ r ≡ numberAt (now (s .entry)) at k ⌝ }
+{
+    if MOST_DIGITS < k {
+        return Number::None;
+    }
+    if s.len() < at {
+        return Number::None;
+    }
+    if s.len() - at < k {
+        return Number::None;
+    }
+    let end = at + k;
+    let mut i = at;
+    let mut number: usize = 0;
+    while i < end {
+        let b = s[i];
+        if b < DIGIT_ZERO {
+            return Number::None;
+        }
+        if DIGIT_NINE < b {
+            return Number::None;
+        }
+        number = number * 10 + (b as usize - DIGIT_ZERO as usize);
+        i += 1;
+    }
+    Number::Is(number)
+}
+
+// ---- one line, rule by rule
+
+// A refusal of a line: "the label 0, unless said otherwise".
+fn refused(no: usize, place: usize) -> Line
+    ensures { λ r. ⌜ r ≡ Line.Refused (refusal no place 0) ⌝ }
+{
+    Line::Refused(Refusal {
+        no,
+        place,
+        label: 0,
+    })
+}
+
+// The line at an offset whose length and label are read.
+fn labelled_line(s: &[u8], at: usize, size: usize, label: usize) -> Line
+    requires { ⌜ (minLineBytes ≤ size) × (at + size ≤ length (now s)) ⌝ }
+    ensures { λ r. ⌜ r ≡ labelledLine (now (s .entry)) at size label ⌝ }
+{
+    // 6, BadByte: "content byte under 20h; place is that byte"
+    let content = at + LINE_LEAD;
+    let k = size - LINE_FRAME;
+    let low = byte_low::seek_low(s, content, k);
+    if low < content + k {
+        return refused(Refusal::BAD_BYTE, low);
+    }
+    Line::Read { label, size }
+}
+
+// The line at an offset whose length is read.
+fn sized_line(s: &[u8], at: usize, size: usize) -> Line
+    requires { ⌜ at ≤ length (now s) ⌝ }
+    ensures { λ r. ⌜ r ≡ sizedLine (now (s .entry)) at size ⌝ }
+{
+    // 2, BadLength: "or below 010"
+    if size < MIN_LINE_BYTES {
+        return refused(Refusal::BAD_LENGTH, at);
+    }
+    // 3, CutLine: "the line runs past the input"
+    if s.len() - at < size {
+        return refused(Refusal::CUT_LINE, at);
+    }
+    // 4, BadEnd: "last two bytes are not 0Dh 0Ah"
+    if s[at + (size - LINE_END)] != CR {
+        return refused(Refusal::BAD_END, at);
+    }
+    if s[at + (size - 1)] != LF {
+        return refused(Refusal::BAD_END, at);
+    }
+    // 5, BadLabel: "label not four digits"
+    match number_at(s, at + LENGTH_DIGITS, LABEL_DIGITS) {
+        Number::Is(label) => labelled_line(s, at, size, label),
+        Number::None => refused(Refusal::BAD_LABEL, at),
+    }
+}
+
+// The line at an offset: "each by .. 2, 3, 4, 5, 6".
+pub fn line_at(s: &[u8], at: usize) -> Line
+    ensures { λ r. ⌜ r ≡ lineAt (now (s .entry)) at ⌝ }
+{
+    // 2, BadLength: "under three bytes remain, not digits"
+    match number_at(s, at, LENGTH_DIGITS) {
+        Number::Is(size) => sized_line(s, at, size),
+        Number::None => refused(Refusal::BAD_LENGTH, at),
+    }
+}
+
+// ---- what a line tells that was read before: its bytes are taken as digits, and nothing is tested
+
+// Three bytes, each times the value of its digit.
+fn three_bytes(a: u8, b: u8, c: u8) -> usize
+    ensures { λ r. ⌜ (r ≡ a * 100 + b * 10 + c) × (r < 65536) ⌝ }
+{
+    a as usize * 100 + b as usize * 10 + c as usize
+}
+
+// Four bytes, each times the value of its digit.
+fn four_bytes(a: u8, b: u8, c: u8, d: u8) -> usize
+    ensures { λ r. ⌜ r ≡ a * 1000 + b * 100 + c * 10 + d ⌝ }
+{
+    a as usize * 1000 + b as usize * 100 + c as usize * 10 + d as usize
+}
+
+// The three bytes at an offset.
+fn three_at(s: &[u8], at: usize) -> usize
+    requires { ⌜ at + lengthDigits ≤ length (now s) ⌝ }
+    ensures { λ r. ⌜ (r ≡ threeBytes (now (s .entry)) at) × (r < 65536) ⌝ }
+{
+    three_bytes(s[at], s[at + 1], s[at + 2])
+}
+
+// The four bytes at an offset.
+fn four_at(s: &[u8], at: usize) -> usize
+    requires { ⌜ at + labelDigits ≤ length (now s) ⌝ }
+    ensures { λ r. ⌜ r ≡ fourBytes (now (s .entry)) at ⌝ }
+{
+    four_bytes(s[at], s[at + 1], s[at + 2], s[at + 3])
+}
+
+// The length of the content that the line at an offset tells by its first three bytes; 0 where it tells none.
+pub fn told_length(s: &[u8], at: usize) -> usize
+    ensures { λ r. ⌜ (r ≡ toldLength (now (s .entry)) at) × (r < 65536) ⌝ }
+{
+    if s.len() < LINE_LEAD {
+        return 0;
+    }
+    if s.len() - LINE_LEAD < at {
+        return 0;
+    }
+    let n = three_at(s, at);
+    if n < THREE_ZEROS + LINE_FRAME {
+        return 0;
+    }
+    n - (THREE_ZEROS + LINE_FRAME)
+}
+
+// The label that it tells by the four bytes behind these; 0 where it tells none.
+pub fn told_label(s: &[u8], at: usize) -> usize
+    ensures { λ r. ⌜ r ≡ toldLabel (now (s .entry)) at ⌝ }
+{
+    if s.len() < LINE_LEAD {
+        return 0;
+    }
+    if s.len() - LINE_LEAD < at {
+        return 0;
+    }
+    let n = four_at(s, at + LENGTH_DIGITS);
+    if n < FOUR_ZEROS {
+        return 0;
+    }
+    n - FOUR_ZEROS
+}
+
+// ---- one line of many
+
+// A byte that usually is the i-th of a line, counted from 0: a digit before the content, and nearly any as its first. Either is asked by two bounds, so that all
+// bytes are asked alike.
+fn usual_byte(i: usize, b: u8) -> bool
+    ensures { λ r. ⌜ (r ≡ true → i < lineLead → digit b ≡ true) ⌝ }
+{
+    if i < LINE_LEAD {
+        return (DIGIT_ZERO <= b) & (b <= DIGIT_NINE);
+    }
+    (byte_low::LEAST_BYTE <= b) & (b <= USUAL_BYTE)
+}
+
+// The bytes before the content of the line at an offset, and the first of its content, are usual ones. The loop has no way out between them, so that all are tested
+// at once.
+fn usual_lead(s: &[u8], at: usize) -> bool
+    requires { ⌜ at + lineLead < length (now s) ⌝ }
+    ensures { λ r. ⌜ (r ≡ true → allDigits (take lineLead (drop at (now (s .entry)))) ≡ true) ⌝ }
+{
+    let mut i: usize = 0;
+    let mut fit = true;
+    while i <= LINE_LEAD {
+        fit &= usual_byte(i, s[at + i]);
+        i += 1;
+    }
+    fit
+}
+
+// Two bytes are the end of a line, asked at once.
+fn line_ends(a: u8, b: u8) -> bool
+    ensures { λ r. ⌜ (r ≡ true → (a ≡ cr) × (b ≡ lf)) ⌝ }
+{
+    a as usize + b as usize * meaning::BYTE_VALUES == CR_LF
+}
+
+// The line at an offset keeps 2 to 6: it starts with digits, these tell where it ends, and then the rest is tested. A line that is not a usual one may keep them too.
+fn sound_at(s: &[u8], at: usize) -> bool
+    ensures { λ r. ⌜ (r ≡ true → lineAt (now (s .entry)) at ≡ Read (fourBytes (now (s .entry)) (at + lengthDigits) - fourZeros) (threeBytes (now (s .entry)) at - threeZeros)) ⌝ }
+{
+    if s.len() < MIN_LINE_BYTES {
+        return false;
+    }
+    if s.len() - MIN_LINE_BYTES < at {
+        return false;
+    }
+    if usual_lead(s, at) {
+        let size = three_at(s, at) - THREE_ZEROS;
+        if size < MIN_LINE_BYTES {
+            return false;
+        }
+        if s.len() - at < size {
+            return false;
+        }
+        let end = at + (size - LINE_END);
+        if byte_low::clean_content(s, at + LINE_LEAD, end) {
+            return line_ends(s[end], s[end + 1]);
+        }
+    }
+    false
+}
+
+// The same line as `line_at` reads, for a loop over many lines. A line without a fault is the usual one, so that is asked first; only another one is read
+// rule by rule. One loop alone calls it, so that it becomes a part of that loop.
+pub fn usual_line(s: &[u8], at: usize) -> Line
+    ensures { λ r. ⌜ r ≡ lineAt (now (s .entry)) at ⌝ }
+{
+    if sound_at(s, at) {
+        return Line::Read {
+            label: four_at(s, at + LENGTH_DIGITS) - FOUR_ZEROS,
+            size: three_at(s, at) - THREE_ZEROS,
+        };
+    }
+    line_at(s, at)
+}

@@ -1,0 +1,33 @@
+-- `is_rule008` asks that day and month are not 00, then `is_rule020`.
+-- Assumes nothing.
+use borrow.Author.Needs.{needs}
+use borrow.Author.Tests.{le-leb, lt-leb}
+use Rattle.meaning.specs.Kinds.{isRule008}
+use Rattle.table_dates.proofs.is_rule008.Statement.{statement}
+use Rattle.table_dates.proofs.is_rule008.Tie as tie
+
+two-at-requires : tie.Need-two-at-requires
+two-at-requires c κs = search needs
+
+returns : tie.Need-returns
+unfolding isRule008
+returns c = search (lt-leb, ← (c .before .two-at .ensures))
+
+two-at-requires-2 : tie.Need-two-at-requires-2
+two-at-requires-2 c κs = search needs
+
+returns-2 : tie.Need-returns-2
+unfolding isRule008
+returns-2 c = search (le-leb, lt-leb, ← (c .before .before .before .two-at .ensures), ← (c .before .two-at2 .ensures))
+
+is-rule020-requires : tie.Need-is-rule020-requires
+is-rule020-requires c κs = search needs
+
+returns-3 : tie.Need-returns-3
+unfolding isRule008
+returns-3 c = search (le-leb, ← (c .before .before .before .before .two-at .ensures), ← (c .before .before .two-at2 .ensures), ← (c .is-rule020 .ensures))
+
+pub is-rule008-spec : {M : Type 1} → statement M
+is-rule008-spec =
+    tie.close
+    (tie.spec two-at-requires returns two-at-requires-2 returns-2 is-rule020-requires returns-3)

@@ -1,0 +1,45 @@
+-- What a look-up finds as one number, its code: the code answers the row's number, its header, whether it repeats, and what its content must be.
+-- Assumes nothing: these are definitions. That a code gives back what was put in is said by proofs/CodeLaws.
+use mathlib.Core.Bool.{Bool, true, false}
+use Prim.Native.Nat.{ℕ, _+_, _*_, _/_, _%_}
+use lib.Dec.{eqb}
+use Rattle.meaning.specs.FieldTable.{fieldTable, fieldRowIn}
+use Rattle.table_fields.specs.Codes.{fieldCode}
+use Rattle.table_find.specs.LookUp.{Found, At, Nothing}
+
+-- every field's code is below this, every row's number below that
+abbrev pub fields : ℕ
+fields = 65536
+
+abbrev pub numbers : ℕ
+numbers = 256
+
+-- occurrence 1 and n as numbers
+abbrev pub occurrence : Bool → ℕ
+occurrence false = 0
+occurrence true = 1
+
+abbrev pub occurrences : ℕ
+occurrences = 2
+
+-- the code of a row, of its number, its header, its occurrence and the code of its field
+abbrev pub rowCode : ℕ → ℕ → ℕ → ℕ → ℕ
+rowCode number under many field = field + fields * (number + numbers * (many + occurrences * under))
+
+-- the code of what is found, 0 for nothing
+unfoldable pub code : Found → ℕ
+code Nothing = 0
+code (At i r) = rowCode i (r .under) (occurrence (r .many)) (fieldCode (fieldRowIn fieldTable (r .label)))
+
+-- the parts of a code
+abbrev pub fieldIn : ℕ → ℕ
+fieldIn c = c % fields
+
+abbrev pub numberIn : ℕ → ℕ
+numberIn c = c / fields % numbers
+
+abbrev pub manyIn : ℕ → Bool
+manyIn c = eqb (c / (fields * numbers) % occurrences) 1
+
+abbrev pub underIn : ℕ → ℕ
+underIn c = c / (fields * numbers * occurrences)

@@ -1,0 +1,130 @@
+// The bytes and digits of a content, and the test of a decimal number.
+// Assumes nothing; no function here asks anything of its caller, and each says in its contract which definition of the meaning it equals.
+ghost use mathlib.Core.Path.{_≡_};
+ghost use lib.ListN.{drop, getD};
+ghost use Rattle.meaning.specs.Digits.{digit, allDigits};
+ghost use Rattle.meaning.specs.Kinds.{decimals, whole, unsigned, isFloat};
+ghost use Rattle.table_floats.specs.Floats.{floatIf, floatOf};
+
+// The bytes that the tests name.
+pub const DIGIT_ZERO: u8 = b'0';
+
+const DIGIT_NINE: u8 = b'9';
+
+const MINUS: u8 = b'-';
+
+pub const POINT: u8 = b'.';
+
+// What the float test answers.
+pub enum Float {
+    // The content is a decimal number.
+    Is,
+    // It is none.
+    Not,
+}
+
+// Byte i of a content, 0 behind its end.
+pub fn byte_at(c: &[u8], i: usize) -> u8
+    ensures { λ r. ⌜ r ≡ getD (now (c .entry)) i 0 ⌝ }
+{
+    if c.len() <= i {
+        return 0;
+    }
+    c[i]
+}
+
+// Digits are 30h to 39h.
+pub fn is_digit(b: u8) -> bool
+    ensures { λ r. ⌜ r ≡ digit b ⌝ }
+{
+    if b < DIGIT_ZERO {
+        return false;
+    }
+    b <= DIGIT_NINE
+}
+
+// The bytes from `from` on are digits.
+pub fn all_digits(c: &[u8], from: usize) -> bool
+    ensures { λ r. ⌜ r ≡ allDigits (drop from (now (c .entry))) ⌝ }
+{
+    let mut i = from;
+    while i < c.len() {
+        if is_digit(c[i]) {
+            i += 1;
+        } else {
+            return false;
+        }
+    }
+    true
+}
+
+// From `from` on stand one or more digits, then nothing.
+fn decimals_from(c: &[u8], from: usize) -> bool
+    ensures { λ r. ⌜ r ≡ decimals (drop from (now (c .entry))) ⌝ }
+{
+    if from < c.len() {
+        return all_digits(c, from);
+    }
+    false
+}
+
+// From `from` on stand digits, then nothing, or a point and one or more digits.
+fn whole_from(c: &[u8], from: usize) -> bool
+    ensures { λ r. ⌜ r ≡ whole (drop from (now (c .entry))) ⌝ }
+{
+    let mut i = from;
+    while i < c.len() {
+        if is_digit(c[i]) {
+            i += 1;
+        } else {
+            if c[i] == POINT {
+                return decimals_from(c, i + 1);
+            }
+            return false;
+        }
+    }
+    true
+}
+
+// From `from` on stand one or more digits, then nothing, or a point and one or more digits.
+fn unsigned_from(c: &[u8], from: usize) -> bool
+    ensures { λ r. ⌜ r ≡ unsigned (drop from (now (c .entry))) ⌝ }
+{
+    if c.len() <= from {
+        return false;
+    }
+    if is_digit(c[from]) {
+        return whole_from(c, from + 1);
+    }
+    false
+}
+
+// The answer of the float test.
+fn float_if(is: bool) -> Float
+    ensures { λ r. ⌜ r ≡ floatIf is ⌝ }
+{
+    if is {
+        return Float::Is;
+    }
+    Float::Not
+}
+
+// "float: optional `-`, one or more digits, optionally `.` and one or more digits."
+pub fn float_of(c: &[u8]) -> Float
+    ensures { λ r. ⌜ r ≡ floatOf (now (c .entry)) ⌝ }
+{
+    if byte_at(c, 0) == MINUS {
+        return float_if(unsigned_from(c, 1));
+    }
+    float_if(unsigned_from(c, 0))
+}
+
+// The content is a float: the one reader of what the float test answers.
+pub fn is_float(c: &[u8]) -> bool
+    ensures { λ r. ⌜ r ≡ isFloat (now (c .entry)) ⌝ }
+{
+    match float_of(c) {
+        Float::Is => true,
+        Float::Not => false,
+    }
+}

@@ -1,0 +1,36 @@
+-- `fits_label` asks the length, then the kind, by the code of the label's row.
+-- Assumes nothing.
+use mathlib.Core.Path.{sym, _∙_}
+use borrow.Author.Needs.{needs}
+use Rattle.table_kinds.proofs.Laws.{fits-not, fits-kind}
+use Rattle.table_kinds.proofs.fits_label.Statement.{statement}
+use Rattle.table_kinds.proofs.fits_label.Tie as tie
+
+field-code-requires : tie.Need-field-code-requires
+field-code-requires c κs = search needs
+
+has-length-requires : tie.Need-has-length-requires
+has-length-requires c κs = search needs
+
+kind-of-requires : tie.Need-kind-of-requires
+kind-of-requires c κs = search needs
+
+of-kind-requires : tie.Need-of-kind-requires
+of-kind-requires c κs = search needs
+
+returns : tie.Need-returns
+returns c = sym (fits-kind _ _ _ (c .before .before .before .before .field-code .ensures) (sym (c .before .before .before .has-length .ensures) ∙ c .before .before .if1 .taken) _ _ (c .before .kind-of .ensures) (c .of-kind .ensures))
+
+returns-2 : tie.Need-returns-2
+returns-2 c = sym (fits-not _ _ _ (c .before .before .field-code .ensures) (sym (c .before .has-length .ensures) ∙ c .if1 .left))
+
+pub fits-label-spec : {M : Type 1} → statement M
+fits-label-spec =
+    tie.close
+    (tie.spec
+    field-code-requires
+    has-length-requires
+    kind-of-requires
+    of-kind-requires
+    returns
+    returns-2)

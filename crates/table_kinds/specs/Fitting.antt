@@ -1,0 +1,10 @@
+-- The lengths that a row of the field table allows, by the row's code.
+-- Assumes nothing: these are definitions. What they say of a label and its content is told by `fits-code` in proofs/Laws.
+use mathlib.Core.Bool.{Bool, _&&_}
+use Prim.Native.Nat.{ℕ}
+use lib.Dec.{leb}
+use Rattle.table_fields.specs.Codes.{leastIn, mostIn}
+
+-- a content of n bytes has a length that the code allows
+unfoldable pub lengthFits : ℕ → ℕ → Bool
+lengthFits code n = leb (leastIn code) n && leb n (mostIn code)

@@ -1,0 +1,56 @@
+-- The ways that `newer_part` and `shown_bytes` end, and that a newer part lies within its slice.
+-- Assumes nothing.
+use mathlib.Core.Path.{_≡_, subst}
+use mathlib.Core.Bool.{Bool, true, false, cond}
+use mathlib.Core.List.{List}
+use Prim.Native.Nat.{ℕ, _+_, _-_, _≤_}
+use native.Mathlib.Omega.{arith}
+use borrow.Author.Tests.{eq-eqb, ne-eqb}
+use lib.Dec.{eqb}
+use lib.ListN.{length, take, drop}
+use Rattle.meaning.specs.declared.Part.{Part}
+use Rattle.meaning.specs.declared.Viewed.{Viewed}
+use Rattle.meaning.specs.declared.Viewed.the-variants.{Sheet, Set}
+use Rattle.meaning.specs.Views.{shownBytes}
+use Rattle.view_part.specs.Parts.{newer, Within}
+
+-- ---- one more entry
+
+pub newer-this : (v : Viewed) (p : Part) (k n : ℕ) → k ≡ n → Sheet p ≡ newer v p k n
+unfolding newer
+newer-this v p k n e = rw (eq-eqb k n e)
+
+pub newer-other : (v : Viewed) (p : Part) (k n : ℕ) → (k ≡ n → ⊥) → v ≡ newer v p k n
+unfolding newer
+newer-other v p k n e = rw (ne-eqb k n e)
+
+pub newer-within : (s h : List ℕ) (v : Viewed) (p : Part) (k n : ℕ) → p .place + p .length ≤ length h → Within s h v → Within s h (newer v p k n)
+unfolding newer Within
+newer-within s h v p k n g w = go (eqb k n)
+  where
+    go : (b : Bool) → Within s h (cond b (Sheet p) v)
+    go true = g
+    go false = w
+
+-- ---- the part itself
+
+-- the length of a part from a on
+pub part-length : (a n : ℕ) → (a + n) - a ≡ n
+part-length a n = omega arith
+
+module _ (s h : List ℕ) (v : Viewed) (q : Part) where
+  module _ (e : v ≡ Sheet q) where
+    pub sheet-ends : Within s h v → q .place + q .length ≤ length h
+    unfolding Within
+    sheet-ends w = subst (λ (u : Viewed). Within s h u) e w
+
+    pub bytes-sheet : take ((q .place + q .length) - q .place) (drop (q .place) h) ≡ shownBytes s h v
+    bytes-sheet = rw (e, part-length (q .place) (q .length))
+
+  module _ (e : v ≡ Set q) where
+    pub set-ends : Within s h v → q .place + q .length ≤ length s
+    unfolding Within
+    set-ends w = subst (λ (u : Viewed). Within s h u) e w
+
+    pub bytes-set : take ((q .place + q .length) - q .place) (drop (q .place) s) ≡ shownBytes s h v
+    bytes-set = rw (e, part-length (q .place) (q .length))

@@ -1,0 +1,99 @@
+-- `shown_by_sheet` is the walk `shownFrom`: what the entries that are left show behind those before them is what all show.
+-- Assumes nothing.
+use mathlib.Core.Path.{_≡_, refl, sym, _∙_}
+use Prim.Native.Nat.{ℕ, _+_, _-_, _≤_, pred}
+use native.Mathlib.Omega.{arith}
+use borrow.Author.Needs.{needs}
+use lib.ListN.{length}
+use Rattle.view_sheet.specs.Showing.{shownFrom, shownBySheet}
+use Rattle.view_sheet.proofs.WalkLaws.{check-within, shown-end, shown-bad, shown-next}
+use Rattle.view_sheet.proofs.shown_by_sheet.Statement.{statement}
+use Rattle.view_sheet.proofs.shown_by_sheet.Tie as tie
+
+abbrev Inv-loop : tie.InvT-loop
+Inv-loop set shape sheet line shown₀ at₀ shown at =
+    (at ≤ length sheet) × (k : ℕ) × (length sheet ≤ at + k) × (shownFrom set shape sheet line k at shown ≡ shownBySheet set shape sheet line)
+
+abbrev μ-loop : tie.MeasureT-loop
+μ-loop set shape sheet line shown₀ at₀ shown at = length sheet - at
+
+loop-holds : tie.Need-loop-holds Inv-loop μ-loop
+unfolding shownBySheet
+loop-holds c = (omega arith, length (c .before .before .args .sheet .now), omega arith, refl)
+
+check-entry-requires : tie.Need-check-entry-requires Inv-loop μ-loop
+check-entry-requires c κs = search needs
+
+enum-known-r : tie.Need-enum-known-r Inv-loop μ-loop
+enum-known-r c = search needs
+
+returns : tie.Need-returns Inv-loop μ-loop
+returns c =
+    let l = c .before .before .before .before .before .loop in
+    let e = sym (c .before .before .before .check-entry .ensures) ∙ c .before .r .given .1 in
+    shown-bad _ _ _ _ (l .inv .1) (l .at) (l .shown) (c .before .before .before .before .loop-test .taken) (l .inv .2) _ e ∙ l .inv .3
+
+enum-known-kind : tie.Need-enum-known-kind Inv-loop μ-loop
+enum-known-kind c = search needs
+
+add-place : tie.Need-add-place Inv-loop μ-loop
+add-place c =
+    let b = c .before .before .before .before .before in
+    let a = b .before .before .before .args in
+    let e = sym (c .before .before .before .check-entry .ensures) ∙ c .before .kind .given .1 in
+    let w = check-within (a .set .now) (a .shape) (a .sheet .now) (b .loop .at) _ _ e in
+    omega (arith, w, b .before .before .before .fits, b .before .before .before .good)
+
+newer-part-requires : tie.Need-newer-part-requires Inv-loop μ-loop
+newer-part-requires c κs = search needs
+
+add-at : tie.Need-add-at Inv-loop μ-loop
+add-at c =
+    let b = c .before .before .before .before in
+    let a = b .before .before .before .before .before .args in
+    let e = sym (b .check-entry .ensures) ∙ c .before .before .kind .given .1 in
+    let w = check-within (a .set .now) (a .shape) (a .sheet .now) (b .before .before .loop .at) _ _ e in
+    omega (arith, w, b .before .before .before .before .before .fits, b .before .before .before .before .before .good)
+
+loop-less : tie.Need-loop-less Inv-loop μ-loop
+loop-less c =
+    let a = c .before .before .before .before .before .before .before .before .before .args in
+    let e = sym (c .before .before .before .before .check-entry .ensures) ∙ c .before .before .kind .given .1 in
+    let w = check-within (a .set .now) (a .shape) (a .sheet .now) (c .before .before .before .before .before .before .loop .at) _ _ e in
+    omega (arith, w, c .before .before .before .before .before .loop-test .taken)
+
+loop-again : tie.Need-loop-again Inv-loop μ-loop
+loop-again c =
+    let a = c .before .before .before .before .before .before .before .before .before .args in
+    let l = c .before .before .before .before .before .before .loop in
+    let t = c .before .before .before .before .before .loop-test .taken in
+    let e = sym (c .before .before .before .before .check-entry .ensures) ∙ c .before .before .kind .given .1 in
+    let w = check-within (a .set .now) (a .shape) (a .sheet .now) (c .before .before .before .before .before .before .loop .at) _ _ e in (
+      omega (arith, w),
+      pred (l .inv .1),
+      omega (arith, w, l .inv .2, t),
+      shown-next _ _ _ _ (l .inv .1) (l .at) (l .shown) t (l .inv .2) _ _ e _ (omega arith) _ (c .newer-part .ensures) ∙ l .inv .3,
+    )
+
+returns-2 : tie.Need-returns-2 Inv-loop μ-loop
+returns-2 c =
+    let l = c .before .loop in
+    shown-end _ _ _ _ (l .inv .1) (l .at) (l .shown) (c .loop-test .left) ∙ l .inv .3
+
+pub shown-by-sheet-spec : {M : Type 1} → statement M
+shown-by-sheet-spec =
+    tie.close
+    (tie.spec
+    Inv-loop
+    μ-loop
+    loop-holds
+    check-entry-requires
+    enum-known-r
+    returns
+    enum-known-kind
+    add-place
+    newer-part-requires
+    add-at
+    loop-less
+    loop-again
+    returns-2)

@@ -1,0 +1,45 @@
+-- `shown_under`: what the sheet shows, and the part of the set where it shows none.
+-- Assumes nothing.
+use mathlib.Core.Path.{sym, ap, _∙_}
+use borrow.Author.Needs.{needs}
+use Rattle.meaning.specs.declared.Viewed.the-variants.{Set}
+use Rattle.view_sheet.proofs.WalkLaws.{under-by}
+use Rattle.view_sheet.proofs.shown_under.Statement.{statement}
+use Rattle.view_sheet.proofs.shown_under.Tie as tie
+
+shown-by-sheet-requires : tie.Need-shown-by-sheet-requires
+shown-by-sheet-requires c κs = search needs
+
+enum-known-r : tie.Need-enum-known-r
+enum-known-r c = search needs
+
+enum-known-part : tie.Need-enum-known-part
+enum-known-part c = search needs
+
+enum-told : tie.Need-enum-told
+enum-told c = search needs
+
+part-of-set-requires : tie.Need-part-of-set-requires
+part-of-set-requires c κs = search needs
+
+returns : tie.Need-returns
+returns c = under-by _ _ _ _ _ (sym (c .before .before .before .shown-by-sheet .ensures) ∙ c .before .r .given .1)
+
+returns-2 : tie.Need-returns-2
+returns-2 c = under-by _ _ _ _ _ (sym (c .before .before .before .shown-by-sheet .ensures) ∙ c .before .part .given .1)
+
+returns-3 : tie.Need-returns-3
+returns-3 c = ap Set (c .part-of-set .ensures) ∙ under-by _ _ _ _ _ (sym (c .before .before .before .shown-by-sheet .ensures) ∙ c .before .enum-told .given .1)
+
+pub shown-under-spec : {M : Type 1} → statement M
+shown-under-spec =
+    tie.close
+    (tie.spec
+    shown-by-sheet-requires
+    enum-known-r
+    enum-known-part
+    enum-told
+    part-of-set-requires
+    returns
+    returns-2
+    returns-3)

@@ -1,0 +1,61 @@
+-- `write`: 1, and then as the list is judged.
+-- Assumes nothing.
+use mathlib.Core.Path.{sym, ap, _∙_}
+use native.Mathlib.Omega.{arith}
+use borrow.Author.Needs.{needs}
+use Rattle.meaning.specs.declared.Made.the-variants.{Refused}
+use Rattle.write.proofs.WriteLaws.{answer-empty, answer-refused}
+use Rattle.write.proofs.write.Statement.{statement}
+use Rattle.write.proofs.write.Tie as tie
+
+refused-at-requires : tie.Need-refused-at-requires
+refused-at-requires c κs = search needs
+
+returns : tie.Need-returns
+returns c =
+    let b4 = c .before .before .before .before in
+    let a = b4 .args in
+    let r = answer-empty (a .list .now) (a .out .now) (c .before .if1 .taken) in (ap Refused (c .refused-at .ensures) ∙ r .0, r .1)
+
+judge-list-requires : tie.Need-judge-list-requires
+judge-list-requires c κs = search needs
+
+enum-known-r : tie.Need-enum-known-r
+enum-known-r c = search needs
+
+enum-known-n : tie.Need-enum-known-n
+enum-known-n c = search needs
+
+write-entries-requires : tie.Need-write-entries-requires
+write-entries-requires c κs =
+    let b4 = c .before .before .before .before in
+    let b5 = b4 .before in
+    (omega (arith, b5 .if1 .left), sym (b4 .judge-list .ensures) ∙ c .before .before .n .given .1)
+
+returns-2 : tie.Need-returns-2
+returns-2 c =
+    let b3 = c .before .before .before in
+    let b4 = b3 .before in
+    let b7 = b4 .before .before .before in
+    let a = b7 .args in
+    answer-refused (a .list .now) (a .out .now) _ (omega (arith, b4 .if1 .left)) (sym (b3 .judge-list .ensures) ∙ c .before .r .given .1)
+
+same-length : tie.Need-same-length
+same-length c = search needs
+
+returns-3 : tie.Need-returns-3
+returns-3 c = search needs
+
+pub write-spec : {M : Type 1} → statement M
+write-spec =
+    tie.close
+    (tie.spec
+    refused-at-requires
+    returns
+    judge-list-requires
+    enum-known-r
+    enum-known-n
+    write-entries-requires
+    returns-2
+    same-length
+    returns-3)

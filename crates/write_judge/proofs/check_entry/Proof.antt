@@ -1,0 +1,100 @@
+-- `check_entry`: each return by the law of the test that leads to it.
+-- Assumes nothing.
+use mathlib.Core.Path.{sym, ap, _∙_}
+use native.Mathlib.Omega.{arith}
+use borrow.Author.Needs.{needs}
+use Rattle.entry_read.proofs.HeadLaws.{whole-back}
+use Rattle.write_judge.specs.declared.Item.the-variants.{Refused}
+use Rattle.write_judge.proofs.CheckLaws.{entry-cut, label-over, content-low, content-clean}
+use Rattle.write_judge.proofs.check_entry.Statement.{statement}
+use Rattle.write_judge.proofs.check_entry.Tie as tie
+
+entry-at-requires : tie.Need-entry-at-requires
+entry-at-requires c κs = search needs
+
+enum-known-label : tie.Need-enum-known-label
+enum-known-label c = search needs
+
+enum-told : tie.Need-enum-told
+enum-told c = search needs
+
+refused-at-requires : tie.Need-refused-at-requires
+refused-at-requires c κs = search needs
+
+returns : tie.Need-returns
+returns c =
+    let b3 = c .before .before .before in
+    let b5 = b3 .before .before in
+    let a = b5 .args in
+    ap Refused (c .refused-at .ensures) ∙ entry-cut (a .list .now) (a .at) (sym (b3 .entry-at .ensures) ∙ c .before .enum-told .given .1)
+
+refused-at-requires-2 : tie.Need-refused-at-requires-2
+refused-at-requires-2 c κs = search needs
+
+returns-2 : tie.Need-returns-2
+returns-2 c =
+    let b3 = c .before .before .before in
+    let b5 = b3 .before .before in
+    let b7 = b5 .before .before in
+    let a = b7 .args in
+    ap Refused (c .refused-at2 .ensures) ∙ label-over (a .list .now) (a .at) (sym (b5 .entry-at .ensures) ∙ b3 .label .given .1) (c .before .if1 .taken)
+
+add-content : tie.Need-add-content
+add-content c =
+    let b4 = c .before .before .before .before in
+    let b6 = b4 .before .before in
+    let a = b6 .args in
+    omega (arith, whole-back (a .list .now) (a .at) (sym (b4 .entry-at .ensures) ∙ c .before .before .label .given .1) .within, b6 .good)
+
+first-low-requires : tie.Need-first-low-requires
+first-low-requires c κs =
+    let b4 = c .before .before .before .before in
+    let b6 = b4 .before .before in
+    let a = b6 .args in
+    omega (arith, whole-back (a .list .now) (a .at) (sym (b4 .entry-at .ensures) ∙ c .before .before .label .given .1) .within)
+
+add-if2 : tie.Need-add-if2
+add-if2 c =
+    let b3 = c .before .before .before in
+    let b5 = b3 .before .before in
+    let b7 = b5 .before .before in
+    let a = b7 .args in
+    omega (arith, whole-back (a .list .now) (a .at) (sym (b5 .entry-at .ensures) ∙ b3 .label .given .1) .within, b7 .good)
+
+refused-at-requires-3 : tie.Need-refused-at-requires-3
+refused-at-requires-3 c κs = search needs
+
+returns-3 : tie.Need-returns-3
+returns-3 c =
+    let b3 = c .before .before .before in
+    let b5 = b3 .before .before in
+    let b7 = b5 .before .before in
+    let b9 = b7 .before .before in
+    let a = b9 .args in
+    ap Refused (c .refused-at3 .ensures) ∙ content-low (a .list .now) (a .at) (sym (b7 .entry-at .ensures) ∙ b5 .label .given .1) (b3 .if1 .left) _ (c .before .before .first-low .ensures) (c .before .if2 .taken)
+
+returns-4 : tie.Need-returns-4
+returns-4 c =
+    let b4 = c .before .before .before .before in
+    let b6 = b4 .before .before in
+    let b8 = b6 .before .before in
+    let a = b8 .args in
+    content-clean (a .list .now) (a .at) (sym (b6 .entry-at .ensures) ∙ b4 .label .given .1) (c .before .before .if1 .left) _ (c .before .first-low .ensures) (c .if2 .left)
+
+pub check-entry-spec : {M : Type 1} → statement M
+check-entry-spec =
+    tie.close
+    (tie.spec
+    entry-at-requires
+    enum-known-label
+    enum-told
+    refused-at-requires
+    returns
+    refused-at-requires-2
+    returns-2
+    add-content
+    first-low-requires
+    add-if2
+    refused-at-requires-3
+    returns-3
+    returns-4)

@@ -1,0 +1,32 @@
+-- `finished`: a refusal that waits, then what is lacking.
+-- Assumes nothing.
+use borrow.Author.Needs.{needs}
+use Rattle.write_judge.proofs.OnceLaws.{ends-late, ends-lacking, ends-good}
+use Rattle.write_judge.proofs.finished.Statement.{statement}
+use Rattle.write_judge.proofs.finished.Tie as tie
+
+returns : tie.Need-returns
+returns c =
+    let b3 = c .before .before .before in
+    let a = b3 .args in
+    ends-late (a .turn .late) (a .turn .late) _ (a .n) (c .if1 .taken)
+
+finish-at-requires : tie.Need-finish-at-requires
+finish-at-requires c κs = search needs
+
+returns-2 : tie.Need-returns-2
+returns-2 c =
+    let b4 = c .before .before .before .before in
+    let b7 = b4 .before .before .before in
+    let a = b7 .args in
+    ends-lacking (a .turn .late) _ _ (a .n) (b4 .if1 .left) (c .before .before .finish-at .ensures) (c .if2 .taken)
+
+returns-3 : tie.Need-returns-3
+returns-3 c =
+    let b4 = c .before .before .before .before in
+    let b7 = b4 .before .before .before in
+    let a = b7 .args in
+    ends-good (a .turn .late) _ _ (a .n) (b4 .if1 .left) (c .before .before .finish-at .ensures) (c .if2 .left)
+
+pub finished-spec : {M : Type 1} → statement M
+finished-spec = tie.close (tie.spec returns finish-at-requires returns-2 returns-3)

@@ -1,0 +1,40 @@
+-- `judge_entry`: a refusal that waits, or the step of the entry.
+-- Assumes nothing.
+use borrow.Author.Needs.{needs}
+use Rattle.write_judge.specs.Judging.{contentOf}
+use Rattle.write_judge.proofs.EntryPass.{step-entry}
+use Rattle.write_judge.proofs.OnceLaws.{turn-waits, turn-steps}
+use Rattle.write_judge.proofs.judge_entry.Statement.{statement}
+use Rattle.write_judge.proofs.judge_entry.Tie as tie
+
+returns : tie.Need-returns
+returns c =
+    let b4 = c .before .before .before .before in
+    let a = b4 .args in
+    turn-waits (a .kind) (a .at) (a .label) (contentOf (a .list .now) (a .at) (a .bytes)) (a .turn) (a .members .now) (a .top .now) (c .if1 .taken)
+
+add-from : tie.Need-add-from
+add-from c = search needs
+
+add-end : tie.Need-add-end
+add-end c = search needs
+
+step-at-requires : tie.Need-step-at-requires
+step-at-requires c κs = search needs
+
+returns-2 : tie.Need-returns-2
+returns-2 c =
+    let b5 = c .before .before .before .before .before in
+    let b9 = b5 .before .before .before .before in
+    let a = b9 .args in
+    turn-steps (a .kind) (a .at) (a .label) (contentOf (a .list .now) (a .at) (a .bytes)) (a .turn) (a .members .now) (a .top .now) (b5 .if1 .left) _ _ _ (step-entry (a .list .now) (a .at) (a .bytes) (c .before .step-at .ensures))
+
+pub judge-entry-spec : {M : Type 1} → statement M
+judge-entry-spec =
+    tie.close
+    (tie.spec
+    returns
+    add-from
+    add-end
+    step-at-requires
+    returns-2)

@@ -1,0 +1,218 @@
+// `judge_list`: what a field list is that a set is written from, or its first refusal by 7, 21, 6, 8, 9, 11 to 16.
+// Assumes nothing: it has no `requires`. The other functions are its parts; each contract cites a walk of specs/, and proofs/EntryPass says what the walks mean.
+ghost use mathlib.Core.Path.{_≡_};
+ghost use mathlib.Core.Bool.{true, false};
+ghost use Prim.Native.Nat.{_+_, _≤_};
+ghost use lib.ListN.{length};
+ghost use Rattle.meaning.specs.declared.SetType.the-variants.{T6300};
+ghost use Rattle.meaning.specs.Limits.{maxEntries};
+ghost use Rattle.meaning.specs.Entries.{entryLead};
+ghost use Rattle.meaning.specs.Answers.{noRefusal};
+ghost use Rattle.entry_read.specs.declared.Head.the-variants.{Whole};
+ghost use Rattle.entry_read.specs.Head.{entryAt, headsEnd};
+ghost use Rattle.judge_missing.specs.Lacks.{orElse, finish, stateOf};
+ghost use Rattle.write_judge.specs.Judging.{contentOf, checkEntry, checkFrom, Turned, started, firstEntry, doneUnless, ruled, entriesLeft, judgedList};
+use entry_read::Head;
+use judge_missing::Group;
+use meaning::Known;
+use meaning::Refusal;
+use meaning::SetType;
+
+// "more than 511 (7)": 8100 has no entry.
+const ENTRIES: usize = SetType::LINES - 1;
+
+// A list of no more bytes than this has no more entries, since each has a head.
+const FEW_BYTES: usize = ENTRIES * entry_read::ENTRY_LEAD;
+
+// The largest number that four digits write.
+const MAX_LABEL: usize = 9_999;
+
+// ---- 7, 21, 6 of each entry
+
+// What reading one entry finds.
+pub enum Item {
+    // It keeps 21 and 6: its label, and the length of its content.
+    Read { label: usize, length: usize },
+    // The first of 21 and 6 that it breaks.
+    Refused(Refusal),
+}
+
+// What a list is found to be: so many entries, or the first refusal.
+pub enum Checked {
+    Done(usize),
+    Refused(Refusal),
+}
+
+// The entry at an offset, by 21 and 6: "places are offsets in the list".
+fn check_entry(list: &[u8], at: usize) -> Item
+    ensures { λ r. ⌜ r ≡ checkEntry (now (list .entry)) at ⌝ }
+{
+    // 21, BadList: "list entry cut"
+    let Head::Whole {
+        kind: label,
+        length,
+    } = entry_read::entry_at(list, at)
+    else {
+        return Item::Refused(judge_missing::refused_at(Refusal::BAD_LIST, at));
+    };
+    // 21, BadList: "or label over 9999"
+    if MAX_LABEL < label {
+        return Item::Refused(judge_missing::refused_at(Refusal::BAD_LIST, at));
+    }
+    // 6, BadByte: "content byte under 20h; place is that byte"
+    let content = at + entry_read::ENTRY_LEAD;
+    let low = byte_low::first_low(list, content, length);
+    if low < content + length {
+        return Item::Refused(judge_missing::refused_at(Refusal::BAD_BYTE, low));
+    }
+    Item::Read { label, length }
+}
+
+// ---- 8, 9, 11 to 16
+
+// What the entries so far leave behind: a refusal by 8, 9 or 11 to 15 that waits until all entries are checked (number 0: none), and what is open.
+pub struct Turn {
+    pub late: Refusal,
+    pub group: Group,
+}
+
+// 11 to 15 of the entry at an offset, whose content has so many bytes; nothing is asked of it where a refusal waits.
+fn judge_entry(
+    list: &[u8],
+    kind: SetType,
+    at: usize,
+    label: usize,
+    bytes: usize,
+    turn: Turn,
+    members: &mut [bool; judge_missing::ROWS],
+    top: &mut [bool; judge_missing::ROWS],
+) -> Turn
+    requires { ⌜ at + (entryLead + bytes) ≤ length (now list) ⌝ }
+    ensures { λ r. ⌜ Turned kind at label (contentOf (now (list .entry)) at bytes) turn (now (members .entry)) (now (top .entry)) r (now (members .exit)) (now (top .exit)) ⌝ }
+{
+    let late = turn.late;
+    if late.no != 0 {
+        return turn;
+    }
+    let from = at + entry_read::ENTRY_LEAD;
+    let end = from + bytes;
+    let group = turn.group;
+    let step = judge_line::step_at(kind, at, label, list, from, end, group, members, top);
+    let no = step.no;
+    let late = Refusal {
+        no,
+        place: at,
+        label,
+    };
+    let group = step.group;
+    Turn { late, group }
+}
+
+// 16 behind the last of n entries, where no refusal waits.
+fn finished(
+    kind: SetType,
+    turn: Turn,
+    members: &[bool; judge_missing::ROWS],
+    top: &[bool; judge_missing::ROWS],
+    n: usize,
+) -> Checked
+    ensures { λ r. ⌜ r ≡ doneUnless (orElse (turn .late) (finish kind (stateOf (turn .group) (now (members .entry)) (now (top .entry))) (turn .group .lack))) n ⌝ }
+{
+    let late = turn.late;
+    if late.no != 0 {
+        return Checked::Refused(late);
+    }
+    let group = turn.group;
+    let lack = judge_missing::finish_at(kind, group, members, top);
+    if lack.no != 0 {
+        return Checked::Refused(lack);
+    }
+    Checked::Done(n)
+}
+
+// The entries from an offset on, which have so many before them, each read once: 7, 21, 6 and 11 to 15 of each, then 16. Line 1 and line 2 ("the writer adds it") stand
+// before them, and are never refused here; `late` is a refusal that waits already.
+fn pass_entries(list: &[u8], kind: SetType, late: Refusal, start: usize, before: usize) -> Checked
+    requires { ⌜ (start ≤ length (now list)) × (before ≤ maxEntries) ⌝ }
+    ensures { λ r. ⌜ r ≡ entriesLeft (now (list .entry)) kind late started noRefusal start before ⌝ }
+{
+    let mut members = [false; judge_missing::ROWS];
+    let mut top = [false; judge_missing::ROWS];
+    top[judge_missing::NO_8000] = true;
+    top[judge_missing::NO_8100] = true;
+    let group = Group {
+        header: 8100,
+        place: 0,
+        lack: judge_missing::nothing(),
+    };
+    let mut turn = Turn { late, group };
+    let mut at = start;
+    let mut n = before;
+    while at < list.len() {
+        // 7, TooManyLines
+        if ENTRIES <= n {
+            return Checked::Refused(judge_missing::refused_at(Refusal::TOO_MANY_LINES, at));
+        }
+        match check_entry(list, at) {
+            Item::Refused(r) => {
+                return Checked::Refused(r);
+            }
+            Item::Read { label, length } => {
+                turn = judge_entry(list, kind, at, label, length, turn, &mut members, &mut top);
+                at += entry_read::ENTRY_LEAD + length;
+                n += 1;
+            }
+        }
+    }
+    finished(kind, turn, &members, &top, n)
+}
+
+// 7, 21, 6 of each entry, and then this refusal, by 8 or 9. Any set type will do, since nothing is judged where a refusal waits.
+fn check_then(list: &[u8], late: Refusal) -> Checked
+    ensures { λ r. ⌜ r ≡ entriesLeft (now (list .entry)) T6300 late started noRefusal 0 0 ⌝ }
+{
+    pass_entries(list, SetType::T6300, late, 0, 0)
+}
+
+// 7, 21, 6, and 8 to 16, where the first entry is whole.
+fn first_entry(list: &[u8], label: usize, bytes: usize) -> Checked
+    requires { ⌜ entryAt (now list) 0 ≡ Whole label bytes ⌝ }
+    ensures { λ r. ⌜ r ≡ ruled (checkFrom (now (list .entry)) 0 0 maxEntries) (λ n. firstEntry (now (list .entry)) label bytes n) ⌝ }
+{
+    // 8, NoStart: "line 1 is not 8000"
+    if label != 8000 {
+        return check_then(list, judge_missing::refused_at(Refusal::NO_START, 0));
+    }
+    // 9, UnknownSet: "8000 names none of the five"
+    let end = entry_read::ENTRY_LEAD + bytes;
+    let Known::Of(kind) = judge_start::type_of(&list[entry_read::ENTRY_LEAD..end]) else {
+        return check_then(list, judge_missing::refused_at(Refusal::UNKNOWN_SET, 0));
+    };
+    pass_entries(list, kind, judge_missing::nothing(), end, 1)
+}
+
+// The heads of a long list do not lead to its end in 511 entries: 7, 21 or 6 refuses it, whatever the rules say of it.
+fn breaks_off(list: &[u8]) -> bool
+    ensures { λ r. ⌜ (r ≡ true → headsEnd (now (list .entry)) 0 maxEntries ≡ false) ⌝ }
+{
+    if list.len() <= FEW_BYTES {
+        return false;
+    }
+    if entry_read::heads_end(list, ENTRIES) {
+        return false;
+    }
+    true
+}
+
+// "It checks entries in order: more than 511 (7), 21, 6; then 8, 9, and 11 to 16". No rule is asked of a list that is known to be refused before them.
+pub fn judge_list(list: &[u8]) -> Checked
+    ensures { λ r. ⌜ r ≡ judgedList (now (list .entry)) ⌝ }
+{
+    if breaks_off(list) {
+        return check_then(list, judge_missing::refused_at(Refusal::BAD_LIST, 0));
+    }
+    match entry_read::entry_at(list, 0) {
+        Head::Cut => Checked::Refused(judge_missing::refused_at(Refusal::BAD_LIST, 0)),
+        Head::Whole { kind, length } => first_entry(list, kind, length),
+    }
+}

@@ -1,0 +1,78 @@
+// The lines of one entry of a list, put into a lent buffer: its own, and behind the first that of 8100.
+// Assumes of each call that what it puts lies within the buffer: only another crate here calls it, and proves that. The contract tells every byte of the buffer afterwards.
+ghost use mathlib.Core.Path.{_≡_};
+ghost use mathlib.Core.List.{[], _∷_};
+ghost use Prim.Native.Nat.{_+_, _≤_};
+ghost use lib.ListN.{length};
+ghost use Rattle.meaning.specs.Digits.{digits};
+ghost use Rattle.meaning.specs.Field.{field};
+ghost use Rattle.meaning.specs.Lines.{cr, lf, lineLead, lineEnd, lineThen};
+ghost use Rattle.meaning.specs.Lists.{sumDigits, sumLine, sumField};
+ghost use Rattle.byte_put.specs.Places.{over};
+ghost use Rattle.write_lines.specs.EntryLines.{entryLines};
+
+// The end of a line at an offset.
+fn put_end(out: &mut [u8], at: usize)
+    requires { ⌜ at + lineEnd ≤ length (now out) ⌝ }
+    ensures { λ _. ⌜ now (out .exit) ≡ over at (cr ∷ lf ∷ []) (now (out .entry)) ⌝ }
+{
+    out[at] = line_read::CR;
+    out[at + 1] = line_read::LF;
+}
+
+// The line of a field at an offset: "three digits (its whole length), four digits (label), content, 0Dh 0Ah".
+fn put_line(label: usize, content: &[u8], out: &mut [u8], to: usize)
+    requires { ⌜ to + (length (now content) + (lineLead + lineEnd)) ≤ length (now out) ⌝ }
+    ensures { λ _. ⌜ now (out .exit) ≡ over to (lineThen (field label (now (content .entry))) []) (now (out .entry)) ⌝ }
+{
+    let size = content.len() + line_read::LINE_FRAME;
+    byte_put::put_digits(out, to, line_read::LENGTH_DIGITS, size);
+    byte_put::put_digits(
+        out,
+        to + line_read::LENGTH_DIGITS,
+        line_read::LABEL_DIGITS,
+        label,
+    );
+    let from = to + line_read::LINE_LEAD;
+    byte_put::copy_front(&mut out[from..], content);
+    put_end(out, from + content.len());
+}
+
+// The line of 8100 at an offset, with the sum's five digits.
+fn put_sum(total: usize, out: &mut [u8], to: usize)
+    requires { ⌜ to + sumLine ≤ length (now out) ⌝ }
+    ensures { λ _. ⌜ now (out .exit) ≡ over to (lineThen (sumField total) []) (now (out .entry)) ⌝ }
+{
+    byte_put::put_digits(out, to, line_read::LENGTH_DIGITS, line_read::SUM_LINE);
+    byte_put::put_digits(
+        out,
+        to + line_read::LENGTH_DIGITS,
+        line_read::LABEL_DIGITS,
+        8100,
+    );
+    let from = to + line_read::LINE_LEAD;
+    byte_put::put_digits(out, from, line_read::SUM_DIGITS, total);
+    put_end(out, from + line_read::SUM_DIGITS);
+}
+
+// The lines of the entry at `from` in the list, at an offset: its own, and behind the first that of 8100. The offset behind them.
+pub fn put_lines(
+    from: usize,
+    label: usize,
+    content: &[u8],
+    total: usize,
+    out: &mut [u8],
+    to: usize,
+) -> usize
+    requires { ⌜ to + length (entryLines from label (now content) (digits sumDigits total)) ≤ length (now out) ⌝ }
+    ensures { λ r. ⌜ (r ≡ to + length (entryLines from label (now (content .entry)) (digits sumDigits total)))
+        × (now (out .exit) ≡ over to (entryLines from label (now (content .entry)) (digits sumDigits total)) (now (out .entry))) ⌝ }
+{
+    put_line(label, content, out, to);
+    let end = to + (content.len() + line_read::LINE_FRAME);
+    if from != 0 {
+        return end;
+    }
+    put_sum(total, out, end);
+    end + line_read::SUM_LINE
+}
