@@ -1,5 +1,4 @@
 -- A refusal is that of a breach, and no breach comes before it in the paper's order (`refused-first`).
--- Assumes nothing.
 use mathlib.Core.Path.{_≡_, refl, sym, ap, _∙_, subst}
 use mathlib.Core.Bool.{Bool, true, false}
 use mathlib.Core.List.{List, [], _∷_, _++_, cons≢nil, append-assoc}

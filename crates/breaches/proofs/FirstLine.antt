@@ -1,5 +1,4 @@
 -- 1 and 2 to 7: a scan that is refused is refused for a line's first breach, and no line before it has one; a scan that ends well leaves none.
--- Assumes nothing.
 use mathlib.Core.Path.{_≡_, refl, sym, ap, _∙_, subst}
 use mathlib.Core.Bool.{Bool, true, false, cond, _&&_, true≢false}
 use mathlib.Core.List.{List, [], _∷_, _++_, cons≢nil}

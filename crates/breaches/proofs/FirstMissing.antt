@@ -1,5 +1,4 @@
 -- 16: the first lack that is told is a required label that is absent, and none comes before it: set level, then groups and names by their line, then by label.
--- Assumes nothing.
 use mathlib.Core.Path.{_≡_, refl, sym, ap, _∙_, subst}
 use mathlib.Core.Bool.{Bool, true, false, cond, not, _&&_, true≢false}
 use mathlib.Core.List.{List, [], _∷_, _++_, cons≢nil}

@@ -1,5 +1,4 @@
 -- The first breach decides the answer: a set is refused with r exactly where r is the refusal of the first breach in the paper's order (`refused-exactly-with`).
--- Assumes nothing.
 use mathlib.Core.Path.{_≡_, refl, sym, ap, ap₂, _∙_, subst}
 use mathlib.Core.List.{List, [], _∷_}
 use mathlib.Core.Logic.{_⊎_, inl, inr, _↔_}

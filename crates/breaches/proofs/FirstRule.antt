@@ -1,5 +1,4 @@
 -- 11 to 15: the first fault of a line behind lines without faults is a breach of its rule, and no rule of a smaller number is broken there.
--- Assumes nothing.
 use mathlib.Core.Path.{_≡_, refl, sym, ap, _∙_, subst}
 use mathlib.Core.Bool.{Bool, true, false, cond, not, _||_, true≢false}
 use mathlib.Core.List.{List, [], _∷_, _++_, cons≢nil}

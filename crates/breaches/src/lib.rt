@@ -1,2 +1,1 @@
 // No code: the breaches of the rules in the paper's order (specs/Breaches), and the proof that a refusal is that of the first breach (proofs/FirstOnly).
-// Assumes nothing.

@@ -1,5 +1,4 @@
 -- The walk of specs/ step by step: one law for each way that the code takes.
--- Assumes nothing.
 use mathlib.Core.Path.{_≡_, refl, ap, _∙_, subst}
 use mathlib.Core.Bool.{Bool, true, false, cond}
 use mathlib.Core.List.{List}

@@ -1,5 +1,4 @@
 -- The walk of `first_low`: the first byte under 20h.
--- Assumes nothing: these are definitions.
 use mathlib.Core.Bool.{cond}
 use mathlib.Core.List.{List}
 use Prim.Native.Nat.{ℕ, zero, suc, _+_}

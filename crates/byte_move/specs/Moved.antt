@@ -1,5 +1,4 @@
 -- What a buffer holds with bytes moved inside it.
--- Assumes nothing: this is a definition.
 use mathlib.Core.List.{List, _++_}
 use Prim.Native.Nat.{ℕ, _+_}
 use lib.ListN.{take, drop}

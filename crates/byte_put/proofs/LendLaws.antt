@@ -1,5 +1,4 @@
 -- What a caller has of a buffer: bytes put behind bytes that stand, and the part `&mut b[a..]`, lent and come back.
--- Assumes nothing.
 use mathlib.Core.Path.{_≡_, refl}
 use mathlib.Core.List.{List, _++_, append-nil}
 use Prim.Native.Nat.{ℕ, _+_, _-_, _≤_}

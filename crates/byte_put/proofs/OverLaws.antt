@@ -1,5 +1,4 @@
 -- Bytes put into a buffer one behind the other, into a part of it that is lent, and zeros behind them.
--- Assumes nothing.
 use mathlib.Core.Path.{_≡_, sym, ap, ap₂, _∙_, subst}
 use mathlib.Core.List.{List, [], _++_, append-assoc}
 use Prim.Native.Nat.{ℕ, _+_, _-_, _≤_}

@@ -1,5 +1,4 @@
 -- What a buffer holds with bytes put into it at an offset, and how many bytes are moved at once.
--- Assumes nothing: these are definitions.
 use mathlib.Core.List.{List, _++_}
 use Prim.Native.Nat.{ℕ, _+_}
 use lib.ListN.{length, take, drop}

@@ -1,5 +1,4 @@
 -- What `correct` answers and leaves by what was planned.
--- Assumes nothing.
 use mathlib.Core.Path.{_≡_, refl, sym, ap, ap₂, _∙_}
 use mathlib.Core.List.{List, [], _∷_}
 use Prim.Native.Nat.{ℕ, pred, _+_, _-_, _≤_, _<_}

@@ -1,5 +1,4 @@
 -- A buffer that holds the lines of a set, with the content of one line replaced, its length and the sum brought up to date: it holds the changed lines, and zeros.
--- Assumes nothing.
 use mathlib.Core.Path.{_≡_, refl, sym, ap, ap₂, _∙_}
 use mathlib.Core.List.{List, [], _∷_, _++_, append-assoc}
 use Prim.Native.Nat.{ℕ, zero, suc, _+_, _-_, _<_}

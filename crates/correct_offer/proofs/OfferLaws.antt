@@ -1,5 +1,4 @@
 -- What the walks of specs/ mean for an accepted set: where a line stands, and which fault speaks first against a new content for it.
--- Assumes nothing.
 use mathlib.Core.Path.{_≡_, refl, sym, ap, _∙_, subst}
 use mathlib.Core.Bool.{Bool, true, false, cond, not, _&&_}
 use mathlib.Core.List.{List, [], _∷_, _++_, cons≢nil}

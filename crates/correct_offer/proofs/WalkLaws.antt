@@ -1,5 +1,4 @@
 -- The walks of specs/ step by step: one law for each way that the code takes.
--- Assumes nothing.
 use mathlib.Core.Path.{_≡_}
 use mathlib.Core.Bool.{true, false}
 use mathlib.Core.List.{List}

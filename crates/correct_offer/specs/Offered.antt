@@ -1,5 +1,5 @@
 -- The walks of `line_after` and `judge_offer`: the lines of a set by offsets, and the tests 19, 20, 6, 14 in the code's order.
--- Assumes nothing: these are definitions. What they mean for an accepted set is `line-stands` and `offer-is` in proofs/OfferLaws.
+-- What they mean for an accepted set is `line-stands` and `offer-is` in proofs/OfferLaws.
 use mathlib.Core.Bool.{cond, _&&_}
 use mathlib.Core.List.{List, [], _∷_}
 use Prim.Native.Nat.{ℕ, zero, suc, pred, _+_}

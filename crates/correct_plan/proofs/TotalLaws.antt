@@ -1,5 +1,4 @@
 -- How the lines of an accepted set begin, and how many bytes they have with the content of one line changed.
--- Assumes nothing.
 use mathlib.Core.Path.{_≡_, refl, sym, ap, _∙_}
 use mathlib.Core.Bool.{Bool, true, false, cond, _&&_, true≢false}
 use mathlib.Core.List.{List, [], _∷_}

@@ -1,5 +1,5 @@
 -- What a correction comes to, before any byte is written: its first refusal but that of the used length, or where the line stands and how many bytes count then.
--- Assumes nothing: these are definitions. What `correct` answers by it is `plan-refused` and `plan-made` in proofs/CorrectLaws of `correct`.
+-- What `correct` answers by it is `plan-refused` and `plan-made` in proofs/CorrectLaws of `correct`.
 use mathlib.Core.Bool.{cond, _&&_}
 use mathlib.Core.List.{List}
 use Prim.Native.Nat.{ℕ, pred}

@@ -1,5 +1,4 @@
 -- What the loans of `replace_middle` and the puts of `put_content` leave of a buffer.
--- Assumes nothing.
 use mathlib.Core.Path.{_≡_, refl, sym, ap, ap₂, _∙_}
 use mathlib.Core.List.{List, _++_, append-assoc}
 use Prim.Native.Nat.{ℕ, _+_, _-_, _≤_}

@@ -1,5 +1,5 @@
 -- What a buffer holds with bytes in its middle replaced, and with the content of a line.
--- Assumes nothing: these are definitions. What `recontented` means for the lines of a set is `lines-changed` in proofs/LineChange of `correct`.
+-- What `recontented` means for the lines of a set is `lines-changed` in proofs/LineChange of `correct`.
 use mathlib.Core.List.{List, _++_}
 use Prim.Native.Nat.{ℕ, _+_, _-_}
 use lib.ListN.{length, take, drop, replicate}

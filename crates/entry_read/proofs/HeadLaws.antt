@@ -1,5 +1,4 @@
 -- What the walk of an entry's head means: kind and content of the entry at the front of the bytes from the offset on, where it is whole.
--- Assumes nothing.
 use mathlib.Core.Path.{_≡_, refl, sym, ap, _∙_}
 use mathlib.Core.Bool.{Bool, true, false, cond, _&&_}
 use mathlib.Core.List.{List}

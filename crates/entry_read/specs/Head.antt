@@ -1,5 +1,5 @@
 -- The walks of `entry_at` and `heads_end`: the tests of an entry's head over the bytes and an offset, in the code's order, and the heads from an offset on.
--- Assumes nothing: these are definitions. What the head means is `entry-is` in proofs/HeadLaws.
+-- What the head means is `entry-is` in proofs/HeadLaws.
 use mathlib.Core.Bool.{Bool, true, false, cond}
 use mathlib.Core.List.{List}
 use Prim.Native.Nat.{ℕ, zero, suc, _+_}

@@ -1,5 +1,5 @@
 -- The field table (chapter 4 of the QMS description) as printed there, and for each row contents that just fit and contents that just do not.
--- Assumes nothing. The rows are written off the document; of specs/ only the definitions under test are used.
+-- The rows are written off the document; of specs/ only the definitions under test are used.
 use mathlib.Core.Path.{_≡_, refl}
 use mathlib.Core.Bool.{Bool, true, false, cond, _&&_, Bool·beq}
 use mathlib.Core.List.{List, [], _∷_, _++_, map, flatMap, flatten}

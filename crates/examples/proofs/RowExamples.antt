@@ -1,5 +1,5 @@
 -- The five set tables (chapter 3 of the QMS description) as printed there, and for each row sets in which its line is absent, in place, again and out of place.
--- Assumes nothing. The rows are written off the documents; what a set is to be answered is told from the printed rows alone.
+-- The rows are written off the documents; what a set is to be answered is told from the printed rows alone.
 use mathlib.Core.Path.{_≡_, refl}
 use mathlib.Core.Bool.{Bool, true, false, cond, not, _&&_, _||_}
 use mathlib.Core.List.{List, [], _∷_, _++_, map, flatMap}

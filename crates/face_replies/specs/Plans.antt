@@ -1,5 +1,5 @@
 -- What an index comes to before its first entry is written: the plan that is made of a judged set and the room for entries.
--- Assumes nothing: these are definitions. `fills` in crate `gdt` says that a loop over the plan makes what `indexCall` says.
+-- `fills` in crate `gdt` says that a loop over the plan makes what `indexCall` says.
 use mathlib.Core.Bool.{cond}
 use Prim.Native.Nat.{ℕ}
 use lib.Dec.{leb}

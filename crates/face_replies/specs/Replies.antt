@@ -1,5 +1,4 @@
 -- The records of numbers that the C face answers, from the answers of `meaning`, and the buffer that a copy of a view leaves.
--- Assumes nothing: these are definitions.
 use mathlib.Core.List.{List, _++_}
 use Prim.Native.Nat.{ℕ}
 use lib.ListN.{length, take, drop}

@@ -1,5 +1,5 @@
 // What the calls of the C face answer: records of numbers by value, made of the answers of `meaning`; and what an index comes to before its first entry is written.
-// Assumes nothing: no function has a `requires`. The contracts cite specs/Replies, which gives the numbers of each answer, and specs/Plans.
+// No function has a `requires`. The contracts cite specs/Replies, which gives the numbers of each answer, and specs/Plans.
 ghost use mathlib.Core.Path.{_≡_};
 ghost use Rattle.face_replies.specs.Replies.{judgedReply, madeReply, viewedReply};
 ghost use Rattle.face_replies.specs.Plans.{noEntries, allEntries, planIndex};

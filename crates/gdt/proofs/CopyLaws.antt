@@ -1,5 +1,4 @@
 -- A copy as far as there is room, for the two ways that `gdt_view_copy` ends.
--- Assumes nothing.
 use mathlib.Core.Path.{_≡_, sym, ap, _∙_}
 use mathlib.Core.List.{List, [], _++_}
 use Prim.Native.Nat.{ℕ, _-_, _≤_, _<_}

@@ -1,5 +1,4 @@
 -- The index as it is written: the loop turn by turn, and that the plan and the loop make what `indexCall` says: `fills`.
--- Assumes nothing.
 use mathlib.Core.Path.{_≡_, refl, sym, ap, _∙_}
 use mathlib.Core.Bool.{Bool, true, false}
 use mathlib.Core.List.{List, [], _∷_, _++_}

@@ -1,5 +1,5 @@
 -- How the index is written: the entries and the walk after each turn of the loop.
--- Assumes nothing: these are definitions. proofs/FillingLaws ties them to `indexCall`.
+-- proofs/FillingLaws ties them to `indexCall`.
 use mathlib.Core.List.{List}
 use Prim.Native.Nat.{ℕ, zero, suc}
 use lib.ListN.{set}

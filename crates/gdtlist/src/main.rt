@@ -1,5 +1,5 @@
 // Prints each set of standard input in turn, line by line, until a refusal; an input of over 65,536 bytes prints only `too long`.
-// Assumes nothing. Every function is proved safe and ending; what is printed of a set is what `judge::judge` and `index_walk::next_entry` answer.
+// Every function is proved safe and ending; what is printed of a set is what `judge::judge` and `index_walk::next_entry` answer.
 ghost use mathlib.Core.Path.{_≡_};
 ghost use Rattle.meaning.specs.Reading.{judge};
 ghost use Rattle.meaning.specs.Answers.{judgedShape};

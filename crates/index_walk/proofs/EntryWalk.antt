@@ -1,5 +1,4 @@
 -- The walk over an accepted set gives its index: `entries-are`, by one induction over the fields. Before it, what each `return` of `one_more` and `next_entry` has to show.
--- Assumes nothing.
 use mathlib.Core.Path.{_≡_, refl, sym, ap, _∙_}
 use mathlib.Core.Bool.{true, true≢false}
 use mathlib.Core.List.{List, [], _∷_}

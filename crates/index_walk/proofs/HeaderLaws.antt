@@ -1,5 +1,4 @@
 -- In an accepted set the labels alone tell headers and members: `follow`. Each row of the five tables says so, by one computed test for each table.
--- Assumes nothing.
 use mathlib.Core.Path.{_≡_, refl, sym, ap, _∙_}
 use mathlib.Core.Bool.{Bool, true, false, cond, not, _&&_, _||_, true≢false}
 use mathlib.Core.List.{List, [], cons≢nil}

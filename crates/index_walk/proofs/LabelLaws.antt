@@ -1,5 +1,4 @@
 -- Labels that stand for headers and members: what each `return` of `is_header`, `is_member`, `header_of` and `last_behind` has to show.
--- Assumes nothing.
 use mathlib.Core.Path.{_≡_, refl}
 use mathlib.Core.Bool.{Bool, true, false, _||_}
 use Prim.Native.Nat.{ℕ, _%_, _≤_, _<_}

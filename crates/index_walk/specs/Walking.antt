@@ -1,5 +1,5 @@
 -- The walk of `next_entry` over a set's bytes, line by line: offsets and counts in the place of fields, and labels alone in the place of roles and tables.
--- Assumes nothing: these are definitions. `entries-are` in proofs/EntryWalk ties the walk of an accepted set to its index.
+-- `entries-are` in proofs/EntryWalk ties the walk of an accepted set to its index.
 use mathlib.Core.Bool.{Bool, cond, _&&_, _||_}
 use mathlib.Core.List.{List, [], _∷_}
 use Prim.Native.Nat.{ℕ, zero, suc, _+_, _%_}

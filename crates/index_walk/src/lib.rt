@@ -1,5 +1,5 @@
 // A walk over the lines of an accepted set that gives its index entry after entry, by value: nothing is kept but three numbers, and no table is asked.
-// Assumes nothing: no function has a `requires`. Contracts cite specs/Walking, and `entries-are` in proofs/EntryWalk says what the walk of an accepted set gives.
+// No function has a `requires`. Contracts cite specs/Walking, and `entries-are` in proofs/EntryWalk says what the walk of an accepted set gives.
 ghost use mathlib.Core.Path.{_≡_};
 ghost use Rattle.index_walk.specs.Walking.{begin, counted, isHeader, isMember, headerOf, lastBehind, noLine, nextEntry};
 use meaning::Entry;

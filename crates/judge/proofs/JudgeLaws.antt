@@ -1,5 +1,4 @@
 -- The walk over a set answers what `meaning` says: `judgeWalk s ≡ judge s`, for all bytes.
--- Assumes nothing.
 use mathlib.Core.Path.{_≡_, refl, sym, ap, _∙_, subst}
 use mathlib.Core.Bool.{Bool, true, false, cond, _&&_}
 use mathlib.Core.List.{List, [], _∷_, _++_}

@@ -1,5 +1,4 @@
 -- Laws of the walk's ends, 8 to 10 and 17, for the proofs of the functions around the pass: what each `return` has to show.
--- Assumes nothing.
 use mathlib.Core.Path.{_≡_, refl, sym, ap, _∙_, subst}
 use mathlib.Core.Bool.{Bool, true, false, cond}
 use mathlib.Core.List.{List}

@@ -1,5 +1,4 @@
 -- The rules as the code walks them, around the pass over the lines: 8, 9, 10, the pass, 17. proofs/JudgeLaws ties them to the rules of `meaning`.
--- Assumes nothing: these are definitions.
 use mathlib.Core.Bool.{cond}
 use mathlib.Core.List.{List}
 use Prim.Native.Nat.{ℕ}

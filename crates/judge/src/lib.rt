@@ -1,5 +1,5 @@
 // `judge`: what a set at the front of some bytes is, or its first refusal, 1 to 17, in the paper's order: line 1, line 2, all lines, the sum.
-// Assumes nothing: `judge` has no `requires`. The other functions are its parts; each contract cites a walk of specs/, and proofs/JudgeLaws says what the walks mean.
+// `judge` has no `requires`. The other functions are its parts; each contract cites a walk of specs/, and proofs/JudgeLaws says what the walks mean.
 ghost use mathlib.Core.Path.{_≡_};
 ghost use Rattle.meaning.specs.declared.Known.the-variants.{Of};
 ghost use Rattle.meaning.specs.Rules.{typeNamed};

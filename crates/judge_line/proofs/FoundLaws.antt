@@ -1,5 +1,4 @@
 -- What 11 to 16 find over all lines is the first fault of the rules of `meaning`, wherever the lines stand: for the reader and the writer.
--- Assumes nothing.
 use mathlib.Core.Path.{_≡_, sym, ap, _∙_}
 use mathlib.Core.List.{List, _++_}
 use Prim.Native.Nat.{ℕ}

@@ -1,5 +1,4 @@
 -- One line over its content and flags finds what the rules of `meaning` find over fields and labels, and leaves the same state: 11 to 15, and 16 behind the last line.
--- Assumes nothing.
 use mathlib.Core.Path.{_≡_, refl, sym, ap, ap₂, _∙_, subst}
 use mathlib.Core.Bool.{Bool, true, false, cond, not, _||_}
 use mathlib.Core.List.{List, [], _∷_, _++_}

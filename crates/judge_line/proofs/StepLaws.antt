@@ -1,5 +1,4 @@
 -- Laws of one line's step, for the proofs of `step_at` and its parts: what each `return` has to show.
--- Assumes nothing.
 use mathlib.Core.Path.{_≡_, refl, sym, ap, _∙_}
 use mathlib.Core.Bool.{Bool, true, false, cond, not, _&&_}
 use mathlib.Core.List.{List}

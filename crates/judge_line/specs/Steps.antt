@@ -1,5 +1,4 @@
 -- One line's step as the code walks it, with the rows that were seen as flags. proofs/SameLaws ties it to the rules of `meaning`.
--- Assumes nothing: these are definitions.
 use mathlib.Core.Bool.{Bool, true, false, cond, not}
 use mathlib.Core.Path.{_≡_}
 use mathlib.Core.List.{List}

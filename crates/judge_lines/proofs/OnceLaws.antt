@@ -1,5 +1,4 @@
 -- One loop scans the lines and judges them: at each line start it stands for the scan of the whole set, and for the pass over it (`Along`).
--- Assumes nothing.
 use mathlib.Core.Path.{_≡_, refl, sym, ap, _∙_, subst}
 use mathlib.Core.Bool.{Bool, true, false, cond, _&&_}
 use mathlib.Core.List.{List, [], _∷_}

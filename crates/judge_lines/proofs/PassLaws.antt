@@ -1,5 +1,4 @@
 -- The pass over bytes and flags finds what the rules of `meaning` find over fields and labels: 11 to 16, by one induction over the fields.
--- Assumes nothing.
 use mathlib.Core.Path.{_≡_, refl, sym, ap, ap₂, _∙_, subst}
 use mathlib.Core.Bool.{Bool}
 use mathlib.Core.List.{List, [], _∷_, cons≢nil}

@@ -1,5 +1,4 @@
 -- 11 to 16 as the code walks them over the lines of a set: over offsets, with the rows that were seen as flags. proofs/PassLaws ties them to the rules of `meaning`.
--- Assumes nothing: these are definitions.
 use mathlib.Core.Bool.{cond}
 use mathlib.Core.Path.{_≡_}
 use mathlib.Core.List.{List}

@@ -1,5 +1,4 @@
 -- What the code's tests say of the walks, where the proof of a function needs more than its own tests.
--- Assumes nothing.
 use mathlib.Core.Path.{_≡_, refl, sym, ap, _∙_}
 use mathlib.Core.Bool.{Bool, true, false, true≢false}
 use Prim.Native.Nat.{ℕ, _+_, _%_, _≤_, _<_}

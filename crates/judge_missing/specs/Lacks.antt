@@ -1,5 +1,4 @@
 -- Which rows were seen, as flags, and what is then missing, as the code walks it. proofs/LackLaws ties it to `Missing` of `meaning`.
--- Assumes nothing: these are definitions.
 use mathlib.Core.Bool.{Bool, false, cond, not, _&&_, _||_}
 use mathlib.Core.List.{List, [], _∷_}
 use Prim.Native.Nat.{ℕ, _+_}

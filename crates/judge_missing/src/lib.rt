@@ -1,5 +1,5 @@
 // Which labels were seen, as flags by the label's number, and rule 16: what a group and the set lack.
-// Assumes nothing: `finish_at` has no `requires`; `has` and `mark`, which only other crates here call, assume that a label has the number that they are given. Each contract
+// `finish_at` has no `requires`; `has` and `mark`, which only other crates here call, assume that a label has the number that they are given. Each contract
 // cites a walk of specs/, and proofs/LackLaws says what the walks mean.
 ghost use mathlib.Core.Path.{_≡_};
 ghost use mathlib.Core.Bool.{true, false, cond};

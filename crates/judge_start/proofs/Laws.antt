@@ -1,5 +1,4 @@
 -- The type that a content names, and 17: what each `return` of the two functions has to show. 8 to 10, as found.
--- Assumes nothing.
 use mathlib.Core.Path.{_≡_, refl, sym, ap, _∙_}
 use mathlib.Core.Bool.{Bool, true, false, cond, _&&_}
 use mathlib.Core.List.{List, _++_}

@@ -1,5 +1,4 @@
 -- 17 as the code walks it, at the offset of line 2. `sum-is` in `judge` ties it to the meaning.
--- Assumes nothing: these are definitions.
 use mathlib.Core.Bool.{Bool, false, cond}
 use mathlib.Core.List.{List}
 use Prim.Native.Nat.{ℕ, _+_}

@@ -1,5 +1,4 @@
 -- Corrections are exact: one is made exactly when the set keeps the rules and is alone, the line is there and not fixed, the content fits, and there is room.
--- Assumes nothing.
 use mathlib.Core.Path.{_≡_, refl, sym, ap, _∙_, subst}
 use mathlib.Core.Bool.{Bool, true, false}
 use mathlib.Core.List.{List, [], _∷_}

@@ -1,5 +1,4 @@
 -- Judging is exact: a set is accepted exactly when it keeps the line syntax and every rule (`accepted-exactly`), and what is answered is its length, its lines and its type.
--- Assumes nothing.
 use mathlib.Core.Path.{_≡_, refl, sym, ap, _∙_, subst}
 use mathlib.Core.Bool.{true}
 use mathlib.Core.List.{List, [], _∷_}

@@ -1,5 +1,4 @@
 -- 11, 12 and 13 over all lines are the rules on tables, groups, odd labels and repetition: both ways, by the state's description (StateLaws).
--- Assumes nothing.
 use mathlib.Core.Path.{_≡_, refl, sym, ap, _∙_, subst}
 use mathlib.Core.Bool.{Bool, true, false, cond, not, _||_, true≢false}
 use mathlib.Core.List.{List, [], cons≢nil}

@@ -1,5 +1,4 @@
 -- 16 over all lines is what the set, its groups and its names must have: both ways, by the state's description (StateLaws).
--- Assumes nothing.
 use mathlib.Core.Path.{_≡_, refl, sym, ap, _∙_, subst}
 use mathlib.Core.Bool.{Bool, true, false, cond, not, _&&_, _||_, true≢false}
 use mathlib.Core.List.{List, [], _∷_, _++_}

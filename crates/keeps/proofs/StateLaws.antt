@@ -1,5 +1,5 @@
 -- The state behind k lines, told without a state: which line at set level is the nearest before line k, and which rows were seen since it and at set level.
--- Assumes nothing. `behind-next` is the step from line to line; every rule over labels is read off this description (LabelLaws, LackLaws).
+-- `behind-next` is the step from line to line; every rule over labels is read off this description (LabelLaws, LackLaws).
 use mathlib.Core.Path.{_≡_, refl, sym, ap, _∙_, subst}
 use mathlib.Core.Bool.{Bool, true, false, _||_, true≢false}
 use mathlib.Core.List.{List, [], _∷_}

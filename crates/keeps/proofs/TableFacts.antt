@@ -1,5 +1,4 @@
 -- What the rows of the five tables have in common, by one computed test over each: which headers there are, how names and odd labels stand, that no label has two rows.
--- Assumes nothing.
 use mathlib.Core.Path.{_≡_, refl, sym, ap, _∙_, subst}
 use mathlib.Core.Bool.{Bool, true, false, cond, not, _&&_, _||_, true≢false}
 use mathlib.Core.List.{List, [], _∷_}

@@ -1,5 +1,5 @@
 -- What an accepted set is: the rules of the paper, each stated by itself. Nothing here has an order, a state or a number of a refusal.
--- Assumes nothing: these are definitions, over fields, lines as they are written, digits, rows, content tests and limits alone (tests/keeps).
+-- Stated over fields, lines as they are written, digits, rows, content tests and limits alone (tests/keeps).
 --
 -- proofs/Exact: a set is accepted exactly when it keeps them. Read `Keeps` at the end first. A line is named by how many stand before it, as in Field: line 0 is the
 -- paper's line 1; behind the last line stands label 0, which no table has. `(k : ℕ) → P k` is "for every k", `(k : ℕ) × P k` is "there is a k", `×` also "and", `⊎` "or",

@@ -1,5 +1,5 @@
 -- Which lists are written and which corrections are made, and what is made of them: the reasons of the paper, each by itself.
--- Assumes nothing: these are definitions, by the rules of Keeps. proofs/WriterExact and proofs/CorrectionExact: exactly these are made.
+-- Stated by the rules of Keeps. proofs/WriterExact and proofs/CorrectionExact: exactly these are made.
 use mathlib.Core.Path.{_≡_}
 use mathlib.Core.Bool.{true}
 use mathlib.Core.List.{List, [], _∷_}

@@ -1,5 +1,4 @@
 -- What the walks mean: over an offset they are the definitions of `meaning` over the bytes from there on. Then what a line that was read tells.
--- Assumes nothing.
 use mathlib.Core.Path.{_≡_, refl, sym, _∙_}
 use mathlib.Core.Bool.{Bool, true, false, cond, _&&_}
 use mathlib.Core.List.{List, [], _∷_, _++_}

@@ -1,5 +1,4 @@
 -- The walks of specs/ step by step: one law for each way that the code takes.
--- Assumes nothing.
 use mathlib.Core.Path.{_≡_, refl}
 use mathlib.Core.Bool.{Bool, true, false, cond, _&&_}
 use mathlib.Core.List.{List, _∷_}

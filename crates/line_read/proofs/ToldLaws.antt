@@ -1,5 +1,4 @@
 -- What the first seven bytes of a line tell: by `told_length` and `told_label` where the line is read, and that a line is read where they are digits and the rest is right.
--- Assumes nothing.
 use mathlib.Core.Path.{_≡_, refl, sym, ap, _∙_}
 use mathlib.Core.Bool.{Bool, true, false}
 use mathlib.Core.List.{List, [], _∷_}

@@ -1,3 +1,4 @@
+-- The definitions that the contracts of this crate cite beside the meaning.
 pub mod Number
 pub mod Line
 pub mod Told

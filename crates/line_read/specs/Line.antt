@@ -1,5 +1,5 @@
 -- The walk of `line_at`: the tests 2 to 6 of one line, over the bytes and an offset, in the code's order.
--- Assumes nothing: these are definitions. What they mean is `line-is` in proofs/Bridge.
+-- What they mean is `line-is` in proofs/Bridge.
 use mathlib.Core.Bool.{Bool, true, false, _&&_}
 use mathlib.Core.List.{List}
 use Prim.Native.Nat.{ℕ, _+_, _-_}

@@ -1,5 +1,5 @@
 -- The walk of `number_at`: what k bytes at an offset write.
--- Assumes nothing: these are definitions. What they mean is `number-is` in proofs/Bridge.
+-- What they mean is `number-is` in proofs/Bridge.
 use mathlib.Core.Bool.{cond, _&&_}
 use mathlib.Core.List.{List}
 use Prim.Native.Nat.{ℕ, zero, suc, _+_, _-_, _*_}

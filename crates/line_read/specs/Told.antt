@@ -1,5 +1,5 @@
 -- The walks of `told_length` and `told_label`: what the bytes of a line that was read before tell, without a test of its digits, its end or its content.
--- Assumes nothing: these are definitions. What they are for a line that is read is `read-told` in proofs/ToldLaws.
+-- What they are for a line that is read is `read-told` in proofs/ToldLaws.
 use mathlib.Core.Bool.{cond}
 use mathlib.Core.List.{List}
 use Prim.Native.Nat.{ℕ, _+_, _-_, _*_}

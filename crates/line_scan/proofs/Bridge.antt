@@ -1,5 +1,4 @@
 -- What the walks mean: over an offset they are the definitions of `meaning` over the bytes from there on.
--- Assumes nothing.
 use mathlib.Core.Path.{_≡_, refl, sym, ap, _∙_}
 use mathlib.Core.Bool.{Bool, true, false, cond, _&&_, _||_}
 use mathlib.Core.List.{List, [], _∷_}

@@ -1,5 +1,4 @@
 -- The walk of the scan step by step: one law for each way that the code takes.
--- Assumes nothing.
 use mathlib.Core.Path.{_≡_, refl, sym}
 use mathlib.Core.Bool.{Bool, true, false}
 use mathlib.Core.List.{List}

@@ -1,5 +1,5 @@
 -- The walks of `ends_at` and `scan_from`, and that of a whole set: its lines, over the bytes and an offset.
--- Assumes nothing: these are definitions. What they mean is `ends-is` and `scan-is` in proofs/Bridge.
+-- What they mean is `ends-is` and `scan-is` in proofs/Bridge.
 use mathlib.Core.Bool.{Bool, cond, _&&_, _||_}
 use mathlib.Core.List.{List}
 use Prim.Native.Nat.{ℕ, zero, suc, _+_, _-_}

@@ -1,5 +1,4 @@
 -- What each `return` of `list` and its parts has to show; then what the walk over an accepted set gives: the entries of its list, and how many bytes they have.
--- Assumes nothing.
 use mathlib.Core.Path.{_≡_, refl, sym, ap, ap₂, _∙_, subst}
 use mathlib.Core.Bool.{Bool}
 use mathlib.Core.List.{List, [], _∷_, _++_, append-assoc, cons≢nil}

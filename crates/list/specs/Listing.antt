@@ -1,5 +1,5 @@
 -- The walk of `put_entries` over a set's bytes, line by line: the entries of the lines, without that of line 2.
--- Assumes nothing: these are definitions. `entries-are` in proofs/ListLaws ties the walk of an accepted set to its list.
+-- `entries-are` in proofs/ListLaws ties the walk of an accepted set to its list.
 use mathlib.Core.Path.{_≡_}
 use mathlib.Core.Bool.{cond}
 use mathlib.Core.List.{List, [], _++_}

@@ -1,5 +1,5 @@
 // `list`: the field list of the set at the front of some bytes, put into a lent buffer.
-// Assumes nothing: it has no `requires`. The other functions are its parts, with walks of specs/ in their contracts; proofs/ListLaws says what the walks mean.
+// It has no `requires`. The other functions are its parts, with walks of specs/ in their contracts; proofs/ListLaws says what the walks mean.
 ghost use mathlib.Core.Path.{_≡_};
 ghost use Prim.Native.Nat.{_+_, _≤_, _<_};
 ghost use lib.ListN.{length, drop};

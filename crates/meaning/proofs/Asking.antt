@@ -1,5 +1,4 @@
 -- What the tables of examples ask of the definitions, and how an answer is written: the replies and the lent bytes of all six parts.
--- Assumes nothing.
 use mathlib.Core.Bool.{cond}
 use mathlib.Core.List.{List, [], _∷_, _++_, map}
 use Prim.Native.Nat.{ℕ}

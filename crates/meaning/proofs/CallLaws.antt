@@ -1,5 +1,5 @@
 -- The demands on the calls themselves: whoever has answers and buffers that meet the contracts of `list`, `write` and `correct` has what the demands say.
--- Assumes nothing but that bytes are under 256, where a list is asked for its numbers.
+-- Assumes that bytes are under 256, where a list is asked for its numbers.
 use mathlib.Core.Path.{_≡_, refl, sym, ap, ap₂, _∙_, subst}
 use mathlib.Core.List.{List, [], _∷_, _++_}
 use Prim.Native.Nat.{ℕ, _+_, _-_, _≤_}

@@ -1,5 +1,4 @@
 -- Corrections: exactly when one is made and what it leaves; that an accepted set stays one, with its labels and its profile; that two commute.
--- Assumes nothing.
 use mathlib.Core.Path.{_≡_, refl, sym, ap, ap₂, _∙_, subst}
 use mathlib.Core.Bool.{Bool, true, false, cond, not, _&&_, _||_, true≢false}
 use mathlib.Core.List.{List, [], _∷_, _++_}

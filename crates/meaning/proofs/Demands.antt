@@ -1,5 +1,5 @@
 -- The three demands, on the definitions: what each public function's contract then gives to whoever calls it.
--- Assumes nothing but that bytes are under 256, where a list is asked for its numbers.
+-- Assumes that bytes are under 256, where a list is asked for its numbers.
 use mathlib.Core.Path.{_≡_, refl, sym, ap, ap₂, _∙_, subst}
 use mathlib.Core.List.{List, [], _∷_, _++_}
 use Prim.Native.Nat.{ℕ, pred, _+_, _-_, _≤_}

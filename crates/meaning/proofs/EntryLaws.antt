@@ -1,5 +1,5 @@
 -- Reading an entry that was written, and writing an entry that was read; the laws of the form of a list's entries.
--- Assumes nothing but that bytes are under 256.
+-- Assumes that bytes are under 256.
 use mathlib.Core.Path.{_≡_, refl, sym, ap, _∙_}
 use mathlib.Core.Bool.{Bool, true, false, _&&_}
 use mathlib.Core.List.{List, [], _∷_, _++_}

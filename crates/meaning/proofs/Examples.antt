@@ -1,5 +1,4 @@
 -- "Examples by hand": the ten proved examples of the paper as one table under one theorem, by computation.
--- Assumes nothing.
 use mathlib.Core.Path.{_≡_, refl}
 use mathlib.Core.List.{List, [], _∷_, _++_}
 use Prim.Native.Nat.{ℕ}

@@ -1,5 +1,4 @@
 -- Lists of faults that are empty, and replies that are not refusals: what each part then is.
--- Assumes nothing.
 use mathlib.Core.Path.{_≡_, refl, sym, ap, _∙_}
 use mathlib.Core.Bool.{Bool, true, false, cond}
 use mathlib.Core.List.{List, [], _∷_, _++_, cons≢nil}

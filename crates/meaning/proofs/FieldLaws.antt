@@ -1,5 +1,4 @@
 -- A content that fits its field has 1 to 60 bytes: by one computed test over the field table. What 8100's row asks.
--- Assumes nothing.
 use mathlib.Core.Path.{_≡_, refl}
 use mathlib.Core.Bool.{Bool, true, false, cond, _&&_}
 use mathlib.Core.List.{List, [], _∷_}

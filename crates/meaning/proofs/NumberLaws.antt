@@ -1,5 +1,4 @@
 -- Which numbers each call can refuse with: judging 1 to 17; index and list these and 22; the writer 1, 6 to 9, 11 to 16, 21, 22; a correction 1 to 20 and 22; a view 1 to 21.
--- Assumes nothing.
 use mathlib.Core.Path.{_≡_, refl}
 use mathlib.Core.Bool.{Bool, true, false, cond, not, _&&_, _||_}
 use mathlib.Core.List.{List, [], _∷_, _++_}

@@ -1,5 +1,4 @@
 -- Scanning undoes writing, and writing undoes scanning: once, for every form of piece.
--- Assumes nothing.
 use mathlib.Core.Path.{_≡_, refl, sym, ap, _∙_, subst}
 use mathlib.Core.Bool.{Bool, true, false, cond}
 use mathlib.Core.List.{List, [], _∷_}

@@ -1,5 +1,4 @@
 -- Places: at a line's offset stands the line, and behind its lead the content. So an index entry points at its content.
--- Assumes nothing.
 use mathlib.Core.Path.{_≡_, refl, sym, ap, _∙_}
 use mathlib.Core.List.{List, [], _∷_, _++_}
 use Prim.Native.Nat.{ℕ, zero, suc, _+_, _≤_, _<_}

@@ -1,5 +1,4 @@
 -- One test over the rows of a table: the row that is found for a label passes what every row passes.
--- Assumes nothing.
 use mathlib.Core.Path.{_≡_, refl, sym, subst}
 use mathlib.Core.Bool.{Bool, true, false, cond, _&&_}
 use mathlib.Core.List.{List, [], _∷_}

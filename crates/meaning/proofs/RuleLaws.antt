@@ -1,5 +1,4 @@
 -- The rules under the replacement of one content: what sees labels and profile alone stays, and the new content must fit by itself.
--- Assumes nothing.
 use mathlib.Core.Path.{_≡_, refl, sym, ap, _∙_}
 use mathlib.Core.Bool.{Bool, true, false, cond, not, _||_}
 use mathlib.Core.List.{List, [], _∷_, _++_, map, cons≢nil}

@@ -1,5 +1,4 @@
 -- Sets: reading undoes writing and writing reading; line 2 of an accepted set is its sum, so the set is its list with the sum put in.
--- Assumes nothing.
 use mathlib.Core.Path.{_≡_, refl, sym, ap, _∙_, subst}
 use mathlib.Core.Bool.{Bool, true, false, true≢false}
 use mathlib.Core.List.{List, [], _∷_, _++_, cons≢nil}

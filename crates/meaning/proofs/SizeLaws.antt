@@ -1,5 +1,4 @@
 -- How large a set that keeps the rules is: every content has 1 to 60 bytes, so a set of 512 lines has at most 35,328 and "over 99,999" never decides.
--- Assumes nothing.
 use mathlib.Core.Path.{_≡_, refl}
 use mathlib.Core.List.{List, [], _∷_}
 use Prim.Native.Nat.{ℕ, _+_, _*_, _≤_}

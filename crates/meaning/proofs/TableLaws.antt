@@ -1,5 +1,5 @@
 -- The sentences of "Groups" that name labels, held against the tables: which labels are required at set level, which repeat there, and which are a header's members.
--- Assumes nothing. Each is one computed test.
+-- Each is one computed test.
 use mathlib.Core.Path.{_≡_, refl}
 use mathlib.Core.Bool.{Bool, true, false, cond, not, _&&_}
 use mathlib.Core.List.{List, [], _∷_, map}

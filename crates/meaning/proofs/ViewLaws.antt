@@ -1,5 +1,5 @@
 -- Views: what is shown is the last pending content for the line, else the set's; that is, the content as it would stand.
--- Assumes nothing but that the bytes of a sheet are under 256.
+-- Assumes that the bytes of a sheet are under 256.
 use mathlib.Core.Path.{_≡_, refl, sym, ap, ap₂, _∙_, subst}
 use mathlib.Core.Bool.{Bool, true, false, cond}
 use mathlib.Core.List.{List, [], _∷_, _++_}

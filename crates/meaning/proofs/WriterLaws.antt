@@ -1,5 +1,5 @@
 -- The writer undoes the list and the list the writer: exactly when each is made, and what it then is.
--- Assumes nothing but that the bytes of a list are under 256.
+-- Assumes that the bytes of a list are under 256.
 use mathlib.Core.Path.{_≡_, refl, sym, ap, _∙_, subst}
 use mathlib.Core.Bool.{Bool, true, false, cond, not, _&&_, _||_, true≢false}
 use mathlib.Core.List.{List, [], _∷_, _++_, cons≢nil}

@@ -1,5 +1,5 @@
 -- The six calls as a caller meets them: what each answers, and what the lent buffer holds afterwards. `judge` (Reading), `viewed` and `view` (Views) lend nothing to write.
--- Assumes nothing: these are definitions. They determine the answer and every lent byte or entry, refusals too.
+-- They determine the answer and every lent byte or entry, refusals too.
 use mathlib.Core.List.{List, [], _∷_, _++_}
 use Prim.Native.Nat.{ℕ, _-_}
 use lib.ListN.{length, drop, replicate}

@@ -1,5 +1,4 @@
 -- `unfolding computes` opens every definition of specs/ at once, for an example that is proved by computation.
--- Assumes nothing.
 use Rattle.meaning.specs.Limits.{typeOf}
 use Rattle.meaning.specs.Field.{elem}
 use Rattle.meaning.specs.Pieces.{pieces}

@@ -1,5 +1,4 @@
 -- "Corrections": a new content for one line of a set in its buffer.
--- Assumes nothing: these are definitions.
 use mathlib.Core.Bool.{Bool, cond, not, _&&_, _||_}
 use mathlib.Core.List.{List, [], _∷_, _++_}
 use Prim.Native.Nat.{ℕ, pred, _+_}

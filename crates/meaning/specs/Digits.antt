@@ -1,5 +1,4 @@
 -- Decimal digits of a fixed width, most significant first, and the number that digits write. Bytes by name.
--- Assumes nothing: these are definitions.
 use mathlib.Core.Bool.{Bool, true, false, _&&_}
 use mathlib.Core.List.{List, [], _∷_, _++_}
 use Prim.Native.Nat.{ℕ, zero, suc, _+_, _-_, _*_, _/_, _%_}

@@ -1,5 +1,5 @@
 -- "Field list": "Entry after entry, nothing between: content length in two bytes, kind in two bytes (the label), both little-endian, then the content."
--- Assumes nothing: these are definitions. A sheet has entries of the same form (Views).
+-- A sheet has entries of the same form (Views).
 use mathlib.Core.Bool.{Bool, _&&_}
 use mathlib.Core.List.{List, [], _∷_, _++_}
 use Prim.Native.Nat.{ℕ, suc, _+_, _*_, _/_, _%_}

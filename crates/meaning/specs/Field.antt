@@ -1,5 +1,4 @@
 -- A set, a list and a sheet are lists of fields: labels with contents. In a sheet the label is a line number.
--- Assumes nothing: these are definitions.
 use mathlib.Core.Bool.{Bool, true, false, _||_}
 use mathlib.Core.List.{List, [], _∷_, map}
 use Prim.Native.Nat.{ℕ}

@@ -1,5 +1,5 @@
 -- The field table (chapter 4 of the QMS description), row by row in the order printed there, and whether a content fits its field.
--- Assumes nothing: these are definitions. 6330 and 6331 stand for their ranges, as in Tables.
+-- 6330 and 6331 stand for their ranges, as in Tables.
 use mathlib.Core.Bool.{Bool, true, false, cond, _&&_}
 use mathlib.Core.List.{List, [], _∷_}
 use Prim.Native.Nat.{ℕ}

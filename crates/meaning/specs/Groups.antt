@@ -1,5 +1,5 @@
 -- "Groups": what each line is in its set, by the labels before it: a line at set level, a member of the open group, or neither.
--- Assumes nothing: these are definitions. One state serves 11, 12 and 13, the missing labels (Missing) and the headers of the index (Index).
+-- One state serves 11, 12 and 13, the missing labels (Missing) and the headers of the index (Index).
 use mathlib.Core.Bool.{Bool, true, false, cond, not, _||_}
 use mathlib.Core.List.{List, [], _∷_}
 use mathlib.Core.Option.{Option, none, some}

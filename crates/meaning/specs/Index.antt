@@ -1,5 +1,4 @@
 -- The index: "one entry for each line holds label, place of its content, its length, and the header's line number, or 0".
--- Assumes nothing: these are definitions.
 use mathlib.Core.Bool.{Bool, cond}
 use mathlib.Core.List.{List, [], _∷_}
 use Prim.Native.Nat.{ℕ, _+_}

@@ -1,5 +1,4 @@
 -- "Content kinds": each kind with a test of its own. A test says what the bytes must be; how many there are the field table asks beside it (FieldTable).
--- Assumes nothing: these are definitions.
 use mathlib.Core.Bool.{Bool, true, false, cond, _&&_}
 use mathlib.Core.List.{List, [], _∷_, _++_, map}
 use Prim.Native.Nat.{ℕ, _+_, _-_, _*_}

@@ -1,5 +1,5 @@
 -- "Limits of a set are named once, with the set's own type", and its five types by number.
--- Assumes nothing. `SetType::limits`, `SetType::of` and `SetType::number` are proved to say the same as these definitions.
+-- `SetType::limits`, `SetType::of` and `SetType::number` are proved to say the same as these definitions.
 use mathlib.Core.Bool.{Bool, cond}
 use Prim.Native.Nat.{ℕ, _-_}
 use lib.Dec.{eqb}

@@ -1,5 +1,4 @@
 -- "Field list": turning a set into a list, and writing a set from a list.
--- Assumes nothing: these are definitions.
 use mathlib.Core.Bool.{Bool, cond, _&&_}
 use mathlib.Core.List.{List, [], _∷_}
 use Prim.Native.Nat.{ℕ, pred, _+_}

@@ -1,5 +1,5 @@
 -- 16, Missing: "required label absent", at set level, in groups, behind names, and on a condition.
--- Assumes nothing: these are definitions. `has` says which labels stand at set level, or in the group that is asked.
+-- `has` says which labels stand at set level, or in the group that is asked.
 use mathlib.Core.Bool.{Bool, true, false, cond, not, _&&_, _||_}
 use mathlib.Core.List.{List, [], _∷_, _++_}
 use Prim.Native.Nat.{ℕ, _+_}

@@ -1,5 +1,4 @@
 -- One scanner for all that stands piece behind piece: the lines of a set, the entries of a list, the entries of a sheet.
--- Assumes nothing: these are definitions.
 use mathlib.Core.Bool.{Bool, cond}
 use mathlib.Core.List.{List, [], _∷_}
 use Prim.Native.Nat.{ℕ, zero, suc, _+_}

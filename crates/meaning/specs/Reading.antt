@@ -1,5 +1,4 @@
 -- Judging a set: "first 1; then all lines, in order, each by 7, 2, 3, 4, 5, 6; then" the rules (Rules). "Bytes after the set are not judged; a read answers the set's length."
--- Assumes nothing: these are definitions.
 use mathlib.Core.Bool.{Bool, cond}
 use mathlib.Core.List.{List, [], _∷_}
 use Prim.Native.Nat.{ℕ, _+_, _-_}

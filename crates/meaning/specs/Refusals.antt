@@ -1,5 +1,5 @@
 -- "Numbered replies": the numbers by name, faults, and the reply that the first fault of a list makes.
--- Assumes nothing. `Refusal::numbers` is proved to say the same numbers.
+-- `Refusal::numbers` is proved to say the same numbers.
 use mathlib.Core.Bool.{Bool, true, false}
 use mathlib.Core.List.{List, [], _∷_}
 use Prim.Native.Nat.{ℕ, _+_}

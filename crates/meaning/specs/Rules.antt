@@ -1,5 +1,5 @@
 -- "Numbered replies", 8 to 17, over the lines of a set, in the paper's order.
--- Assumes nothing: these are definitions. 8 to 16 see three things only: the profile, the labels, and each content by itself. 17 sees line 2 and all lengths.
+-- 8 to 16 see three things only: the profile, the labels, and each content by itself. 17 sees line 2 and all lengths.
 use mathlib.Core.Bool.{Bool, true, false, cond, not, _&&_, _||_}
 use mathlib.Core.List.{List, [], _∷_, _++_}
 use Prim.Native.Nat.{ℕ, _+_}

@@ -1,5 +1,5 @@
 -- The five set tables (chapter 3 of the QMS description), row by row in the order printed there, and the row of a label.
--- Assumes nothing: these are definitions. 6330 stands for the names 6330 to 6398, 6331 for the odd labels 6331 to 6399.
+-- 6330 stands for the names 6330 to 6398, 6331 for the odd labels 6331 to 6399.
 --
 -- Document 002 decides. It has lost the page of 6310 with the rows 6200 to 8421, which are document 000's, and the level columns of the rows behind them, which the
 -- rules paper gives ("8411 to 8480" are members of 8410, "deeper levels are not kept apart"); 8990 then stands at set level (B16). A label that is printed m, required

@@ -1,5 +1,5 @@
 -- "A view shows a content as it would stand": a set, a sheet of pending corrections, and the number of a line.
--- Assumes nothing: these are definitions. "entries as above, kind is the line number, the last for a line counts".
+-- "entries as above, kind is the line number, the last for a line counts".
 use mathlib.Core.Bool.{Bool, cond}
 use mathlib.Core.List.{List, [], _∷_, _++_}
 use mathlib.Core.Option.{Option, none, some}

@@ -1,5 +1,5 @@
 // The types that every crate shares: set types with the limits, refusals with their numbers, rows, index entries, answers.
-// Assumes nothing; each function here says in its contract which definition of specs/ it equals.
+// Each function here says in its contract which definition of specs/ it equals.
 ghost use mathlib.Core.Path.{_≡_};
 ghost use Rattle.meaning.specs.Limits.{limits, typeOf, typeNumber};
 ghost use Rattle.meaning.specs.Refusals.{numbers};

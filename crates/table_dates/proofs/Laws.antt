@@ -1,5 +1,4 @@
 -- What two bytes count as: the number of a digit, and where no byte is left.
--- Assumes nothing.
 use mathlib.Core.Path.{_≡_}
 use mathlib.Core.Bool.{true}
 use mathlib.Core.List.{List}

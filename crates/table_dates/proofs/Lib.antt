@@ -1,3 +1,2 @@
 -- The laws that the proofs of this crate cite.
--- Assumes nothing.
 pub mod Laws

@@ -1,5 +1,5 @@
 // The number that two bytes of a content write, and the tests of a date and of a time.
-// Assumes nothing; no function here asks anything of its caller, and each says in its contract which definition of the meaning it equals.
+// No function here asks anything of its caller; each says in its contract which definition of the meaning it equals.
 ghost use mathlib.Core.Path.{_≡_};
 ghost use mathlib.Core.List.{[], _∷_};
 ghost use Rattle.meaning.specs.Kinds.{twoAt, isRule020, isRule008, isRule090};

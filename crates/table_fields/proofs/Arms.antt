@@ -1,5 +1,4 @@
 -- What the last arm of a `match` on a label knows: the label is none of those of the arms before it.
--- Assumes nothing.
 use mathlib.Core.Path.{_≡_}
 use mathlib.Core.List.{List, [], _∷_}
 use Prim.Native.Nat.{ℕ}

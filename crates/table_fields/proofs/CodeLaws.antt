@@ -1,5 +1,4 @@
 -- A label without a row has none, every row of the field table is small enough for its code, and a code gives back what was put in.
--- Assumes nothing.
 use mathlib.Core.Path.{_≡_, refl}
 use mathlib.Core.Bool.{Bool, true, false, cond, _&&_}
 use mathlib.Core.List.{List, [], _∷_, map}

@@ -1,5 +1,5 @@
 // The field table: what the content of each label must be, as one number for each row, and the row of a label.
-// Assumes nothing; no function here asks anything of its caller, and each says in its contract which definition it equals.
+// No function here asks anything of its caller; each says in its contract which definition it equals.
 ghost use mathlib.Core.Path.{_≡_};
 ghost use Rattle.meaning.specs.Tables.{isPairLabel, rowLabel};
 ghost use Rattle.meaning.specs.FieldTable.{fieldTable, fieldRowIn, fieldRow};

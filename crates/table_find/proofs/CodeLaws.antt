@@ -1,5 +1,4 @@
 -- A code says whether a row is found, and gives back the row's number, its header, whether it repeats, and the code of its field.
--- Assumes nothing.
 use mathlib.Core.Path.{_≡_, refl, sym, ap, _∙_}
 use mathlib.Core.Bool.{Bool, true, false}
 use Prim.Native.Nat.{ℕ, _*_, _/_, _%_, _<_}

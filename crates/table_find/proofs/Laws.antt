@@ -1,5 +1,4 @@
 -- Laws of the look-up: it is the meaning's own, a found row is the table's row of that number and has the label asked for, and each row is found at its own number.
--- Assumes nothing.
 use mathlib.Core.Path.{_≡_, refl, sym, ap, _∙_}
 use mathlib.Core.Bool.{Bool, true, false, cond, _&&_, true≢false}
 use mathlib.Core.List.{List, [], _∷_}

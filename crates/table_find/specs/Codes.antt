@@ -1,5 +1,5 @@
 -- What a look-up finds as one number, its code: the code answers the row's number, its header, whether it repeats, and what its content must be.
--- Assumes nothing: these are definitions. That a code gives back what was put in is said by proofs/CodeLaws.
+-- That a code gives back what was put in is said by proofs/CodeLaws.
 use mathlib.Core.Bool.{Bool, true, false}
 use Prim.Native.Nat.{ℕ, _+_, _*_, _/_, _%_}
 use lib.Dec.{eqb}

@@ -1,4 +1,3 @@
 -- The definitions that the contracts of this crate cite beside the meaning.
--- Assumes nothing.
 pub mod LookUp
 pub mod Codes

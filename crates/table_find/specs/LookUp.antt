@@ -1,5 +1,5 @@
 -- The look-up of a label's row together with the label's number, by which the flags of what was seen go.
--- Assumes nothing: these are definitions. The meaning's own look-up (`Tables.find`) is this one without the number (`find-is` in proofs/Laws).
+-- The meaning's own look-up (`Tables.find`) is this one without the number (`find-is` in proofs/Laws).
 use mathlib.Core.Bool.{cond}
 use mathlib.Core.List.{List, [], _∷_}
 use mathlib.Core.Option.{Option, none, some}

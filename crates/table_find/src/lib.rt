@@ -1,5 +1,5 @@
 // The look-up of a label's row in the five set tables: by `match`, since it runs once a line, and answered by one number, the row's code.
-// Assumes nothing; no function here asks anything of its caller, and each says in its contract which definition it equals.
+// No function here asks anything of its caller; each says in its contract which definition it equals.
 ghost use mathlib.Core.Path.{_≡_};
 ghost use mathlib.Core.Bool.{cond};
 ghost use Rattle.meaning.specs.Tables.{rows6300, rows6301, rows6302, rows6310, rows6311, table, isPairLabel, rowLabel};

@@ -1,5 +1,5 @@
 -- What the float test answers, as the code has it.
--- Assumes nothing: these are definitions. Which contents are floats is `Kinds.isFloat` of the meaning.
+-- Which contents are floats is `Kinds.isFloat` of the meaning.
 use mathlib.Core.Bool.{Bool, true, false}
 use mathlib.Core.List.{List}
 use Prim.Native.Nat.{ℕ}

@@ -1,5 +1,5 @@
 // The bytes and digits of a content, and the test of a decimal number.
-// Assumes nothing; no function here asks anything of its caller, and each says in its contract which definition of the meaning it equals.
+// No function here asks anything of its caller; each says in its contract which definition of the meaning it equals.
 ghost use mathlib.Core.Path.{_≡_};
 ghost use lib.ListN.{drop, getD};
 ghost use Rattle.meaning.specs.Digits.{digit, allDigits};

@@ -1,5 +1,5 @@
 -- What each test of the code says of the definitions: one law for each way that a test can end.
--- Assumes nothing. The code goes by offsets and the definitions by lists, so some laws speak of what is left from an offset on.
+-- The code goes by offsets and the definitions by lists, so some laws speak of what is left from an offset on.
 use mathlib.Core.Path.{_≡_, refl, sym}
 use mathlib.Core.Bool.{Bool, true, false, _&&_}
 use mathlib.Core.List.{List, [], _∷_}

@@ -1,5 +1,5 @@
 // A test for each content kind that is no float, date or time, and whether a content fits a row of the field table.
-// Assumes nothing; no function here asks anything of its caller, and each says in its contract which definition of the meaning it equals.
+// No function here asks anything of its caller; each says in its contract which definition of the meaning it equals.
 ghost use mathlib.Core.Path.{_≡_};
 ghost use Rattle.meaning.specs.Kinds.{isNum, isRule112, isRule116, isCharset, isVersion, sameBytes, is0210, ofKind};
 ghost use Rattle.meaning.specs.FieldTable.{fitsLabel};

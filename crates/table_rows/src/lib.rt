@@ -1,5 +1,5 @@
 // The five set tables as arrays of rows by value, in the printed order.
-// Assumes nothing; no function here asks anything of its caller.
+// No function here asks anything of its caller.
 ghost use mathlib.Core.Path.{_≡_};
 ghost use Rattle.meaning.specs.Tables.{rows6300, rows6301, rows6302, rows6310, rows6311};
 use meaning::Row;

@@ -1,5 +1,5 @@
 // The rows of the five set tables, each written once, and the tables as arrays of them in the printed order.
-// Assumes nothing. M_ is a required label, K_ one that is not, N_ one that repeats, as the documents mark them.
+// M_ is a required label, K_ one that is not, N_ one that repeats, as the documents mark them.
 use meaning::Row;
 
 // The header of a label that stands at set level.

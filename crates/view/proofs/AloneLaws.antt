@@ -1,5 +1,4 @@
 -- What the walk of specs/ means: one law for each way that `shown_alone` takes, then that it shows what the definition of `meaning` shows, a part within its slice.
--- Assumes nothing.
 use mathlib.Core.Path.{_≡_, refl, ap, _∙_, subst}
 use mathlib.Core.Bool.{Bool, true, false, cond, _&&_}
 use mathlib.Core.List.{List, [], _∷_, _++_}

@@ -1,5 +1,5 @@
 -- The walk of `viewed` behind `judge`: the tests of an accepted set, then the sheet, in the code's order.
--- Assumes nothing: this is a definition. What it means is `viewed-accepted` in proofs/AloneLaws.
+-- What it means is `viewed-accepted` in proofs/AloneLaws.
 use mathlib.Core.Bool.{cond, _&&_}
 use mathlib.Core.List.{List}
 use Prim.Native.Nat.{ℕ}

@@ -1,5 +1,5 @@
 // "A view shows a content as it would stand": the answer, which slice holds it and where, and the part itself.
-// Assumes nothing: `viewed` and `view` have no `requires`. The other functions are their parts; the contract of `shown_alone` cites a walk of specs/, and proofs/AloneLaws says
+// `viewed` and `view` have no `requires`. The other functions are their parts; the contract of `shown_alone` cites a walk of specs/, and proofs/AloneLaws says
 // what it means.
 ghost use mathlib.Core.Path.{_≡_};
 ghost use Rattle.meaning.specs.Refusals.{refusal};

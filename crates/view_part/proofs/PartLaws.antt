@@ -1,5 +1,4 @@
 -- The ways that `newer_part` and `shown_bytes` end, and that a newer part lies within its slice.
--- Assumes nothing.
 use mathlib.Core.Path.{_≡_, subst}
 use mathlib.Core.Bool.{Bool, true, false, cond}
 use mathlib.Core.List.{List}

@@ -1,5 +1,4 @@
 -- The part that is shown behind one more entry of a sheet, and that a part lies within its slice.
--- Assumes nothing: these are definitions.
 use mathlib.Core.Bool.{cond}
 use mathlib.Core.List.{List}
 use Prim.Native.Nat.{ℕ, _+_, _≤_}

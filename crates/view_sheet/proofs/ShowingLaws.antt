@@ -1,5 +1,4 @@
 -- What the walk means: entry by entry it shows what the definition of `meaning` shows, and the part that is shown lies within its slice.
--- Assumes nothing.
 use mathlib.Core.Path.{_≡_, refl, sym, ap, _∙_}
 use mathlib.Core.Bool.{Bool, true, false, cond}
 use mathlib.Core.List.{List, [], _∷_, _++_}

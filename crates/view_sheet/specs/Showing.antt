@@ -1,5 +1,5 @@
 -- The walk of `shown_under`: entry by entry over the bytes of the sheet, in the code's order.
--- Assumes nothing: these are definitions. What they mean is `under-is` in proofs/ShowingLaws.
+-- What they mean is `under-is` in proofs/ShowingLaws.
 use mathlib.Core.Bool.{cond}
 use mathlib.Core.List.{List}
 use Prim.Native.Nat.{ℕ, zero, suc, pred, _+_, _-_}

@@ -1,5 +1,4 @@
 -- The walk of `write` over a list: what is left to put as it goes, what it gives for a checked list, and the answers of `write`.
--- Assumes nothing.
 use mathlib.Core.Path.{_≡_, refl, sym, ap, ap₂, _∙_}
 use mathlib.Core.Bool.{Bool, true, false, cond, _&&_}
 use mathlib.Core.List.{List, [], _∷_, _++_, append-assoc}

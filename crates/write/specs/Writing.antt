@@ -1,5 +1,5 @@
 -- The walk of `write` over a list's bytes, entry by entry: the lines that it puts.
--- Assumes nothing: these are definitions. What they mean is in proofs/WriteLaws.
+-- What they mean is in proofs/WriteLaws.
 use mathlib.Core.Bool.{cond}
 use mathlib.Core.List.{List, [], _++_}
 use Prim.Native.Nat.{ℕ, zero, suc, _+_, _-_}

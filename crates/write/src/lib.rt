@@ -1,5 +1,5 @@
 // `write`: the set of a field list, put into a lent buffer, in the writer's own order of refusals.
-// Assumes nothing: it has no `requires`. The other functions are its parts, with walks of specs/ in their contracts; proofs/WriteLaws says what the walks mean.
+// It has no `requires`. The other functions are its parts, with walks of specs/ in their contracts; proofs/WriteLaws says what the walks mean.
 ghost use mathlib.Core.Path.{_≡_};
 ghost use Prim.Native.Nat.{_≤_, _<_};
 ghost use lib.ListN.{length};

@@ -1,5 +1,4 @@
 -- 7, 21 and 6 of a list's entries: what each `return` of the check has to show, and what the walk means: the pieces of the list in `meaning`.
--- Assumes nothing.
 use mathlib.Core.Path.{_≡_, refl, sym, ap, ap₂, _∙_, subst}
 use mathlib.Core.Bool.{Bool, true, false, cond, _&&_}
 use mathlib.Core.List.{List, [], _∷_, _++_}

@@ -1,5 +1,4 @@
 -- 8, 9 and 11 to 16 over a list's entries: one entry of the walk, that line 1 and line 2 are never refused, and what the walk finds: the first fault of the rules of `meaning`.
--- Assumes nothing.
 use mathlib.Core.Path.{_≡_, refl, sym, ap, ap₂, _∙_, subst}
 use mathlib.Core.Bool.{Bool, true, false, cond, _&&_}
 use mathlib.Core.List.{List, [], _∷_, _++_, cons≢nil}

@@ -1,5 +1,4 @@
 -- One loop checks the entries and judges them: what each `return` of it has to show, and that what is left behind an entry is what was left before it.
--- Assumes nothing.
 use mathlib.Core.Path.{_≡_, refl, sym, ap, _∙_}
 use mathlib.Core.Bool.{Bool, true, false}
 use mathlib.Core.List.{List}

@@ -1,5 +1,5 @@
 -- The walks of `judge_list` over a list's bytes, entry by entry: offsets and flags in the place of fields and labels.
--- Assumes nothing: these are definitions. What they mean is in proofs/CheckLaws (7, 21, 6), proofs/EntryPass (8, 9, 11 to 16) and proofs/OnceLaws (both in one loop).
+-- What they mean is in proofs/CheckLaws (7, 21, 6), proofs/EntryPass (8, 9, 11 to 16) and proofs/OnceLaws (both in one loop).
 use mathlib.Core.Path.{_≡_}
 use mathlib.Core.Bool.{Bool, true, cond}
 use mathlib.Core.List.{List}

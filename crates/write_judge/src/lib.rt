@@ -1,5 +1,5 @@
 // `judge_list`: what a field list is that a set is written from, or its first refusal by 7, 21, 6, 8, 9, 11 to 16.
-// Assumes nothing: it has no `requires`. The other functions are its parts; each contract cites a walk of specs/, and proofs/EntryPass says what the walks mean.
+// It has no `requires`. The other functions are its parts; each contract cites a walk of specs/, and proofs/EntryPass says what the walks mean.
 ghost use mathlib.Core.Path.{_≡_};
 ghost use mathlib.Core.Bool.{true, false};
 ghost use Prim.Native.Nat.{_+_, _≤_};

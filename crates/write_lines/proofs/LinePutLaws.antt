@@ -1,5 +1,4 @@
 -- The parts of a line put one behind the other are the line, and the lines of an entry: what each `return` has to show.
--- Assumes nothing.
 use mathlib.Core.Path.{_≡_, refl, sym, ap, ap₂, _∙_}
 use mathlib.Core.Bool.{Bool, true, false}
 use mathlib.Core.List.{List, [], _∷_, _++_, append-assoc, append-nil}

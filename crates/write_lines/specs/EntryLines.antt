@@ -1,5 +1,4 @@
 -- The lines that one entry of a list is written as.
--- Assumes nothing: this is a definition.
 use mathlib.Core.Bool.{cond}
 use mathlib.Core.List.{List, [], _++_}
 use Prim.Native.Nat.{ℕ}

@@ -1,5 +1,4 @@
 -- `clean` finds no byte under 20h: while no byte so far is under it, the search has come as far as the loop.
--- Assumes nothing.
 use mathlib.Core.Path.{_≡_, sym, ap₂, _∙_}
 use mathlib.Core.Bool.{true}
 use Prim.Native.Nat.{_+_, _-_, _≤_}

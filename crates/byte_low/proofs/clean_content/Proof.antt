@@ -1,5 +1,4 @@
 -- `clean_content`: the search among the bytes behind clean blocks finds what the search among all finds, and in the last block it finds nothing.
--- Assumes nothing.
 use mathlib.Core.Path.{_≡_, refl, sym, _∙_}
 use Prim.Native.Nat.{_-_, _≤_}
 use native.Mathlib.Omega.{arith}

@@ -1,5 +1,4 @@
 -- `seek_low` is the walk `firstLow`: the search among the bytes that are left finds what the search among all finds.
--- Assumes nothing.
 use mathlib.Core.Path.{_≡_, sym, ap, _∙_}
 use Prim.Native.Nat.{_-_, _≤_}
 use native.Mathlib.Omega.{arith}

@@ -1,5 +1,4 @@
 -- `short_low` is the walk `firstLow`: two clean halves leave no byte between them.
--- Assumes nothing.
 use mathlib.Core.Path.{sym}
 use native.Mathlib.Omega.{arith}
 use borrow.Author.Needs.{needs}

@@ -1,5 +1,4 @@
 -- `move_down` meets its contract: after i turns the first i bytes are moved. A turn is `down-step`.
--- Assumes nothing.
 use mathlib.Core.Path.{_≡_, refl}
 use Prim.Native.Nat.{_≤_, _-_}
 use native.Mathlib.Omega.{arith}

@@ -1,5 +1,4 @@
 -- `move_up` meets its contract: the places from i on are done. A turn is `up-turn`.
--- Assumes nothing.
 use mathlib.Core.Path.{_≡_, refl, _∙_}
 use Prim.Native.Nat.{_≤_, _-_}
 use native.Mathlib.Omega.{arith}

@@ -1,4 +1,4 @@
--- `clear` meets its contract. Assumes nothing.
+-- `clear` meets its contract.
 use mathlib.Core.Path.{_≡_, refl}
 use mathlib.Core.List.{_++_, append-nil}
 use Prim.Native.Nat.{_≤_, _-_}

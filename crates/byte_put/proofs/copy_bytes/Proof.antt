@@ -1,4 +1,4 @@
--- `copy_bytes`: a turn is a byte more. Assumes nothing.
+-- `copy_bytes`: a turn is a byte more.
 use mathlib.Core.Path.{_≡_, refl}
 use mathlib.Core.List.{_++_}
 use Prim.Native.Nat.{_≤_, _-_}

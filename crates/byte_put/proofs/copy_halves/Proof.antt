@@ -1,5 +1,4 @@
 -- `copy_halves`: the last half and the first cover all.
--- Assumes nothing.
 use mathlib.Core.Path.{_∙_}
 use Prim.Native.Nat.{_-_}
 use native.Mathlib.Omega.{arith}

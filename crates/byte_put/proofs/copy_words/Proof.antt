@@ -1,5 +1,4 @@
 -- `copy_words`: the last word is put first; then a turn is a word more from the front on.
--- Assumes nothing.
 use mathlib.Core.Path.{_≡_, refl, _∙_}
 use mathlib.Core.List.{_++_}
 use Prim.Native.Nat.{_+_, _-_, _≤_}

@@ -1,5 +1,4 @@
 -- `put_digits` meets its contract: with the digits that are left put, the buffer is what it is to be. A turn is `digit-turn`.
--- Assumes nothing.
 use mathlib.Core.Path.{_≡_, refl, sym, _∙_}
 use Prim.Native.Nat.{_≤_}
 use native.Mathlib.Omega.{arith}

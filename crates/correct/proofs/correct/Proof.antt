@@ -1,5 +1,4 @@
 -- `correct` answers and leaves what the definition says: by what was planned.
--- Assumes nothing.
 use mathlib.Core.Path.{sym, _∙_}
 use lib.Seq.{length-take-le}
 use borrow.Author.Needs.{needs}

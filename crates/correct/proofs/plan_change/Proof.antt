@@ -1,5 +1,4 @@
 -- `plan_change` answers what was planned.
--- Assumes nothing.
 use mathlib.Core.Path.{sym, _∙_}
 use Rattle.correct.proofs.CorrectLaws.{plan-unread}
 use borrow.Author.Needs.{needs}

@@ -1,5 +1,4 @@
 -- `is_fixed` is one of the three labels.
--- Assumes nothing.
 use borrow.Author.Tests.{ne-eqb}
 use Rattle.correct_offer.proofs.is_fixed.Statement.{statement}
 use Rattle.correct_offer.proofs.is_fixed.Tie as tie

@@ -1,5 +1,4 @@
 -- `judge_for`: each return by the law of the test that decides.
--- Assumes nothing.
 use mathlib.Core.Path.{sym, _∙_}
 use borrow.Author.Needs.{needs}
 use Rattle.correct_offer.proofs.WalkLaws.{to-fixed, to-low, to-good, to-bad}

@@ -1,5 +1,4 @@
 -- `judge_offer`: 19 by the number alone, else what the line itself says.
--- Assumes nothing.
 use mathlib.Core.Path.{ap, _∙_}
 use borrow.Author.Needs.{needs}
 use Rattle.correct_offer.specs.declared.OneLine.{OneLine}

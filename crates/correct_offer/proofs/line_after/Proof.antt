@@ -1,5 +1,4 @@
 -- `line_after` is the walk `lineFrom`: the line behind those that are left is the line behind all.
--- Assumes nothing.
 use mathlib.Core.Path.{_≡_, refl, _∙_}
 use native.Mathlib.Omega.{arith}
 use borrow.Author.Needs.{needs}

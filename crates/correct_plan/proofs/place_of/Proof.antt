@@ -1,5 +1,4 @@
 -- `place_of` tells the place of a refusal.
--- Assumes nothing.
 use mathlib.Core.Path.{refl}
 use borrow.Author.Tests.{eq-eqb, ne-eqb}
 use Rattle.correct_plan.proofs.place_of.Statement.{statement}

@@ -1,5 +1,4 @@
 -- `plan_judged` answers what was planned: a law of proofs/PlanLaws for each `return`.
--- Assumes nothing.
 use mathlib.Core.Path.{sym, ap, _∙_}
 use Prim.Native.Nat.{ℕ}
 use Rattle.meaning.specs.Refusals.{refusal}

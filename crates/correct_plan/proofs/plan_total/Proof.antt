@@ -1,5 +1,4 @@
 -- `plan_total` asks 22, as `withinRoom` does.
--- Assumes nothing.
 use mathlib.Core.Path.{refl, _∙_}
 use borrow.Author.Tests.{le-leb, lt-leb}
 use borrow.Author.Needs.{needs}

@@ -1,5 +1,4 @@
 -- `put_content` leaves what `recontented` says: `three-puts`.
--- Assumes nothing.
 use Rattle.correct_put.proofs.MiddleLaws.{three-puts}
 use borrow.Author.Needs.{needs}
 use Rattle.correct_put.proofs.put_content.Statement.{statement}

@@ -1,5 +1,4 @@
 -- `replace_middle` leaves what `replaced` says: `three-loans`.
--- Assumes nothing.
 use mathlib.Core.Path.{refl}
 use Rattle.correct_put.proofs.MiddleLaws.{three-loans}
 use borrow.Author.Needs.{needs}

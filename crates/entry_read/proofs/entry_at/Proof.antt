@@ -1,5 +1,4 @@
 -- `entry_at` is the walk `entryAt`: each return by the law of the bytes that are there.
--- Assumes nothing.
 use native.Mathlib.Omega.{arith}
 use borrow.Author.Needs.{needs}
 use Rattle.entry_read.proofs.HeadLaws.{entry-headless, entry-short, entry-told}

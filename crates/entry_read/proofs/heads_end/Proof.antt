@@ -1,5 +1,4 @@
 -- `heads_end`: what is left to ask is always what was asked.
--- Assumes nothing.
 use mathlib.Core.Path.{_≡_, refl, sym, _∙_}
 use Prim.Native.Nat.{_-_, _≤_}
 use native.Mathlib.Omega.{arith}

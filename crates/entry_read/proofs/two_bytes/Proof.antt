@@ -1,5 +1,4 @@
 -- `two_bytes`: the second byte counts 256 times.
--- Assumes nothing.
 use native.Mathlib.Numerals.{add-one}
 use borrow.Author.Needs.{needs}
 use Rattle.entry_read.proofs.two_bytes.Statement.{statement}

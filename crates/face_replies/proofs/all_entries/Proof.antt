@@ -1,5 +1,4 @@
 -- `all_entries`: each return by the law of what the room told.
--- Assumes nothing.
 use mathlib.Core.Path.{_∙_}
 use borrow.Author.Needs.{needs}
 use Rattle.face_replies.proofs.PlanLaws.{plan-no-room, plan-all}

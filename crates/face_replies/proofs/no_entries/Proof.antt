@@ -1,5 +1,4 @@
 -- `no_entries`: a plan of nothing, with the numbers of the refusal.
--- Assumes nothing.
 use borrow.Author.Needs.{needs}
 use Rattle.face_replies.proofs.no_entries.Statement.{statement}
 use Rattle.face_replies.proofs.no_entries.Tie as tie

@@ -1,5 +1,4 @@
 -- `plan_index`: each return by the law of what is told of the set.
--- Assumes nothing.
 use mathlib.Core.Path.{_∙_}
 use borrow.Author.Needs.{needs}
 use Rattle.face_replies.proofs.PlanLaws.{plan-refused, plan-accepted}

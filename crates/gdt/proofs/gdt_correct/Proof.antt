@@ -1,5 +1,4 @@
 -- `gdt_correct`: the numbers of what `correct` answers, and the buffer that it leaves.
--- Assumes nothing.
 use mathlib.Core.Path.{ap, _∙_}
 use borrow.Author.Needs.{needs}
 use Rattle.face_replies.specs.Replies.{madeReply}

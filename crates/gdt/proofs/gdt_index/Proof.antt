@@ -1,5 +1,5 @@
 -- `gdt_index` meets its contract: a walk over its MIR by hand, since the borrow checker does not cover a reference to a slice of records. Ideas about lists are in FillingLaws.
--- Assumes nothing. Each step names what it needs by its position in the list of all that there is then, which a comment in brackets tells; a changed body moves the positions.
+-- Each step names what it needs by its position in the list of all that there is then, which a comment in brackets tells; a changed body moves the positions.
 use mathlib.Core.Path.{_≡_, refl, sym, ap, _∙_, subst}
 use mathlib.Core.WellFounded.{WellFounded, InvImage·wf}
 use mathlib.Core.List.{[], _∷_, List}

@@ -1,5 +1,4 @@
 -- `gdt_judge`: the numbers of what `judge` answers.
--- Assumes nothing.
 use mathlib.Core.Path.{ap, _∙_}
 use borrow.Author.Needs.{needs}
 use Rattle.face_replies.specs.Replies.{judgedReply}

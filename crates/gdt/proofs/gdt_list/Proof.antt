@@ -1,5 +1,4 @@
 -- `gdt_list`: the numbers of what `list` answers, and the buffer that it leaves.
--- Assumes nothing.
 use mathlib.Core.Path.{ap, _∙_}
 use borrow.Author.Needs.{needs}
 use Rattle.face_replies.specs.Replies.{madeReply}

@@ -1,5 +1,4 @@
 -- `plan_index`: the plan of what `judge` answers.
--- Assumes nothing.
 use borrow.Author.Needs.{needs}
 use Rattle.gdt.proofs.plan_index.Statement.{statement}
 use Rattle.gdt.proofs.plan_index.Tie as tie

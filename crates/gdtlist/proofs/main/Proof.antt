@@ -1,5 +1,4 @@
 -- `main` prints a part of the room: the array keeps its length when it comes back from `read_input`, and the test on the count says that the part lies within it.
--- Assumes nothing.
 use mathlib.Core.Path.{_≡_}
 use native.Mathlib.Omega.{arith}
 use borrow.Author.Needs.{needs}

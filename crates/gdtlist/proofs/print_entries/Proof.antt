@@ -1,5 +1,4 @@
 -- `print_entries` ends: the measure is the number of lines that are left. Nothing has to hold from turn to turn.
--- Assumes nothing.
 use Prim.Native.Nat.{_-_}
 use borrow.Author.Needs.{needs}
 use Rattle.gdtlist.proofs.print_entries.Statement.{statement}

@@ -1,5 +1,4 @@
 -- `print_set` answers the length that `judge` tells, 0 for a refusal.
--- Assumes nothing.
 use mathlib.Core.Path.{sym, ap, _∙_}
 use borrow.Author.Needs.{needs}
 use lib.ListN.{length}

@@ -1,5 +1,4 @@
 -- `print_sets` ends: the next set starts within the bytes, and what is left is shorter by a set that has a byte or more.
--- Assumes nothing.
 use Prim.Native.Nat.{_-_, _≤_}
 use borrow.Author.Needs.{needs}
 use lib.ListN.{length}

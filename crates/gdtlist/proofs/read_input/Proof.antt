@@ -1,5 +1,4 @@
 -- `read_input` ends: each read that moves a byte leaves less room, and the room keeps its length.
--- Assumes nothing.
 use mathlib.Core.Path.{_≡_}
 use Prim.Native.Nat.{_-_}
 use borrow.Author.Needs.{needs}

@@ -1,5 +1,4 @@
 -- `gdt_write`: the numbers of what `write` answers, and the buffer that it leaves.
--- Assumes nothing.
 use mathlib.Core.Path.{ap, _∙_}
 use borrow.Author.Needs.{needs}
 use Rattle.face_replies.specs.Replies.{madeReply}

@@ -1,5 +1,4 @@
 -- `is_header`: each return by the law of the label that its tests leave.
--- Assumes nothing.
 use mathlib.Core.Path.{sym, _∙_}
 use borrow.Author.Needs.{needs}
 use Rattle.index_walk.proofs.LabelLaws.{header-above, header-8410, header-pair, header-other}

@@ -1,5 +1,4 @@
 -- `is_member`: each return by the law of the label that its tests leave.
--- Assumes nothing.
 use mathlib.Core.Path.{sym, _∙_}
 use borrow.Author.Needs.{needs}
 use Rattle.index_walk.proofs.LabelLaws.{member-above, member-pair, member-low, member-other}

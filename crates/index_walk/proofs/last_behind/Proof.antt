@@ -1,5 +1,4 @@
 -- `last_behind`: what is asked of the label tells which of the two numbers it is.
--- Assumes nothing.
 use mathlib.Core.Path.{sym, _∙_}
 use borrow.Author.Needs.{needs}
 use Rattle.index_walk.proofs.LabelLaws.{behind-header, behind-other}

@@ -1,5 +1,4 @@
 -- `next_entry`: the two tests tell whether seven bytes stand at the walk; then the sums fit, and what is told is told there.
--- Assumes nothing.
 use mathlib.Core.Path.{_∙_}
 use native.Mathlib.Omega.{arith}
 use borrow.Author.Needs.{needs}

@@ -1,5 +1,4 @@
 -- `no_line`: its walk is what `start` answers.
--- Assumes nothing.
 use borrow.Author.Needs.{needs}
 use Rattle.index_walk.proofs.no_line.Statement.{statement}
 use Rattle.index_walk.proofs.no_line.Tie as tie

@@ -1,5 +1,4 @@
 -- `one_more` counts up to the most lines of a set: its test is that of `counted`.
--- Assumes nothing.
 use mathlib.Core.Path.{sym}
 use borrow.Author.Needs.{needs}
 use Rattle.index_walk.proofs.EntryWalk.{counted-on, counted-out}

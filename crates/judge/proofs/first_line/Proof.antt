@@ -1,5 +1,4 @@
 -- `first_line`: line 1 is another one, it names no type, it names one.
--- Assumes nothing.
 use mathlib.Core.Path.{ap, _∙_}
 use native.Mathlib.Omega.{arith}
 use borrow.Author.Needs.{needs}

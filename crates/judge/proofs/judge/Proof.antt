@@ -1,5 +1,4 @@
 -- `judge` answers what the definition says: `judge-is`.
--- Assumes nothing.
 use mathlib.Core.Path.{sym, ap, _∙_}
 use borrow.Author.Needs.{needs}
 use Rattle.meaning.specs.declared.Judged.{Judged}

@@ -1,5 +1,4 @@
 -- `second_line`: the label of line 2 is not read, it is another one, it is 8100.
--- Assumes nothing.
 use mathlib.Core.Path.{sym, ap, _∙_}
 use native.Mathlib.Omega.{arith}
 use borrow.Author.Needs.{needs}

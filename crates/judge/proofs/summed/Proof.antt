@@ -1,5 +1,4 @@
 -- `summed`: 17 behind what the pass found.
--- Assumes nothing.
 use mathlib.Core.Path.{sym, ap, _∙_}
 use native.Mathlib.Omega.{arith}
 use borrow.Author.Needs.{needs}

@@ -1,5 +1,4 @@
 -- `again_no` refuses a single label that was seen before.
--- Assumes nothing.
 use Rattle.judge_line.specs.Steps.{againNo}
 use Rattle.judge_line.proofs.again_no.Statement.{statement}
 use Rattle.judge_line.proofs.again_no.Tie as tie

@@ -1,5 +1,4 @@
 -- `belongs_to` asks for the header that the row names; of an odd label, for the name right before it.
--- Assumes nothing.
 use Prim.Native.Nat.{_+_}
 use native.Mathlib.Omega.{arith}
 use borrow.Author.Tests.{ne-eqb}

@@ -1,5 +1,4 @@
 -- `content_no` asks the length, then whether the kind allows any bytes, and only then reads them.
--- Assumes nothing.
 use mathlib.Core.Path.{sym, _∙_}
 use borrow.Author.Needs.{needs}
 use Rattle.judge_line.proofs.StepLaws.{content-short, content-any, content-fits}

@@ -1,5 +1,4 @@
 -- `fit_no` asks the kind, then for the version.
--- Assumes nothing.
 use mathlib.Core.Path.{sym, _∙_}
 use borrow.Author.Needs.{needs}
 use Rattle.judge_line.specs.Steps.{fitNo}

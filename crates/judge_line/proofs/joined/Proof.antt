@@ -1,5 +1,4 @@
 -- `joined`: the flag, and the header behind a pair.
--- Assumes nothing.
 use borrow.Author.Needs.{needs}
 use Rattle.judge_line.proofs.StepLaws.{joined-is}
 use Rattle.judge_line.proofs.joined.Statement.{statement}

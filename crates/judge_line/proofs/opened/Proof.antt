@@ -1,5 +1,4 @@
 -- `opened`: the lack of the group before it, then the flags.
--- Assumes nothing.
 use borrow.Author.Needs.{needs}
 use Rattle.judge_line.proofs.StepLaws.{opened-is}
 use Rattle.judge_line.proofs.opened.Statement.{statement}

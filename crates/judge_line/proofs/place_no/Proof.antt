@@ -1,5 +1,4 @@
 -- `place_no` asks by the flags of set level, or by those of the group that the label belongs to.
--- Assumes nothing.
 use mathlib.Core.Path.{sym, _∙_}
 use borrow.Author.Needs.{needs}
 use borrow.Author.Tests.{ne-eqb}

@@ -1,5 +1,4 @@
 -- `step_at`: each return by the law of the line that leads to it.
--- Assumes nothing.
 use mathlib.Core.Path.{refl, sym, _∙_}
 use native.Mathlib.Omega.{arith}
 use borrow.Author.Needs.{needs}

@@ -1,5 +1,4 @@
 -- `version_no` asks 9218 alone for 02.10.
--- Assumes nothing.
 use mathlib.Core.Path.{sym, _∙_}
 use borrow.Author.Needs.{needs}
 use borrow.Author.Tests.{ne-eqb}

@@ -1,5 +1,4 @@
 -- `ended`: what the scan finds, and 16 where it is done.
--- Assumes nothing.
 use mathlib.Core.Path.{sym, ap, _∙_}
 use borrow.Author.Needs.{needs}
 use Rattle.judge_lines.specs.Pass.{finishedScan}

@@ -1,5 +1,4 @@
 -- `line_step`: the content of the line, and its step.
--- Assumes nothing.
 use borrow.Author.Needs.{needs}
 use Rattle.judge_lines.proofs.PassLaws.{step-line}
 use Rattle.judge_lines.proofs.line_step.Statement.{statement}

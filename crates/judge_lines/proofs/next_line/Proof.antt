@@ -1,5 +1,4 @@
 -- `next_line`: 512 lines are read, the line is read, or it is not.
--- Assumes nothing.
 use mathlib.Core.Path.{sym, _∙_}
 use native.Mathlib.Omega.{arith}
 use borrow.Author.Needs.{needs}

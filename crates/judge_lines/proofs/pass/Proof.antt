@@ -1,5 +1,4 @@
 -- `pass`: at each line start the loop stands for the scan and for the pass over the whole set.
--- Assumes nothing.
 use mathlib.Core.Path.{ap, _∙_}
 use native.Mathlib.Omega.{arith}
 use borrow.Author.Needs.{needs}

@@ -1,5 +1,4 @@
 -- `unless_unread`: what the scan finds, else the refusal that was found before.
--- Assumes nothing.
 use mathlib.Core.Path.{sym, ap, _∙_}
 use borrow.Author.Needs.{needs}
 use Rattle.line_scan.specs.declared.Scan.{Scan}

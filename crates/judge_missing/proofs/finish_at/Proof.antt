@@ -1,5 +1,4 @@
 -- `finish_at` says what the set lacks, else what its first group lacks.
--- Assumes nothing.
 use borrow.Author.Needs.{needs}
 use borrow.Author.Tests.{ne-eqb}
 use Rattle.judge_missing.specs.Lacks.{orElse, finish}

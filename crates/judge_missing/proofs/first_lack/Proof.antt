@@ -1,5 +1,4 @@
 -- `first_lack` keeps the lack that was found, else asks the open group.
--- Assumes nothing.
 use borrow.Author.Needs.{needs}
 use borrow.Author.Tests.{ne-eqb}
 use Rattle.judge_missing.specs.Lacks.{orElse, openLack, firstLack}

@@ -1,5 +1,4 @@
 -- `group_lack` asks in a 6310 set what the header's group lacks; no other set has groups.
--- Assumes nothing.
 use borrow.Author.Needs.{needs}
 use Rattle.judge_missing.specs.Lacks.{groupLack}
 use Rattle.judge_missing.proofs.group_lack.Statement.{statement}

@@ -1,5 +1,4 @@
 -- `has_value` reads the flags of 8420, 8461 and 8462.
--- Assumes nothing.
 use mathlib.Core.Path.{sym, _∙_}
 use borrow.Author.Needs.{needs}
 use Rattle.meaning.specs.FieldTable.{fieldTable}

@@ -1,5 +1,4 @@
 -- `lack_6302` asks for 6303, 6304 and 6305, in this order.
--- Assumes nothing.
 use mathlib.Core.Path.{sym, _∙_}
 use borrow.Author.Needs.{needs}
 use Rattle.meaning.specs.FieldTable.{fieldTable}

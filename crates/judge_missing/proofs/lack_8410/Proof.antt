@@ -1,5 +1,4 @@
 -- `lack_8410` asks for 8421 where a value or a limit stands, then for 8437.
--- Assumes nothing.
 use mathlib.Core.Path.{sym, _∙_}
 use borrow.Author.Needs.{needs}
 use Rattle.meaning.specs.FieldTable.{fieldTable}

@@ -1,5 +1,4 @@
 -- `lack_8437` asks for 8437 where 8438 stands.
--- Assumes nothing.
 use mathlib.Core.Path.{sym, _∙_}
 use borrow.Author.Needs.{needs}
 use Rattle.meaning.specs.FieldTable.{fieldTable}

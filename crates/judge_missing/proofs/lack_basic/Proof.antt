@@ -1,5 +1,4 @@
 -- `lack_basic` asks for the required labels, lowest first, and stops at the first that was not seen.
--- Assumes nothing.
 use mathlib.Core.Path.{sym, _∙_}
 use borrow.Author.Needs.{needs}
 use Rattle.meaning.specs.FieldTable.{fieldTable}

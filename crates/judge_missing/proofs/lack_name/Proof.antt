@@ -1,5 +1,4 @@
 -- `lack_name` asks for the odd label behind the name.
--- Assumes nothing.
 use mathlib.Core.Path.{sym, _∙_}
 use borrow.Author.Needs.{needs}
 use Rattle.meaning.specs.FieldTable.{fieldTable}

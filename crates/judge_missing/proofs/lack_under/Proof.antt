@@ -1,5 +1,4 @@
 -- `lack_under` goes by the header itself: 8410, 6302 or a name, which has four digits, so that the label one higher fits.
--- Assumes nothing.
 use mathlib.Core.Path.{sym, _∙_}
 use mathlib.Core.Logic.{⊎-elim}
 use borrow.Author.Needs.{needs}

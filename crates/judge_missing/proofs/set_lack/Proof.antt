@@ -1,5 +1,4 @@
 -- `set_lack` asks for the labels that the set type requires; those of 6311 stand in the rows of 6300.
--- Assumes nothing.
 use mathlib.Core.Path.{_∙_}
 use borrow.Author.Needs.{needs}
 use Rattle.judge_missing.specs.Lacks.{setLack}

@@ -1,5 +1,4 @@
 -- `sum_at`: by what the five bytes of line 2 write.
--- Assumes nothing.
 use mathlib.Core.Path.{sym, _∙_}
 use borrow.Author.Needs.{needs}
 use Rattle.judge_start.proofs.Laws.{sum-none, sum-right, sum-wrong}

@@ -1,5 +1,4 @@
 -- `type_of`: by what its four bytes write.
--- Assumes nothing.
 use mathlib.Core.Path.{sym, _∙_}
 use borrow.Author.Needs.{needs}
 use Rattle.judge_start.proofs.Laws.{type-other, type-known, type-none}

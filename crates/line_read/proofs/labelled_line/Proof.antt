@@ -1,5 +1,4 @@
 -- `labelled_line` is the walk `labelledLine`.
--- Assumes nothing.
 use mathlib.Core.Path.{_∙_}
 use borrow.Author.Needs.{needs}
 use Rattle.line_read.specs.Line.{must, labelledLine}

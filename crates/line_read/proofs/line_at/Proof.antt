@@ -1,5 +1,4 @@
 -- `line_at` is the walk `lineAt`.
--- Assumes nothing.
 use mathlib.Core.Path.{sym, _∙_}
 use native.Mathlib.Omega.{arith}
 use borrow.Author.Needs.{needs}

@@ -1,5 +1,4 @@
 -- `line_ends`: two bytes that come to 0Dh 0Ah are these.
--- Assumes nothing.
 use mathlib.Core.Path.{_≡_}
 use Prim.Native.Nat.{_+_, _*_}
 use native.Mathlib.Omega.{arith}

@@ -1,5 +1,4 @@
 -- `number_at` is the walk `numberAt`: behind the number so far, the bytes that are left write what all of them write.
--- Assumes nothing.
 use mathlib.Core.Path.{_≡_, sym, ap, _∙_}
 use Prim.Native.Nat.{_-_, _^_, _≤_, _<_}
 use native.Mathlib.Nat.{one-le-pow}

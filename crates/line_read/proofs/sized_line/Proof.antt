@@ -1,5 +1,4 @@
 -- `sized_line` is the walk `sizedLine`, rule by rule.
--- Assumes nothing.
 use mathlib.Core.Path.{sym, _∙_}
 use native.Mathlib.Omega.{arith}
 use borrow.Author.Needs.{needs}

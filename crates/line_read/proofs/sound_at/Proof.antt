@@ -1,5 +1,4 @@
 -- `sound_at`: a line that passes every test is read.
--- Assumes nothing.
 use mathlib.Core.Path.{refl}
 use native.Mathlib.Omega.{arith}
 use borrow.Author.Needs.{needs}

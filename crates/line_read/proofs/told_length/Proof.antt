@@ -1,5 +1,4 @@
 -- `told_length` is the walk `toldLength`.
--- Assumes nothing.
 use mathlib.Core.Path.{_∙_}
 use native.Mathlib.Omega.{arith}
 use borrow.Author.Needs.{needs}

@@ -1,5 +1,4 @@
 -- `usual_byte`: before the content it asks for a digit.
--- Assumes nothing.
 use native.Mathlib.Omega.{arith}
 use Rattle.line_read.proofs.usual_byte.Statement.{statement}
 use Rattle.line_read.proofs.usual_byte.Tie as tie

@@ -1,5 +1,4 @@
 -- `usual_lead`: while every byte so far is a usual one, the bytes of the first seven that are left are digits exactly where all are.
--- Assumes nothing.
 use mathlib.Core.Path.{_≡_, sym, ap₂, _∙_}
 use mathlib.Core.Bool.{true}
 use Prim.Native.Nat.{ℕ, _+_, _-_, _≤_}

@@ -1,5 +1,4 @@
 -- `usual_line` is the walk `lineAt`, by either way.
--- Assumes nothing.
 use mathlib.Core.Path.{sym, ap, ap₂, _∙_}
 use Prim.Native.Nat.{ℕ, _-_}
 use native.Mathlib.Omega.{arith}

@@ -1,5 +1,4 @@
 -- `ends_at` is the walk `endsAt`, test by test.
--- Assumes nothing.
 use borrow.Author.Needs.{needs}
 use Rattle.line_read.proofs.Laws.{tests}
 use Rattle.line_scan.specs.Scan.{endsAt}

@@ -1,5 +1,4 @@
 -- `scan_from` is the walk `scanFrom`: the scan of the lines that are left is the scan of all.
--- Assumes nothing.
 use mathlib.Core.Path.{_≡_, refl, sym, _∙_}
 use Prim.Native.Nat.{_-_, _≤_}
 use native.Mathlib.Omega.{arith}

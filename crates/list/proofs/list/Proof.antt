@@ -1,5 +1,4 @@
 -- `list`: as the set is judged.
--- Assumes nothing.
 use mathlib.Core.Path.{sym, _∙_}
 use borrow.Author.Needs.{needs}
 use Rattle.list.proofs.ListLaws.{answer-refused}

@@ -1,5 +1,4 @@
 -- `list_accepted`: the need is the length of what is put; each return by the law of the answer.
--- Assumes nothing.
 use mathlib.Core.Path.{refl, ap, _∙_}
 use native.Mathlib.Omega.{arith}
 use borrow.Author.Needs.{needs}

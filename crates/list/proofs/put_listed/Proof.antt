@@ -1,5 +1,4 @@
 -- `put_listed`: nothing for line 2, else the entry in the part from the offset on.
--- Assumes nothing.
 use borrow.Author.Needs.{needs}
 use native.Mathlib.Omega.{arith}
 use Rattle.list.proofs.ListLaws.{other-length, line-none, line-put}

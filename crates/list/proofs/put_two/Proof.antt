@@ -1,5 +1,4 @@
 -- `put_two`: the two stores are the two bytes.
--- Assumes nothing.
 use borrow.Author.Needs.{needs}
 use Rattle.list.proofs.ListLaws.{two-put}
 use Rattle.list.proofs.put_two.Statement.{statement}

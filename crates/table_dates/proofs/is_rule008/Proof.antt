@@ -1,5 +1,4 @@
 -- `is_rule008` asks that day and month are not 00, then `is_rule020`.
--- Assumes nothing.
 use borrow.Author.Needs.{needs}
 use borrow.Author.Tests.{le-leb, lt-leb}
 use Rattle.meaning.specs.Kinds.{isRule008}

@@ -1,5 +1,4 @@
 -- `is_rule020` asks day, month and year.
--- Assumes nothing.
 use borrow.Author.Needs.{needs}
 use borrow.Author.Tests.{le-leb, lt-leb}
 use Rattle.meaning.specs.Kinds.{isRule020}

@@ -1,5 +1,4 @@
 -- `is_rule090` asks hour, minute and second.
--- Assumes nothing.
 use borrow.Author.Needs.{needs}
 use borrow.Author.Tests.{le-leb, lt-leb}
 use Rattle.meaning.specs.Kinds.{isRule090}

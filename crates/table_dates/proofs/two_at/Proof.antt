@@ -1,5 +1,4 @@
 -- `two_at` asks the two bytes, where there are two.
--- Assumes nothing.
 use mathlib.Core.Path.{sym}
 use native.Mathlib.Omega.{arith}
 use borrow.Author.Needs.{needs}

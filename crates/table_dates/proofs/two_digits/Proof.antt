@@ -1,5 +1,4 @@
 -- `two_digits` asks for two digits and counts them.
--- Assumes nothing.
 use mathlib.Core.Path.{sym, _∙_}
 use native.Mathlib.Omega.{arith}
 use borrow.Author.Needs.{needs}

@@ -1,5 +1,4 @@
 -- `code_of` is the code of the row that the search of the field table answers: an arm knows the label, the last arm that it is none of the 57.
--- Assumes nothing.
 use mathlib.Core.Path.{sym, ap}
 use Rattle.meaning.specs.FieldTable.{fieldTable, fieldRowIn}
 use Rattle.table_fields.specs.Codes.{kindNumber, fieldCode}

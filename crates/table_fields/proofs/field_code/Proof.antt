@@ -1,5 +1,4 @@
 -- `field_code` is the code of the row of the label that the row is printed under.
--- Assumes nothing.
 use borrow.Author.Needs.{needs}
 use Rattle.meaning.specs.FieldTable.{fieldRow}
 use Rattle.table_fields.proofs.field_code.Statement.{statement}

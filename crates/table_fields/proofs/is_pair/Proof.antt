@@ -1,5 +1,4 @@
 -- `is_pair` is `isPairLabel`: the same two comparisons.
--- Assumes nothing.
 use borrow.Author.Tests.{le-leb, lt-leb}
 use Rattle.table_fields.proofs.is_pair.Statement.{statement}
 use Rattle.table_fields.proofs.is_pair.Tie as tie

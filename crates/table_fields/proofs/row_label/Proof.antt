@@ -1,5 +1,4 @@
 -- `row_label` is the label of the row: that of the names or of the odd labels, or the label itself.
--- Assumes nothing.
 use mathlib.Core.Path.{sym, _∙_}
 use borrow.Author.Needs.{needs}
 use Rattle.meaning.specs.Tables.{rowLabel}

@@ -1,5 +1,4 @@
 -- `find_6310` is the search of the table: an arm knows the label, the last arm that it is none of the 55.
--- Assumes nothing.
 use mathlib.Core.Path.{sym, _∙_}
 use borrow.Author.Needs.{needs}
 use Rattle.meaning.specs.Tables.{rows6310, rowLabel}

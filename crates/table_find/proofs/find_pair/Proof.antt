@@ -1,5 +1,4 @@
 -- `find_pair`: a name has row 36, an odd label row 37, any other label none of the two.
--- Assumes nothing.
 use mathlib.Core.Path.{sym, _∙_}
 use borrow.Author.Needs.{needs}
 use Rattle.meaning.specs.Tables.{rows6310}

@@ -1,5 +1,4 @@
 -- `find_row` searches the table of the set type.
--- Assumes nothing.
 use borrow.Author.Needs.{needs}
 use Rattle.meaning.specs.Tables.{table}
 use Rattle.table_find.proofs.find_row.Statement.{statement}

@@ -1,5 +1,4 @@
 -- `byte_at` is the element, or 0 behind the end.
--- Assumes nothing.
 use mathlib.Core.Path.{refl, sym}
 use native.Mathlib.Omega.{arith}
 use lib.ListN.{List·getD-eq-default}

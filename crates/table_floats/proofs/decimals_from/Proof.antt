@@ -1,5 +1,4 @@
 -- `decimals_from` asks for a byte, then for digits.
--- Assumes nothing.
 use mathlib.Core.Path.{sym, _∙_}
 use native.Mathlib.Omega.{arith}
 use borrow.Author.Needs.{needs}

@@ -1,5 +1,4 @@
 -- `float_of` leaves a minus out and asks the rest.
--- Assumes nothing.
 use mathlib.Core.Path.{sym, ap, _∙_}
 use borrow.Author.Needs.{needs}
 use Rattle.table_floats.specs.Floats.{floatIf, floatOf}

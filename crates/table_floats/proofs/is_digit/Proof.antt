@@ -1,5 +1,4 @@
 -- `is_digit` is the two comparisons of `digit`.
--- Assumes nothing.
 use borrow.Author.Tests.{le-leb, lt-leb}
 use Rattle.table_floats.proofs.is_digit.Statement.{statement}
 use Rattle.table_floats.proofs.is_digit.Tie as tie

@@ -1,5 +1,4 @@
 -- `is_float` reads the answer of the float test.
--- Assumes nothing.
 use mathlib.Core.Path.{sym, _∙_}
 use borrow.Author.Needs.{needs}
 use Rattle.table_floats.proofs.Laws.{float-is, float-not}

@@ -1,5 +1,4 @@
 -- `unsigned_from` asks for a digit, then for the rest.
--- Assumes nothing.
 use mathlib.Core.Path.{sym, _∙_}
 use native.Mathlib.Omega.{arith}
 use borrow.Author.Needs.{needs}

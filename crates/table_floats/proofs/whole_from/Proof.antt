@@ -1,5 +1,4 @@
 -- The loop of `whole_from`: what is left passes exactly where the whole does.
--- Assumes nothing.
 use mathlib.Core.Path.{_≡_, refl, sym, _∙_}
 use Prim.Native.Nat.{_-_}
 use native.Mathlib.Omega.{arith}

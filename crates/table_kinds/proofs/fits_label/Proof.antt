@@ -1,5 +1,4 @@
 -- `fits_label` asks the length, then the kind, by the code of the label's row.
--- Assumes nothing.
 use mathlib.Core.Path.{sym, _∙_}
 use borrow.Author.Needs.{needs}
 use Rattle.table_kinds.proofs.Laws.{fits-not, fits-kind}

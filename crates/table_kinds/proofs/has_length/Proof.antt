@@ -1,5 +1,4 @@
 -- `has_length` asks for the least, then for the most.
--- Assumes nothing.
 use borrow.Author.Needs.{needs}
 use borrow.Author.Tests.{le-leb, lt-leb}
 use Rattle.table_kinds.specs.Fitting.{lengthFits}

@@ -1,5 +1,4 @@
 -- `is_num` asks all bytes.
--- Assumes nothing.
 use borrow.Author.Needs.{needs}
 use Rattle.meaning.specs.Kinds.{isNum}
 use Rattle.table_kinds.proofs.is_num.Statement.{statement}

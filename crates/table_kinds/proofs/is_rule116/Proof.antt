@@ -1,5 +1,4 @@
 -- `is_rule116` compares the first byte with each choice.
--- Assumes nothing.
 use borrow.Author.Needs.{needs}
 use borrow.Author.Tests.{ne-eqb}
 use Rattle.meaning.specs.Field.{elem}

@@ -1,5 +1,4 @@
 -- `is_version` asks two digits, the point and two digits.
--- Assumes nothing.
 use borrow.Author.Needs.{needs}
 use borrow.Author.Tests.{le-leb, lt-leb, eq-eqb, ne-eqb}
 use Rattle.meaning.specs.Kinds.{isVersion}

@@ -1,5 +1,4 @@
 -- `of_kind` is the test that `ofKind` names: an arm knows the kind's number, the last arm that it is none of the nine.
--- Assumes nothing.
 use borrow.Author.Needs.{needs}
 use Rattle.meaning.specs.Kinds.{isAlnum, ofKind}
 use Rattle.table_fields.specs.Codes.{kindOf}

@@ -1,5 +1,4 @@
 -- `shown_alone`: 18 and 19, then the sheet.
--- Assumes nothing.
 use mathlib.Core.Path.{_∙_}
 use borrow.Author.Needs.{needs}
 use Rattle.view.proofs.AloneLaws.{alone-follows, alone-zero, alone-beyond, alone-there}

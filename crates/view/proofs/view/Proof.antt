@@ -1,5 +1,4 @@
 -- `view`: the part that `viewed` names lies within its slice.
--- Assumes nothing.
 use mathlib.Core.Path.{sym, ap, _∙_, subst}
 use borrow.Author.Needs.{needs}
 use Rattle.meaning.specs.declared.Viewed.{Viewed}

@@ -1,5 +1,4 @@
 -- `viewed`: the walk behind `judge`, which shows what the definition says (AloneLaws).
--- Assumes nothing.
 use mathlib.Core.Path.{sym, _∙_}
 use borrow.Author.Needs.{needs}
 use Rattle.view.proofs.AloneLaws.{viewed-refused, viewed-accepted}

@@ -1,5 +1,4 @@
 -- `newer_part` is the test of the line number.
--- Assumes nothing.
 use Rattle.view_part.proofs.PartLaws.{newer-this, newer-other}
 use Rattle.view_part.proofs.newer_part.Statement.{statement}
 use Rattle.view_part.proofs.newer_part.Tie as tie

@@ -1,5 +1,4 @@
 -- `shown_bytes`: the part lies within its slice.
--- Assumes nothing.
 use native.Mathlib.Omega.{arith}
 use borrow.Author.Needs.{needs}
 use Rattle.view_part.proofs.PartLaws.{sheet-ends, bytes-sheet, set-ends, bytes-set}

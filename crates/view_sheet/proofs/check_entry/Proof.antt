@@ -1,5 +1,4 @@
 -- `check_entry`: a whole entry lies within the sheet, so its content can be lent; each return by the law of what speaks against it.
--- Assumes nothing.
 use mathlib.Core.Path.{sym, _∙_}
 use Prim.Native.Nat.{_+_}
 use native.Mathlib.Omega.{arith}

@@ -1,5 +1,4 @@
 -- `part_of_set`: a line of an accepted set lies within the set and has a content.
--- Assumes nothing.
 use mathlib.Core.Path.{_≡_, ap}
 use Prim.Native.Nat.{_-_, pred}
 use native.Mathlib.Omega.{arith}

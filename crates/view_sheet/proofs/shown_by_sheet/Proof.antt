@@ -1,5 +1,4 @@
 -- `shown_by_sheet` is the walk `shownFrom`: what the entries that are left show behind those before them is what all show.
--- Assumes nothing.
 use mathlib.Core.Path.{_≡_, refl, sym, _∙_}
 use Prim.Native.Nat.{ℕ, _+_, _-_, _≤_, pred}
 use native.Mathlib.Omega.{arith}

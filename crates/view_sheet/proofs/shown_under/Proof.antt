@@ -1,5 +1,4 @@
 -- `shown_under`: what the sheet shows, and the part of the set where it shows none.
--- Assumes nothing.
 use mathlib.Core.Path.{sym, ap, _∙_}
 use borrow.Author.Needs.{needs}
 use Rattle.meaning.specs.declared.Viewed.the-variants.{Set}

@@ -1,5 +1,4 @@
 -- `write`: 1, and then as the list is judged.
--- Assumes nothing.
 use mathlib.Core.Path.{sym, ap, _∙_}
 use native.Mathlib.Omega.{arith}
 use borrow.Author.Needs.{needs}

@@ -1,5 +1,4 @@
 -- `write_entries`: each return by the law of the answer.
--- Assumes nothing.
 use mathlib.Core.Path.{ap, _∙_}
 use native.Mathlib.Omega.{arith}
 use borrow.Author.Needs.{needs}

@@ -1,5 +1,4 @@
 -- `breaks_off` says nothing of a short list, and of a long one what its heads lead to.
--- Assumes nothing.
 use mathlib.Core.Path.{sym, _∙_}
 use borrow.Author.Needs.{needs}
 use Rattle.write_judge.proofs.breaks_off.Statement.{statement}

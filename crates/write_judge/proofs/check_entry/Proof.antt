@@ -1,5 +1,4 @@
 -- `check_entry`: each return by the law of the test that leads to it.
--- Assumes nothing.
 use mathlib.Core.Path.{sym, ap, _∙_}
 use native.Mathlib.Omega.{arith}
 use borrow.Author.Needs.{needs}

@@ -1,5 +1,4 @@
 -- `check_then` is the pass over all entries, with a refusal that waits.
--- Assumes nothing.
 use borrow.Author.Needs.{needs}
 use Rattle.write_judge.proofs.check_then.Statement.{statement}
 use Rattle.write_judge.proofs.check_then.Tie as tie

@@ -1,5 +1,4 @@
 -- `finished`: a refusal that waits, then what is lacking.
--- Assumes nothing.
 use borrow.Author.Needs.{needs}
 use Rattle.write_judge.proofs.OnceLaws.{ends-late, ends-lacking, ends-good}
 use Rattle.write_judge.proofs.finished.Statement.{statement}

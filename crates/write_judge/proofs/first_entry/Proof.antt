@@ -1,5 +1,4 @@
 -- `first_entry`: 8, 9, and then the rules.
--- Assumes nothing.
 use mathlib.Core.Path.{sym, ap, _∙_}
 use native.Mathlib.Omega.{arith}
 use borrow.Author.Needs.{needs}

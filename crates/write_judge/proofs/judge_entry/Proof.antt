@@ -1,5 +1,4 @@
 -- `judge_entry`: a refusal that waits, or the step of the entry.
--- Assumes nothing.
 use borrow.Author.Needs.{needs}
 use Rattle.write_judge.specs.Judging.{contentOf}
 use Rattle.write_judge.proofs.EntryPass.{step-entry}

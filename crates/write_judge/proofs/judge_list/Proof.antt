@@ -1,5 +1,4 @@
 -- `judge_list`: a list that breaks off is only checked; else by the head of the first entry.
--- Assumes nothing.
 use mathlib.Core.Path.{sym, ap, _∙_}
 use borrow.Author.Needs.{needs}
 use Rattle.write_judge.specs.declared.Checked.the-variants.{Refused}

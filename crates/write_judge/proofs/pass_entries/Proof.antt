@@ -1,5 +1,4 @@
 -- `pass_entries`: what is left of the check and the rules is always the whole of them.
--- Assumes nothing.
 use mathlib.Core.Path.{_≡_, refl, sym, ap, _∙_}
 use Prim.Native.Nat.{_-_, _≤_}
 use native.Mathlib.Omega.{arith}

@@ -1,5 +1,4 @@
 -- `put_end`: the two stores are the two bytes.
--- Assumes nothing.
 use native.Mathlib.Omega.{arith}
 use borrow.Author.Needs.{needs}
 use lib.ListN.{length-set}

@@ -1,5 +1,4 @@
 -- `put_line`: four parts put one behind the other.
--- Assumes nothing.
 use Prim.Native.Nat.{_+_}
 use borrow.Author.Needs.{needs}
 use Rattle.byte_put.proofs.OverLaws.{over-lent}

@@ -1,5 +1,4 @@
 -- `put_sum`: four parts put one behind the other.
--- Assumes nothing.
 use borrow.Author.Needs.{needs}
 use Rattle.meaning.specs.Digits.{digits}
 use Rattle.meaning.specs.Lists.{sumDigits}

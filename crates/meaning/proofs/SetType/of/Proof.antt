@@ -1,5 +1,4 @@
 -- `SetType::of` is the search for the number among the five.
--- Assumes nothing.
 use borrow.Author.Tests.{ne-eqb}
 use Rattle.meaning.specs.Limits.{typeOf}
 use Rattle.meaning.proofs.SetType.of.Statement.{statement}
