@@ -1,2 +1,2 @@
--- The definitions that the contracts of this crate cite beside the meaning.
+-- The breaches of the rules, and their order.
 pub mod Breaches

@@ -1,3 +1,3 @@
--- The definitions that the contracts of this crate cite beside the meaning.
+-- The rules each by itself, and what is made of a set.
 pub mod Keeps
 pub mod Makes

@@ -1,4 +1,4 @@
--- The definitions that the contracts of this crate cite beside the meaning.
+-- What has to be believed: the whole meaning, file by file as README.md lists them.
 pub mod Limits
 pub mod Refusals
 pub mod Digits
