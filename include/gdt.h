@@ -43,7 +43,7 @@ enum {
 /* What judging a set answers: its length in bytes, its lines, and the number of its type, as 6310. */
 struct gdt_judged {
     size_t no, place, label;
-    size_t length, lines, kind;
+    size_t length, lines, type;
 };
 
 /* What index, list, writer and correction answer: how many entries or bytes were made; of a correction the new used length. */

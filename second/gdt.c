@@ -773,7 +773,7 @@ struct gdt_judged gdt_judge(const uint8_t *set, size_t set_length)
     }
     judged.length = lines.length;
     judged.lines = lines.count;
-    judged.kind = type_numbers[lines.type];
+    judged.type = type_numbers[lines.type];
     return judged;
 }
 

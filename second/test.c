@@ -184,7 +184,7 @@ static const uint8_t *noise(size_t n)
 static int judges(const struct bytes *set, struct reply want)
 {
     struct gdt_judged got = gdt_judge(lend(&lent_in, set->of, set->n), set->n);
-    struct reply have = {got.no, got.place, got.label, got.length, got.lines, got.kind};
+    struct reply have = {got.no, got.place, got.label, got.length, got.lines, got.type};
     return holds(&lent_in, set->of) & equal(have, want);
 }
 

@@ -59,9 +59,9 @@ fn is_fixed(label: usize) -> bool
     ensures { λ r. ⌜ r ≡ fixed label ⌝ }
 {
     match label {
-        8000 => true,
-        8100 => true,
-        9218 => true,
+        meaning::LABEL_8000 => true,
+        meaning::LABEL_8100 => true,
+        meaning::LABEL_9218 => true,
         _ => false,
     }
 }

@@ -265,7 +265,7 @@ all-fields :
     × (wrong fitsLabel cases ≡ [])
     × (wrong (λ l c. is0210 c) versions ≡ [])
     × (map versionReply ("02.10" ∷ "02.00" ∷ "01.00" ∷ "99.99" ∷ "02,10" ∷ [])
-    ≡ Accepted (record { length = 51; lines = 4; kind = 6300 })
+    ≡ Accepted (record { length = 51; lines = 4; settype = 6300 })
     ∷ Refused (refusal 15 27 9218)
     ∷ Refused (refusal 15 27 9218)
     ∷ Refused (refusal 15 27 9218)

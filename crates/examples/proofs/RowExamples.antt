@@ -269,7 +269,7 @@ bytes t (bare ls) = render (lines t (bare ls)) []
 
 -- "The place is the offset of the line's first byte"
 abbrev answer : ℕ → List Field → Demand → Judged
-answer t fs accepted = Accepted (record { length = length (render fs []); lines = length fs; kind = t })
+answer t fs accepted = Accepted (record { length = length (render fs []); lines = length fs; settype = t })
 answer t fs (refused n k l) = Refused (refusal n (length (render (take k fs) [])) l)
 
 -- a set that is accepted
@@ -445,7 +445,7 @@ ofTable rs =
 
 -- an answer in numbers: 0, length, lines and type, or number, place and label
 abbrev numbers : Judged → List ℕ
-numbers (Accepted x) = 0 ∷ x .length ∷ x .lines ∷ x .kind ∷ []
+numbers (Accepted x) = 0 ∷ x .length ∷ x .lines ∷ x .settype ∷ []
 numbers (Refused r) = r .no ∷ r .place ∷ r .label ∷ []
 
 abbrev same : List ℕ → List ℕ → Bool

@@ -32,23 +32,23 @@ use Rattle.judge_lines.specs.Pass.{contentOf, passFrom}
 -- ---- the pass: one line more
 
 -- the content of a line is the part of the set that stands there
-pub step-line : {o : Found} {kind : SetType} {st : State} {lack : Refusal} {l : ℕ} {r : Step} {members top : List Bool} (s : List ℕ) (at size : ℕ) → 10 ≤ size
-    → Stepped o kind st lack at l (take (at + size - 2 - (at + 7)) (drop (at + lineLead) s)) r members top → Stepped o kind st lack at l (contentOf s at size) r members top
-step-line {o} {kind} {st} {lack} {l} {r} {members} {top} s at size h e =
+pub step-line : {o : Found} {settype : SetType} {st : State} {lack : Refusal} {l : ℕ} {r : Step} {members top : List Bool} (s : List ℕ) (at size : ℕ) → 10 ≤ size
+    → Stepped o settype st lack at l (take (at + size - 2 - (at + 7)) (drop (at + lineLead) s)) r members top → Stepped o settype st lack at l (contentOf s at size) r members top
+step-line {o} {settype} {st} {lack} {l} {r} {members} {top} s at size h e =
     let m : at + size - 2 - (at + 7) ≡ size - 9 = omega arith in
-    subst (λ (x : ℕ). Stepped o kind st lack at l (take x (drop (at + lineLead) s)) r members top) m e
+    subst (λ (x : ℕ). Stepped o settype st lack at l (take x (drop (at + lineLead) s)) r members top) m e
 
-module _ (s : List ℕ) (kind : SetType) (at : ℕ) (st : State) (lack : Refusal) (l size : ℕ) (q : lineAt s at ≡ Read l size) (r : Step) (members top : List Bool)
-    (e : Stepped (rowOf kind l) kind st lack at l (contentOf s at size) r members top) where
-  pub pass-bad : (r .no ≡ 0 → ⊥) → (m : ℕ) → passFrom s kind at st lack (suc m) ≡ refusal (r .no) at l
+module _ (s : List ℕ) (settype : SetType) (at : ℕ) (st : State) (lack : Refusal) (l size : ℕ) (q : lineAt s at ≡ Read l size) (r : Step) (members top : List Bool)
+    (e : Stepped (rowOf settype l) settype st lack at l (contentOf s at size) r members top) where
+  pub pass-bad : (r .no ≡ 0 → ⊥) → (m : ℕ) → passFrom s settype at st lack (suc m) ≡ refusal (r .no) at l
   unfolding passFrom
   pass-bad g m = rw (q, ← (e .number), ne-eqb (r .no) 0 g)
 
-  pub pass-on : r .no ≡ 0 → (m : ℕ) → passFrom s kind at st lack (suc m) ≡ passFrom s kind (at + size) (stateOf (r .group) members top) (r .group .lack) m
+  pub pass-on : r .no ≡ 0 → (m : ℕ) → passFrom s settype at st lack (suc m) ≡ passFrom s settype (at + size) (stateOf (r .group) members top) (r .group .lack) m
   unfolding passFrom
   pass-on g m =
-      let z : lineNo (rowOf kind l) st l (contentOf s at size) ≡ 0 = sym (e .number) ∙ g in
-      rw (q, z) (ap₂ (λ (x : State) (y : Refusal). passFrom s kind (at + size) x y m) (sym (e .state g)) (sym (e .lack-so g)))
+      let z : lineNo (rowOf settype l) st l (contentOf s at size) ≡ 0 = sym (e .number) ∙ g in
+      rw (q, z) (ap₂ (λ (x : State) (y : Refusal). passFrom s settype (at + size) x y m) (sym (e .state g)) (sym (e .lack-so g)))
 
 -- ---- the pass over the fields
 
@@ -74,19 +74,19 @@ module _ (s : List ℕ) (at : ℕ) (f : Field) (u : List ℕ) (h : Sound f) (w :
   pub reads-on : drop (at + lineSize f) s ≡ u
   reads-on = sym (drop-drop (lineSize f) at s) ∙ (ap (drop (lineSize f)) w ∙ (ap (λ (m : ℕ). drop m (lineThen f u)) (sym (size-line f u h)) ∙ drop-line f u h))
 
-module _ (s : List ℕ) (kind : SetType) (all : List Field) where
+module _ (s : List ℕ) (settype : SetType) (all : List Field) where
   next-place : (at k : ℕ) (f : Field) (fs : List Field) → at ≡ inSet all k start → drop k all ≡ f ∷ fs → at + lineSize f ≡ inSet all (k + 1) start
   next-place at k f fs e d = rw add-one (omega (arith, e, offset-next all k f fs d .0))
 
   pub pass-is : (fs : List Field) (t : List ℕ) (at k : ℕ) (st : State) (ms : G.State) (lack : Refusal) → Every Sound fs → drop at s ≡ render fs t → at ≤ length s
-      → at ≡ inSet all k start → drop k all ≡ fs → Same (inSet all) st ms → passFrom s kind at st lack (length fs) ≡ whole kind (inSet all) ms k fs lack
+      → at ≡ inSet all k start → drop k all ≡ fs → Same (inSet all) st ms → passFrom s settype at st lack (length fs) ≡ whole settype (inSet all) ms k fs lack
   unfolding passFrom
-  pass-is [] t at k st ms lack h w b e d sm = pass-finish kind (inSet all) k st ms lack refl sm
+  pass-is [] t at k st ms lack h w b e d sm = pass-finish settype (inSet all) k st ms lack refl sm
   pass-is (f ∷ fs) t at k st ms lack h w b e d sm =
       let rd : lineAt s at ≡ Read (f .label) (lineSize f) = read-line s at f (render fs t) w (h .0) in
       let fit : at + lineSize f ≤ length s = read-back s at rd .within in
-      let go = pass-line kind (inSet all) f fs at k st ms lack sm e
-      (λ st′ lack′. passFrom s kind (at + lineSize f) st′ lack′ (length fs))
+      let go = pass-line settype (inSet all) f fs at k st ms lack sm e
+      (λ st′ lack′. passFrom s settype (at + lineSize f) st′ lack′ (length fs))
       (λ st′ ms′ lack′ sm′. pass-is fs t (at + lineSize f) (k + 1) st′ ms′ lack′ (h .1) (reads-on s at f (render fs t) (h .0) w) fit
       (next-place at k f fs e d) (rw add-one (offset-next all k f fs d .1)) sm′) in
       rw (rd, reads-content s at f (render fs t) (h .0) w) go

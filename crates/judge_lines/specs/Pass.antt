@@ -33,11 +33,11 @@ contentOf s at n = take (n - (lineLead + lineEnd)) (drop (at + lineLead) s)
 
 -- the n lines from a line start on: 11 to 15 of each, and 16 behind the last
 unfoldable pub passFrom : List ℕ → SetType → ℕ → State → Refusal → ℕ → Refusal
-passFrom s kind at st lack zero = finish kind st lack
-passFrom s kind at st lack (suc n) =
+passFrom s settype at st lack zero = finish settype st lack
+passFrom s settype at st lack (suc n) =
     afterLine (lineAt s at) (λ l m.
-    let rest = passFrom s kind (at + m) (nextState (rowOf kind l) st at l) (lackThen (staysIn (rowOf kind l)) kind st lack) n in
-    cond (eqb (lineNo (rowOf kind l) st l (contentOf s at m)) 0) rest (refusal (lineNo (rowOf kind l) st l (contentOf s at m)) at l))
+    let rest = passFrom s settype (at + m) (nextState (rowOf settype l) st at l) (lackThen (staysIn (rowOf settype l)) settype st lack) n in
+    cond (eqb (lineNo (rowOf settype l) st l (contentOf s at m)) 0) rest (refusal (lineNo (rowOf settype l) st l (contentOf s at m)) at l))
 
 -- ---- the scan and the pass at once
 
@@ -67,5 +67,5 @@ finishedScan r (Scan.Refused q) = Scan.Refused q
 
 -- 1 to 7 as the scan found them, then the pass over the lines
 abbrev pub passed : List ℕ → SetType → Scan → Scan
-passed s kind (Done total lines) = doneUnless (passFrom s kind 0 begin noRefusal lines) total lines
-passed s kind (Scan.Refused r) = Scan.Refused r
+passed s settype (Done total lines) = doneUnless (passFrom s settype 0 begin noRefusal lines) total lines
+passed s settype (Scan.Refused r) = Scan.Refused r

@@ -31,10 +31,10 @@ pub fn sum_at(s: &[u8], at: usize, total: usize) -> Refusal
     match line_read::number_at(s, at + line_read::LINE_LEAD, line_read::SUM_DIGITS) {
         Number::Is(sum) => {
             if sum == total {
-                return judge_missing::nothing();
+                return Refusal::none();
             }
-            judge_missing::refused_at(Refusal::BAD_SUM, at)
+            Refusal::at(Refusal::BAD_SUM, at)
         }
-        Number::None => judge_missing::refused_at(Refusal::BAD_SUM, at),
+        Number::None => Refusal::at(Refusal::BAD_SUM, at),
     }
 }

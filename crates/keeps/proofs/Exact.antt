@@ -21,7 +21,7 @@ use Rattle.meaning.specs.Refusals.{Reply, refused, done}
 use Rattle.meaning.specs.Pieces.{Parsed, parsed}
 use Rattle.meaning.specs.Lines.{lineThen, size, offset, render, labelOk, startsSet, setOver}
 use Rattle.meaning.specs.Rules.{sumFaults}
-use Rattle.meaning.specs.Reading.{read, kindNumber, shape, judged, judge}
+use Rattle.meaning.specs.Reading.{read, knownNumber, shape, judged, judge}
 use Rattle.meaning.proofs.Bools.{and-left, and-right, and-both, or-right, nil-is, Every, every-at}
 use Rattle.meaning.proofs.DigitLaws.{number-digits, digits-number, digits-all}
 use Rattle.meaning.proofs.FaultLaws.{ask-last, done-same}
@@ -174,11 +174,11 @@ accepted-same e = cc
 
 -- the shape of a set of type t
 abbrev shapeOf : SetType → List Field → Shape
-shapeOf t fs = record { length = size fs; lines = length fs; kind = typeNumber t }
+shapeOf t fs = record { length = size fs; lines = length fs; settype = typeNumber t }
 
 shape-typed : (t : SetType) (fs : List Field) → KeepsRules t fs → shape fs ≡ shapeOf t fs
 shape-typed t fs r =
-    ap (λ (n : ℕ). record { length = size fs; lines = length fs; kind = n }) (ap (λ p. kindNumber (p .setType)) (profile-typed t fs (r .starts .1)))
+    ap (λ (n : ℕ). record { length = size fs; lines = length fs; settype = n }) (ap (λ p. knownNumber (p .setType)) (profile-typed t fs (r .starts .1)))
 
 judged-front : (s : List ℕ) (x : Shape) → judge s ≡ Accepted x → SetAtFront s x
 unfolding judge

@@ -185,4 +185,4 @@ pub record SetAtFront (s : List ℕ) (x : Shape) : Type 0 where
   pub lines : List Field
   pub rest : List ℕ
   pub keeps : Keeps s set-type lines rest
-  pub shape-is : x ≡ record { length = size lines; lines = length lines; kind = typeNumber set-type }
+  pub shape-is : x ≡ record { length = size lines; lines = length lines; settype = typeNumber set-type }

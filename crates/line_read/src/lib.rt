@@ -48,15 +48,10 @@ const MIN_LINE_BYTES: usize = LINE_FRAME + 1;
 // The largest byte that a content usually starts with.
 const USUAL_BYTE: u8 = 253;
 
-// "Digits" are 30h to 39h.
-const DIGIT_ZERO: u8 = b'0';
-
-const DIGIT_NINE: u8 = b'9';
-
 // What the bytes `000` and `0000` come to, each byte times the value of its digit.
-const THREE_ZEROS: usize = DIGIT_ZERO as usize * 111;
+const THREE_ZEROS: usize = meaning::DIGIT_ZERO as usize * 111;
 
-const FOUR_ZEROS: usize = DIGIT_ZERO as usize * 1111;
+const FOUR_ZEROS: usize = meaning::DIGIT_ZERO as usize * 1111;
 
 // So many digits write no number that is too large for a usize.
 const MOST_DIGITS: usize = 9;
@@ -95,13 +90,13 @@ pub fn number_at(s: &[u8], at: usize, k: usize) -> Number
     let mut number: usize = 0;
     while i < end {
         let b = s[i];
-        if b < DIGIT_ZERO {
+        if b < meaning::DIGIT_ZERO {
             return Number::None;
         }
-        if DIGIT_NINE < b {
+        if meaning::DIGIT_NINE < b {
             return Number::None;
         }
-        number = number * 10 + (b as usize - DIGIT_ZERO as usize);
+        number = number * 10 + (b as usize - meaning::DIGIT_ZERO as usize);
         i += 1;
     }
     Number::Is(number)
@@ -113,11 +108,7 @@ pub fn number_at(s: &[u8], at: usize, k: usize) -> Number
 fn refused(no: usize, place: usize) -> Line
     ensures { λ r. ⌜ r ≡ Line.Refused (refusal no place 0) ⌝ }
 {
-    Line::Refused(Refusal {
-        no,
-        place,
-        label: 0,
-    })
+    Line::Refused(Refusal::at(no, place))
 }
 
 // The line at an offset whose length and label are read.
@@ -247,7 +238,7 @@ fn usual_byte(i: usize, b: u8) -> bool
     ensures { λ r. ⌜ (r ≡ true → i < lineLead → digit b ≡ true) ⌝ }
 {
     if i < LINE_LEAD {
-        return (DIGIT_ZERO <= b) & (b <= DIGIT_NINE);
+        return (meaning::DIGIT_ZERO <= b) & (b <= meaning::DIGIT_NINE);
     }
     (byte_low::LEAST_BYTE <= b) & (b <= USUAL_BYTE)
 }

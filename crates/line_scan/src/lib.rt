@@ -58,11 +58,7 @@ pub fn scan_from(s: &[u8], start: usize, before: usize) -> Scan
         }
         // 7, TooManyLines: "a 513th line starts"
         if SetType::LINES <= lines {
-            return Scan::Refused(Refusal {
-                no: Refusal::TOO_MANY_LINES,
-                place: at,
-                label: 0,
-            });
+            return Scan::Refused(Refusal::at(Refusal::TOO_MANY_LINES, at));
         }
         match line_read::line_at(s, at) {
             Line::Refused(r) => {

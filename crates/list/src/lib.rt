@@ -79,7 +79,7 @@ fn list_accepted(set: &[u8], shape: Shape, out: &mut [u8]) -> Made
     let need = shape.length - line_read::SUM_LINE - (shape.lines - 1) * LINE_LOSS;
     // 22, NoRoom: "output needs more than is lent; place: the need"
     if out.len() < need {
-        return Made::Refused(judge_missing::refused_at(Refusal::NO_ROOM, need));
+        return Made::Refused(Refusal::at(Refusal::NO_ROOM, need));
     }
     put_entries(set, shape.lines, out);
     byte_put::clear(&mut out[need..]);

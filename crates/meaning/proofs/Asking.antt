@@ -61,7 +61,7 @@ pub data Question : Type 0 where
 -- ---- what is answered
 
 pub data Answer : Type 0 where
-  accepted : (length lines kind : ℕ) → Answer
+  accepted : (length lines settype : ℕ) → Answer
   refusedBy : (number place label : ℕ) → Answer
   headers : List ℕ → Answer
   holds : (length : ℕ) → (buffer : List ℕ) → Answer
@@ -72,7 +72,7 @@ pub told : Refusal → Answer → Answer
 told r a = cond (eqb (r .no) 0) a (refusedBy (r .no) (r .place) (r .label))
 
 pub onJudged : Judged → Answer
-onJudged j = told (judgedRefusal j) (accepted (judgedShape j .length) (judgedShape j .lines) (judgedShape j .kind))
+onJudged j = told (judgedRefusal j) (accepted (judgedShape j .length) (judgedShape j .lines) (judgedShape j .settype))
 
 pub onIndex : Call Entry → Answer
 onIndex c = told (madeRefusal (c .answer)) (headers (map (λ (e : Entry). e .header) (take (madeCount (c .answer)) (c .buffer))))

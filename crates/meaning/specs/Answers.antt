@@ -1,8 +1,10 @@
 -- The six calls as a caller meets them: what each answers, and what the lent buffer holds afterwards. `judge` (Reading), `viewed` and `view` (Views) lend nothing to write.
 -- They determine the answer and every lent byte or entry, refusals too.
+use mathlib.Core.Bool.{cond}
 use mathlib.Core.List.{List, [], _∷_, _++_}
 use Prim.Native.Nat.{ℕ, _-_}
 use lib.ListN.{length, drop, replicate}
+use lib.Dec.{eqb}
 use Rattle.meaning.specs.declared.Refusal.{Refusal}
 use Rattle.meaning.specs.declared.Shape.{Shape}
 use Rattle.meaning.specs.declared.Entry.{Entry}
@@ -61,6 +63,10 @@ correctCall b used n c = record { answer = made (correct b used n c); buffer = b
 abbrev pub noRefusal : Refusal
 noRefusal = refusal 0 0 0
 
+-- the first of two refusals
+unfoldable pub orElse : Refusal → Refusal → Refusal
+orElse r q = cond (eqb (r .no) 0) q r
+
 abbrev pub judgedRefusal : Judged → Refusal
 judgedRefusal (Accepted x) = noRefusal
 judgedRefusal (RefusedSet r) = r
@@ -77,7 +83,7 @@ viewedRefusal (RefusedView r) = r
 -- the set's length, its lines, its type; 0, 0, 0 for a refusal
 abbrev pub judgedShape : Judged → Shape
 judgedShape (Accepted x) = x
-judgedShape (RefusedSet r) = record { length = 0; lines = 0; kind = 0 }
+judgedShape (RefusedSet r) = record { length = 0; lines = 0; settype = 0 }
 
 -- how much was made; 0 for a refusal
 abbrev pub madeCount : Made → ℕ

@@ -36,13 +36,13 @@ read s = byRules (scan s)
 -- ---- what judging answers
 
 -- the number of a set type, 0 for none
-abbrev pub kindNumber : Known → ℕ
-kindNumber (Of t) = typeNumber t
-kindNumber Nothing = 0
+abbrev pub knownNumber : Known → ℕ
+knownNumber (Of t) = typeNumber t
+knownNumber Nothing = 0
 
 -- "a read answers the set's length", and its lines and type
 abbrev pub shape : List Field → Shape
-shape fs = record { length = size fs; lines = length fs; kind = kindNumber (profile fs .setType) }
+shape fs = record { length = size fs; lines = length fs; settype = knownNumber (profile fs .setType) }
 
 abbrev pub judged : Reply Parsed → Judged
 judged (refused r) = Refused r

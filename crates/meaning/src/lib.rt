@@ -2,10 +2,60 @@
 // Each function here says in its contract which definition of specs/ it equals.
 ghost use mathlib.Core.Path.{_≡_};
 ghost use Rattle.meaning.specs.Limits.{limits, typeOf, typeNumber};
-ghost use Rattle.meaning.specs.Refusals.{numbers};
+ghost use Rattle.meaning.specs.Refusals.{numbers, refusal};
+ghost use Rattle.meaning.specs.Answers.{noRefusal};
 
-// A byte has so many values.
+// A byte has this many values.
 pub const BYTE_VALUES: usize = 256;
+
+// "Digits are 30h to 39h": the first and the last.
+pub const DIGIT_ZERO: u8 = b'0';
+
+pub const DIGIT_NINE: u8 = b'9';
+
+// ---- the labels that a rule names
+
+// Line 1 of a set, which names its type, and line 2, which has its length.
+pub const LABEL_8000: usize = 8000;
+
+pub const LABEL_8100: usize = 8100;
+
+// The version.
+pub const LABEL_9218: usize = 9218;
+
+// Required in every set; in sets about a patient; in a set of a test's results.
+pub const LABEL_3000: usize = 3000;
+
+pub const LABEL_3101: usize = 3101;
+
+pub const LABEL_3102: usize = 3102;
+
+pub const LABEL_3103: usize = 3103;
+
+pub const LABEL_8402: usize = 8402;
+
+// A file that is added: the header of a group, and its three members.
+pub const LABEL_6302: usize = 6302;
+
+pub const LABEL_6303: usize = 6303;
+
+pub const LABEL_6304: usize = 6304;
+
+pub const LABEL_6305: usize = 6305;
+
+// "Even labels 6330 to 6398 are names", the odd labels 6331 to 6399 their contents: the first of them all, and the last.
+pub const LABEL_6330: usize = 6330;
+
+pub const LABEL_6399: usize = 6399;
+
+// A test: the header of a group, the members that another one asks for, and the last of its members.
+pub const LABEL_8410: usize = 8410;
+
+pub const LABEL_8421: usize = 8421;
+
+pub const LABEL_8437: usize = 8437;
+
+pub const LABEL_8480: usize = 8480;
 
 // The five set types of GDT 2.1 that are read and written.
 pub enum SetType {
@@ -159,6 +209,24 @@ impl Refusal {
             Refusal::NO_ROOM,
         ]
     }
+
+    // No refusal.
+    pub fn none() -> Refusal
+        ensures { λ r. ⌜ r ≡ noRefusal ⌝ }
+    {
+        Refusal::at(0, 0)
+    }
+
+    // A refusal that carries no label.
+    pub fn at(no: usize, place: usize) -> Refusal
+        ensures { λ r. ⌜ r ≡ refusal no place 0 ⌝ }
+    {
+        Refusal {
+            no,
+            place,
+            label: 0,
+        }
+    }
 }
 
 // A row of a set table: a label, its header's label (0 at set level), whether it repeats, whether it is required.
@@ -205,7 +273,7 @@ pub struct FieldRow {
 pub struct Shape {
     pub length: usize,
     pub lines: usize,
-    pub kind: usize,
+    pub settype: usize,
 }
 
 // What judging a set answers.

@@ -13,7 +13,7 @@ fn two_digits(a: u8, b: u8) -> u8
 {
     if table_floats::is_digit(a) {
         if table_floats::is_digit(b) {
-            return (a - table_floats::DIGIT_ZERO) * 10 + (b - table_floats::DIGIT_ZERO);
+            return (a - meaning::DIGIT_ZERO) * 10 + (b - meaning::DIGIT_ZERO);
         }
         return NO_NUMBER;
     }

@@ -7,10 +7,6 @@ ghost use Rattle.meaning.specs.Kinds.{decimals, whole, unsigned, isFloat};
 ghost use Rattle.table_floats.specs.Floats.{floatIf, floatOf};
 
 // The bytes that the tests name.
-pub const DIGIT_ZERO: u8 = b'0';
-
-const DIGIT_NINE: u8 = b'9';
-
 const MINUS: u8 = b'-';
 
 pub const POINT: u8 = b'.';
@@ -37,10 +33,10 @@ pub fn byte_at(c: &[u8], i: usize) -> u8
 pub fn is_digit(b: u8) -> bool
     ensures { λ r. ⌜ r ≡ digit b ⌝ }
 {
-    if b < DIGIT_ZERO {
+    if b < meaning::DIGIT_ZERO {
         return false;
     }
-    b <= DIGIT_NINE
+    b <= meaning::DIGIT_NINE
 }
 
 // The bytes from `from` on are digits.

@@ -28,7 +28,7 @@ use Rattle.meaning.proofs.LineLaws.{length-render, render-split}
 use Rattle.entry_read.specs.declared.Head.{Head}
 use Rattle.entry_read.specs.declared.Head.the-variants.{Whole, Cut}
 use Rattle.entry_read.specs.Head.{entryAt}
-use Rattle.judge_missing.proofs.FirstLaws.{firstOf, Real}
+use Rattle.meaning.proofs.FirstLaws.{firstOf, Real}
 use Rattle.byte_put.specs.Places.{over}
 use Rattle.byte_put.proofs.OverLaws.{Turned, here-fits, turned, front-then-zeros}
 use Rattle.write_judge.specs.declared.Checked.{Checked}

@@ -212,10 +212,10 @@ pub digits-kept : (l : List ℕ) (at : ℕ) {label m : ℕ} → entryAt l at ≡
 unfolding entryFaults
 digits-kept l at {label} {m} e h q =
     let w = whole-back l at e in
-    let k : leb (entryLabel (drop at l)) maxLabel ≡ true = le-leb (entryLabel (drop at l)) maxLabel (omega (arith, w .kind-so)) in
+    let k : leb (entryLabel (drop at l)) maxLabel ≡ true = le-leb (entryLabel (drop at l)) maxLabel (omega (arith, w .label-so)) in
     let c : lowBytes 0 0 (entryContent (drop at l)) ≡ [] = lows-none 0 0 (entryContent (drop at l)) (digits-high (entryContent (drop at l)) (ap allDigits (sym (w .content-so)) ∙ q)) in
     let n : twoBytesAt (drop at l) 0 ≡ m = omega (arith, w .width-so) in
-    check-is l at ∙ (rw (w .whole, k, c) (ap₂ Read (sym (w .kind-so)) n))
+    check-is l at ∙ (rw (w .whole, k, c) (ap₂ Read (sym (w .label-so)) n))
 
 -- what the check tells of the pieces, with n entries before them
 abbrev pub summary : ℕ → Reply Parsed → Checked

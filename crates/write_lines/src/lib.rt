@@ -48,7 +48,7 @@ fn put_sum(total: usize, out: &mut [u8], to: usize)
         out,
         to + line_read::LENGTH_DIGITS,
         line_read::LABEL_DIGITS,
-        8100,
+        meaning::LABEL_8100,
     );
     let from = to + line_read::LINE_LEAD;
     byte_put::put_digits(out, from, line_read::SUM_DIGITS, total);
