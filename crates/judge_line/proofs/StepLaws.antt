@@ -19,7 +19,7 @@ use Rattle.meaning.specs.Groups.{namesRow}
 use Rattle.table_fields.specs.Codes.{kindNumber, kindOf, fieldCode, kindIn}
 use Rattle.meaning.proofs.RowLaws.{allRows}
 use Rattle.table_kinds.specs.Fitting.{lengthFits}
-use Rattle.table_kinds.proofs.Laws.{fits-not, fits-kind}
+use Rattle.table_kinds.proofs.FittingLaws.{fits-not, fits-kind}
 use Rattle.table_find.specs.LookUp.{Found, At, Nothing, findFrom}
 use Rattle.table_find.specs.Codes.{numberIn, underIn}
 use Rattle.table_find.proofs.Laws.{table-all, found-row, found-passes}
