@@ -110,6 +110,7 @@ none-earlier s fs rest e well alone k p l x =
     subst (λ (b : List ℕ). StartsSet b) (ap (drop (offset fs k)) e ∙ line-start fs k rest l) x in
     later-no-start fs k p l alone (start-label (getD fs k noField) _ (well k l .four-digits) y)
 
+-- Each rule is read off what is known of an accepted set: its lines stand (SetLaws), and lines without faults keep the rules (RulesExact).
 pub accepted-keeps : (s : List ℕ) (d : Parsed) → read s ≡ done d → (t : SetType) × Keeps s t (d .fields) (d .rest)
 accepted-keeps s d e = (
   r .0,

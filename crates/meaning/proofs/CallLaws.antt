@@ -1,5 +1,5 @@
 -- The demands on the calls themselves: whoever has answers and buffers that meet the contracts of `list`, `write` and `correct` has what the demands say.
--- Assumes that bytes are under 256, where a list is asked for its numbers.
+-- A law on the writer assumes that the bytes of its list are under 256.
 use mathlib.Core.Path.{_≡_, refl, sym, ap, ap₂, _∙_, subst}
 use mathlib.Core.List.{List, [], _∷_, _++_}
 use Prim.Native.Nat.{ℕ, _+_, _-_, _≤_}
@@ -45,7 +45,7 @@ front-made bs b n e = rw (← e) (take-append-seam bs (replicate (length b - len
 
 -- ---- demand 2
 
--- "Given room, an accepted set turned into a field list and written again gives identical bytes": `list` answers n into a buffer, and `write` is given its first n bytes
+-- "Given room, an accepted set turned into a field list and written again gives identical bytes": `list` makes n bytes in a buffer, and `write` is given these n bytes
 pub set-list-set : (s list₀ list₁ out₀ out₁ : List ℕ) (x : Shape) (n : ℕ) (answer : Made)
     → judge s ≡ Accepted x
     → Done n ≡ listCall s list₀ .answer → list₁ ≡ listCall s list₀ .buffer
@@ -64,7 +64,7 @@ set-list-set s list₀ list₁ out₀ out₁ x n answer j p q room u v =
       v ∙ (ap (λ (r : Reply (List ℕ)). bytesLeft r out₀) w ∙ ap (λ (k : ℕ). take (x .length) s ++ replicate (length out₀ - k) 0) m),
     )
 
--- "a list that the writer accepts is read back unchanged": `write` answers n into a buffer, whose first n bytes are an accepted set, and `list` is given them
+-- "a list that the writer accepts is read back unchanged": `write` makes n bytes in a buffer, they are an accepted set, and `list` is given them
 pub list-set-list : (l out₀ out₁ back₀ back₁ : List ℕ) (n : ℕ) (answer : Made) → Every Byte l
     → Done n ≡ writeCall l out₀ .answer → out₁ ≡ writeCall l out₀ .buffer
     → length l ≤ length back₀
@@ -80,7 +80,7 @@ list-set-list l out₀ out₁ back₀ back₁ n answer b p q room u v =
 -- ---- demand 3
 
 -- "Either may go first: both are accepted, and both orders leave the same buffer, which holds the set the writer gives for the same field list with those two contents
--- replaced": `correct` answers u for the one and v for the other, each into the buffer b by itself; then each is asked of what the other left
+-- replaced": each of the two is made in the buffer b, with answers u and v, and then in the buffer that the other left
 pub either-call : (b bx by : List ℕ) (used n m : ℕ) (c d : List ℕ) (fs : List Field) (u v : ℕ)
     → read (take used b) ≡ done (parsed fs []) → (n ≡ m → ⊥)
     → Done u ≡ correctCall b used n c .answer → bx ≡ correctCall b used n c .buffer

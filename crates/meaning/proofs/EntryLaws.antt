@@ -56,7 +56,7 @@ faults-entry f t g =
 
 -- ---- writing what was read
 
--- what "not cut" says, as facts
+-- an entry that is not cut, as facts
 pub record Entire (s : List ℕ) : Type 0 where
   pub four : 4 ≤ length s
   pub within : entryWidth s ≤ length s
@@ -90,7 +90,7 @@ byte-at (b ∷ s) (suc i) h = byte-at s i (h .1)
 pub short-back : (s : List ℕ) → Every Byte s → length (entryContent s) < 65536
 short-back s b = simp length-take (omega (arith, byte-at s 0 b, byte-at s 1 b))
 
--- what the tests of a list's entry say, as facts
+-- an entry of a list that has no fault, as facts
 record Right (s : List ℕ) : Type 0 where
   whole : Entire s
   label-most : entryLabel s ≤ maxLabel
@@ -106,7 +106,7 @@ right s e =
       high = lows-back 0 0 (entryContent s) (a .1);
     }
 
--- the bytes of an entry are bytes
+-- all numbers of an entry that was written are bytes
 every-append : (a b : List ℕ) → Every Byte a → Every Byte b → Every Byte (a ++ b)
 every-append [] b h k = k
 every-append (x ∷ a) b h k = (h .0, every-append a b (h .1) k)

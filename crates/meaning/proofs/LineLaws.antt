@@ -81,7 +81,7 @@ going-on f t h n = and-no (leb 7 (length (lineThen f t))) (and-no (labelOk (line
 
 -- ---- writing what was read
 
--- what the tests of a line say, as facts
+-- a line that has no fault, as facts
 pub record Whole (s : List ℕ) : Type 0 where
   pub least : minLineBytes ≤ sizeAt s
   pub within : sizeAt s ≤ length s
@@ -161,12 +161,12 @@ no-start-back s w e l =
     let z : true ≡ false = sym y ∙ e in
     true≢false z
 
--- ---- the form of a set's lines behind the first
+-- ---- the form of a set's lines after the first
 
 abbrev pub LaterLine : Field → Type 0
 LaterLine f = Sound f × NoStart f
 
--- of the bytes of a set nothing is asked
+-- the bytes of a set may be any numbers
 abbrev pub AnyByte : ℕ → Type 0
 AnyByte b = Unit
 

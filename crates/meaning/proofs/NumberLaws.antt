@@ -80,7 +80,7 @@ module _ (P : ℕ → Type 0) where
   numbered-pieces F p g (suc n) at s =
       numbered-cond (F .over s) _ _ tt (numbered-piece F (F .faults s) at s (λ q t. pieces F n q t) (g s) (λ q t. numbered-pieces F p g n q t))
 
-  -- a rule, and the rules behind it
+  -- a rule, and the rules after it
   given-rule : (t : Bool) (x : Fault) (r : List Fault) → P (x .no) → Given r → Given (ask t x ++ r)
   given-rule true x r p h = h
   given-rule false x r p h = (p, h)
@@ -134,7 +134,7 @@ module _ (P : ℕ → Type 0) where
       given-rule (labelIs fs 0 8000) (atLine noStart 0 0) _ (p .n8)
       (given-rule (typeKnown fs) (atLine unknownSet 0 0) (ask (labelIs fs 1 8100) (atLine noSum 1 0)) (p .n9) (given-ask (labelIs fs 1 8100) (atLine noSum 1 0) n10))
 
-  -- where the sum was put in, 10 is not given
+  -- if the sum was put in, 10 is not given
   given-start-with : RuleNumbers → (f : Field) (fs : List Field) → Given (startFaults (withSum (f ∷ fs)))
   unfolding startFaults
   given-start-with p f fs =

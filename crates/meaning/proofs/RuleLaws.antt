@@ -15,7 +15,7 @@ use Rattle.meaning.proofs.FaultLaws.{append-none, none-both, ask-none, 
 
 -- ---- one line
 
--- a content that may stand for another with the same label
+-- a content that may take the place of another with the same label
 pub record Fit (p : Profile) (g : Field) : Type 0 where
   pub right : fits p g ≡ true
   pub version-right : current p g ≡ true

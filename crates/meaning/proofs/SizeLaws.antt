@@ -35,7 +35,7 @@ size-most : (fs : List Field) → Every (λ f. Short (f .content)) fs → size f
 size-most [] h = omega arith
 size-most (f ∷ fs) h = omega (arith, h .0 .few-bytes, size-most fs (h .1))
 
--- "an accepted set has at most 512 × 69 = 35,328 bytes"
+-- 512 lines of 69 bytes
 abbrev pub mostBytes : ℕ
 mostBytes = 35328
 

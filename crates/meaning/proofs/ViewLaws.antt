@@ -68,12 +68,12 @@ sheet-lawful fs = record {
 
 -- ---- what is shown
 
--- the content that line n shows under the entries, where the set has `old`: the last entry for it counts
+-- the content that line n shows under the entries: that of the last entry for it, else `old`, the set's
 pub newest : ℕ → List Field → List ℕ → List ℕ
 newest n [] old = old
 newest n (e ∷ es) old = newest n es (cond (eqb (e .label) n) (e .content) old)
 
--- what the line shows, where this is the last entry for it
+-- what the line shows if this is the last entry for it
 abbrev shownBy : List Field → List ℕ → List ℕ → ℕ → Option Pending → List ℕ
 shownBy fs s h n o = shownBytes s h (shownPart fs n o)
 

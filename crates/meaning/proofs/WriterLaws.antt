@@ -174,7 +174,7 @@ ruled-stands (f ∷ fs) g l e =
       right = unruled all r (sum-right all (omega arith) (ruled-total all r n));
     }
 
--- what a list that the writer took is, and what it wrote
+-- what is known of a list that was written
 pub record Written (l : List ℕ) (room : ℕ) (x : List ℕ) : Type 0 where
   pub entries : List Field
   pub whole : l ≡ putAll entryForm entries []

@@ -23,7 +23,7 @@ abbrev pub allDigits : List ℕ → Bool
 allDigits [] = true
 allDigits (b ∷ bs) = digit b && allDigits bs
 
--- the number that digits write, behind those that wrote a
+-- the number that digits write after digits that wrote a
 abbrev pub numberFrom : ℕ → List ℕ → ℕ
 numberFrom a [] = a
 numberFrom a (b ∷ bs) = numberFrom (a * 10 + (b - digitZero)) bs

@@ -31,6 +31,7 @@ var = upTo 60
 abbrev pub row : ℕ → Lengths → Kind → FieldRow
 row l n k = record { label = l; least = n .least; most = n .most; kind = k }
 
+-- the rows: label, length, kind
 unfoldable pub fieldTable : List FieldRow
 fieldTable =
     row 102 (upTo 60) Alnum

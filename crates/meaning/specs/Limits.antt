@@ -13,7 +13,7 @@ use Rattle.meaning.specs.declared.SetType.the-variants.{T6300, T6301, T6
 abbrev pub maxLines : ℕ
 maxLines = 512
 
--- "999 bytes a line": the largest number that three digits write, so that no rule has to ask it (`size-most` in proofs/LineLaws)
+-- "999 bytes a line": the largest number that three digits write, so no rule has to test it (`size-most` in proofs/LineLaws)
 abbrev pub maxLineBytes : ℕ
 maxLineBytes = 999
 

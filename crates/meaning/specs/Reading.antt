@@ -29,7 +29,7 @@ abbrev pub byRules : Reply Parsed → Reply Parsed
 byRules (refused r) = refused r
 byRules (done d) = verdict (inSet (d .fields)) (setFaults (d .fields)) d
 
--- the lines of the set at the front of s and the bytes behind it, or the refusal
+-- the lines of the set at the front of s and the bytes after it, or the refusal
 unfoldable pub read : List ℕ → Reply Parsed
 read s = byRules (scan s)
 

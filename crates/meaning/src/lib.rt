@@ -8,7 +8,7 @@ ghost use Rattle.meaning.specs.Answers.{noRefusal};
 // A byte has this many values.
 pub const BYTE_VALUES: usize = 256;
 
-// "Digits are 30h to 39h": the first and the last.
+// Digits are 30h to 39h: the first and the last.
 pub const DIGIT_ZERO: u8 = b'0';
 
 pub const DIGIT_NINE: u8 = b'9';
@@ -48,7 +48,7 @@ pub const LABEL_6330: usize = 6330;
 
 pub const LABEL_6399: usize = 6399;
 
-// A test: the header of a group, the members that another one asks for, and the last of its members.
+// A test: the header of a group, the two members that are required on a condition, and the last member.
 pub const LABEL_8410: usize = 8410;
 
 pub const LABEL_8421: usize = 8421;
@@ -89,7 +89,7 @@ impl SetType {
     // A set that is written or corrected has at most this many bytes.
     pub const SET_BYTES: usize = 99_999;
 
-    // The constants are those that specs/ cite.
+    // Called by nobody: its proof says that the constants are those of specs/.
     pub fn limits() -> Limits
         ensures { λ r. ⌜ r ≡ limits ⌝ }
     {
@@ -180,7 +180,7 @@ impl Refusal {
 
     pub const NO_ROOM: usize = 22;
 
-    // The numbers are those that specs/ cite, in the paper's order.
+    // Called by nobody: its proof says that the numbers are those of specs/, in the paper's order.
     pub fn numbers() -> [usize; 22]
         ensures { λ r. ⌜ r ≡ numbers ⌝ }
     {
@@ -278,7 +278,7 @@ pub struct Shape {
 
 // What judging a set answers.
 pub enum Judged {
-    // The set at the front keeps every rule; bytes behind it were not judged.
+    // The set at the front keeps every rule; bytes after it were not judged.
     Accepted(Shape),
     // The first fault in the paper's order.
     Refused(Refusal),
@@ -286,7 +286,7 @@ pub enum Judged {
 
 // What index, list, writer and correction answer.
 pub enum Made {
-    // What was asked for stands in the lent buffer: so many entries, or so many bytes.
+    // What was asked for stands in the lent buffer: this many entries, or this many bytes.
     Done(usize),
     // Nothing was changed.
     Refused(Refusal),
