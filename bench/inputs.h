@@ -86,7 +86,7 @@ static void choose_line(struct input *input, size_t number)
     put_entry(input->sheet, &input->sheet_used, number, input->content, input->content_length);
 }
 
-/* Behind the last line: the sum, the list, and a new content of the patient's line, one byte longer than the old one. */
+/* After the last line: the sum, the list, and a new content of the patient's line, one byte longer than the old one. */
 static void finish(struct input *input)
 {
     const uint8_t *patient = line_at(input, PATIENT_LINE);

@@ -1,5 +1,5 @@
 """stream.py: cases and their stream: packing and unpacking, running a program over a stream, and printing a case for people.
-Assumes the form that harness/README.md tells: a byte for the call, numbers in 8 bytes, byte strings behind their length."""
+Assumes the form that harness/README.md gives: a byte for the call, numbers in 8 bytes, byte strings after their length."""
 import glob
 import lzma
 import os
@@ -69,7 +69,7 @@ def answers(program, stream):
 
 
 def first_difference(cases, lines, others):
-    """The place of the first case that two programs do not answer alike, or that one of them does not answer; None where there is none."""
+    """The place of the first case that two programs do not answer alike, or that one of them does not answer; None if there is none."""
     for at in range(len(cases)):
         if at >= min(len(lines), len(others)) or lines[at] != others[at]:
             return at
@@ -98,7 +98,7 @@ def entries(data) -> List[Tuple[int, int, bytes]]:
 
 
 def lines(data):
-    """Bytes cut behind each 0Ah."""
+    """Bytes cut after each 0Ah."""
     return re.findall(rb"[^\n]*\n|[^\n]+", data)
 
 

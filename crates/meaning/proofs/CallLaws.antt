@@ -1,31 +1,29 @@
 -- The demands on the calls themselves: whoever has answers and buffers that meet the contracts of `list`, `write` and `correct` has what the demands say.
 -- A law on the writer assumes that the bytes of its list are under 256.
-use mathlib.Core.Path.{_≡_, refl, sym, ap, ap₂, _∙_, subst}
-use mathlib.Core.List.{List, [], _∷_, _++_}
-use Prim.Native.Nat.{ℕ, _+_, _-_, _≤_}
+use mathlib.Core.Path.{_≡_, refl, sym, ap, ap₂, _∙_}
+use mathlib.Core.List.{List, [], _++_}
+use Prim.Native.Nat.{ℕ, _-_, _≤_}
 use native.Mathlib.Omega.{arith}
 use lib.ListN.{length, take, replicate, length-take}
 use lib.Seq.{take-append-seam}
-use Rattle.meaning.specs.declared.Refusal.{Refusal}
 use Rattle.meaning.specs.declared.Shape.{Shape}
-use Rattle.meaning.specs.declared.Judged.{Judged}
 use Rattle.meaning.specs.declared.Judged.the-variants.{Accepted}
 use Rattle.meaning.specs.declared.Made.{Made}
-use Rattle.meaning.specs.declared.Made.the-variants.{Done, Refused}
+use Rattle.meaning.specs.declared.Made.the-variants.{Done}
 use Rattle.meaning.specs.Field.{Field}
 use Rattle.meaning.specs.Refusals.{Reply, refused, done}
-use Rattle.meaning.specs.Pieces.{Parsed, parsed}
+use Rattle.meaning.specs.Pieces.{parsed}
 use Rattle.meaning.specs.Lines.{size}
 use Rattle.meaning.specs.Reading.{read, judge}
 use Rattle.meaning.specs.Lists.{list, write}
 use Rattle.meaning.specs.Corrections.{resum, correct}
-use Rattle.meaning.specs.Answers.{made, bytesLeft, Call, listCall, writeCall, correctCall}
+use Rattle.meaning.specs.Answers.{made, bytesLeft, listCall, writeCall, correctCall}
 use Rattle.meaning.proofs.Bools.{Every}
 use Rattle.meaning.proofs.EntryLaws.{Byte}
 use Rattle.meaning.proofs.LineLaws.{length-render}
 use Rattle.meaning.proofs.SetLaws.{accepted}
 use Rattle.meaning.proofs.WriterLaws.{listOf}
-use Rattle.meaning.proofs.Demands.{judge-read, list-write, write-list, write-judge, bothReplaced, OneResult, either-order}
+use Rattle.meaning.proofs.Demands.{judge-read, list-write, write-list, write-judge, bothReplaced, either-order}
 
 -- ---- a call that is done
 

@@ -1,27 +1,26 @@
 -- Corrections: exactly when one is made and what it leaves; that an accepted set stays one, with its labels and its profile; that two commute.
-use mathlib.Core.Path.{_≡_, refl, sym, ap, ap₂, _∙_, subst}
-use mathlib.Core.Bool.{Bool, true, false, cond, not, _&&_, _||_, true≢false}
+use mathlib.Core.Path.{_≡_, refl, sym, ap, _∙_}
+use mathlib.Core.Bool.{true, false, not, _&&_, true≢false}
 use mathlib.Core.List.{List, [], _∷_, _++_}
-use Prim.Native.Nat.{ℕ, zero, suc, pred, _+_, _-_, _≤_, _<_}
+use Prim.Native.Nat.{ℕ, zero, suc, pred, _+_, _-_, _≤_}
 use native.Mathlib.Omega.{arith}
-use lib.Dec.{leb, eqb}
+use lib.Dec.{leb}
 use lib.ListN.{length, take, drop, getD, set, length-append, length-set, length-replicate, replicate, List·getD-map}
 use lib.Seq.{set-comm, getD-set-other, take-at}
-use borrow.Author.Tests.{leb-true, le-leb, eqb-true, eq-eqb}
+use borrow.Author.Tests.{leb-true, le-leb, eq-eqb}
 use Rattle.meaning.specs.Limits.{maxLines, maxSetBytes}
-use Rattle.meaning.specs.Digits.{digits, number}
 use Rattle.meaning.specs.Field.{Field, field, labels, noField, labelAtLine, isNil}
-use Rattle.meaning.specs.Refusals.{Fault, atLine, ask, Reply, refused, done, thenTo, verdict, refusal, badUse, withRoom}
+use Rattle.meaning.specs.Refusals.{Fault, done, thenTo, verdict, refusal, badUse}
 use Rattle.meaning.specs.Pieces.{Parsed, parsed}
 use Rattle.meaning.specs.Lines.{lineSize, size, render, lowBytes}
-use Rattle.meaning.specs.Rules.{Profile, profile, fits, current, sumFaults, setFaults}
+use Rattle.meaning.specs.Rules.{Profile, profile, fits, sumFaults}
 use Rattle.meaning.specs.Reading.{read}
-use Rattle.meaning.specs.Lists.{withoutSum, sumField, withSum, setWithRoom}
-use Rattle.meaning.specs.Corrections.{fixed, aloneFaults, lineNumberFaults, changeFaults, inChange, recontent, resum, changed, correctLines, correct}
+use Rattle.meaning.specs.Lists.{sumField, setWithRoom}
+use Rattle.meaning.specs.Corrections.{fixed, aloneFaults, changeFaults, inChange, recontent, resum, changed, correctLines, correct}
 use Rattle.meaning.specs.Answers.{bytesLeft}
-use Rattle.meaning.proofs.Bools.{nil-is, and-left, and-right, and-both, not-true, Every, every-set, every-at}
-use Rattle.meaning.proofs.DigitLaws.{number-digits, length-digits, digits-all}
-use Rattle.meaning.proofs.FaultLaws.{ask-none, ask-last, append-none, none-both, High, lows-back, lows-none, done-same, cond-done, thenTo-done, verdict-done, withRoom-done}
+use Rattle.meaning.proofs.Bools.{nil-is, and-left, and-right, not-true, Every, every-set, every-at}
+use Rattle.meaning.proofs.DigitLaws.{number-digits}
+use Rattle.meaning.proofs.FaultLaws.{ask-none, ask-last, append-none, High, lows-back, lows-none, done-same, cond-done, thenTo-done, verdict-done, withRoom-done}
 use Rattle.meaning.proofs.LineLaws.{Sound, NoStart, length-render}
 use Rattle.meaning.proofs.FieldLaws.{fits-short, fits-sum}
 use Rattle.meaning.proofs.RuleLaws.{Fit, not-version, labels-keep, profile-keep, Ruled, ruled, unruled, ruled-keep, begins-of}

@@ -1,15 +1,14 @@
 -- The three demands, on the definitions: what each public function's contract then gives to whoever calls it.
 -- A law on the writer assumes that the bytes of its list are under 256.
 use mathlib.Core.Path.{_≡_, refl, sym, ap, ap₂, _∙_, subst}
-use mathlib.Core.List.{List, [], _∷_, _++_}
-use Prim.Native.Nat.{ℕ, pred, _+_, _-_, _≤_}
+use mathlib.Core.List.{List, []}
+use Prim.Native.Nat.{ℕ, pred, _≤_}
 use native.Mathlib.Omega.{arith}
-use lib.ListN.{length, take, replicate}
+use lib.ListN.{length, take}
 use Rattle.meaning.specs.declared.Refusal.{Refusal}
 use Rattle.meaning.specs.declared.Shape.{Shape}
 use Rattle.meaning.specs.declared.Entry.{Entry}
-use Rattle.meaning.specs.declared.Judged.{Judged}
-use Rattle.meaning.specs.declared.Judged.the-variants.{Accepted, Refused}
+use Rattle.meaning.specs.declared.Judged.the-variants.{Accepted}
 use Rattle.meaning.specs.Field.{Field}
 use Rattle.meaning.specs.Refusals.{Reply, refused, done}
 use Rattle.meaning.specs.Pieces.{Parsed, parsed, putAll}

@@ -1,17 +1,17 @@
 -- Reading a line that was written, and writing a line that was read; the laws of the form of lines.
 use mathlib.Core.Path.{_≡_, refl, sym, ap, ap₂, _∙_}
-use mathlib.Core.Bool.{Bool, true, false, _&&_, _||_, true≢false}
+use mathlib.Core.Bool.{true, false, true≢false}
 use mathlib.Core.List.{List, [], _∷_, _++_, append-assoc}
-use Prim.Native.Nat.{ℕ, zero, suc, _+_, _-_, _*_, _/_, _%_, _^_, _≤_, _<_}
+use Prim.Native.Nat.{ℕ, suc, _+_, _-_, _≤_, _<_}
 use native.Mathlib.Omega.{arith}
 use lib.Dec.{leb, eqb}
 use lib.ListN.{length, take, drop, getD, length-append, length-take, length-drop, take-append-drop}
 use lib.Seq.{take-at, drop-at, getD-drop, drop-cons, drop-drop, getD-append-add}
 use borrow.Author.Tests.{leb-true, le-leb, eqb-true, eq-eqb, ne-eqb}
 use Rattle.meaning.specs.Limits.{maxLineBytes}
-use Rattle.meaning.specs.Digits.{digits, digit, allDigits, numberFrom, number}
+use Rattle.meaning.specs.Digits.{digits, allDigits}
 use Rattle.meaning.specs.Field.{Field, isNil}
-use Rattle.meaning.specs.Lines.{lineSize, lineThen, size, render, sizeAt, labelAt, contentAt, fieldAt, lineFaults, lengthOk, wholeOk, endOk, labelOk, startsSet, setOver, minLineBytes, lineForm}
+use Rattle.meaning.specs.Lines.{lineSize, lineThen, size, render, sizeAt, labelAt, contentAt, fieldAt, lineFaults, lengthOk, wholeOk, endOk, labelOk, setOver, minLineBytes, lineForm}
 use Rattle.meaning.proofs.Bools.{and-left, and-right, and-both, and-no, or-right}
 use Rattle.meaning.proofs.DigitLaws.{number-lt, number-digits, digits-number, digits-all}
 use Rattle.meaning.proofs.FaultLaws.{ask-none, High, lows-none, lows-back}

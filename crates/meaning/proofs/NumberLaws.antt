@@ -5,13 +5,12 @@ use mathlib.Core.List.{List, [], _∷_, _++_}
 use Prim.Native.Nat.{ℕ, zero, suc, pred, _+_, _-_}
 use lib.Dec.{leb, eqb}
 use lib.ListN.{length, take, drop}
-use Rattle.meaning.specs.declared.Refusal.{Refusal}
 use Rattle.meaning.specs.declared.Row.{Row}
 use Rattle.meaning.specs.Limits.{maxLines, maxEntries, maxSetBytes}
 use Rattle.meaning.specs.Digits.{number}
 use Rattle.meaning.specs.Field.{Field, field, elem, isNil, labels, labelAtLine, contentAtLine}
 use Rattle.meaning.specs.Refusals.{Spot, Fault, atLine, atByte, ask, Reply, refused, done, thenTo, verdict, withRoom, empty, badLength, cutLine, badEnd, badLabel, badByte, tooManyLines, noStart, unknownSet, noSum, notInSet, stray, repeated, badContent, otherVersion, missing, badSum, badUse, noSuchLine, fixedLine, badList, noRoom}
-use Rattle.meaning.specs.Pieces.{Form, Parsed, parsed, andBefore, pieceThen, pieces, putAll}
+use Rattle.meaning.specs.Pieces.{Form, Parsed, andBefore, pieceThen, pieces, putAll}
 use Rattle.meaning.specs.Lines.{leastByte, lowBytes, contentAt, lineFaults, lineForm, lengthOk, wholeOk, endOk, labelOk, size, render}
 use Rattle.meaning.specs.Entries.{entryOk, entryWhole, entryLabel, entryContent, entryField, entryWidth, entryFaults, entryForm, listSize}
 use Rattle.meaning.specs.Groups.{State, first, Role, unknown, strayed, atSetLevel, member, role, next, after, labelFaults, noHeader}

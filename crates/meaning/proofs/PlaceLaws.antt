@@ -1,17 +1,16 @@
 -- Places: at a line's offset stands the line, and after its lead the content. So an index entry points at its content.
 use mathlib.Core.Path.{_≡_, refl, sym, ap, _∙_}
-use mathlib.Core.List.{List, [], _∷_, _++_}
+use mathlib.Core.List.{List, [], _∷_}
 use Prim.Native.Nat.{ℕ, zero, suc, _+_, _≤_, _<_}
 use native.Mathlib.Omega.{arith}
-use lib.ListN.{length, take, drop, getD, length-append}
+use lib.ListN.{length, take, drop, getD}
 use lib.Seq.{take-at, drop-at, drop-drop}
 use Rattle.meaning.specs.declared.Entry.{Entry}
-use Rattle.meaning.specs.declared.Row.{Row}
 use Rattle.meaning.specs.Field.{Field, noField, contentAtLine}
-use Rattle.meaning.specs.Lines.{lineSize, lineLead, lineThen, size, offset, render}
+use Rattle.meaning.specs.Lines.{lineSize, lineLead, lineThen, offset, render}
 use Rattle.meaning.specs.Groups.{State, next}
 use Rattle.meaning.specs.Rules.{Profile, roleIn}
-use Rattle.meaning.specs.Index.{headerLine, entriesFrom}
+use Rattle.meaning.specs.Index.{entriesFrom}
 use Rattle.meaning.proofs.LineLaws.{length-line, render-split}
 
 -- after a line

@@ -1,7 +1,7 @@
 -- The six calls as a caller sees them: what each answers, and what the lent buffer holds afterwards. `judge` (Reading), `viewed` and `view` (Views) are lent nothing to write to.
 -- They determine the answer and every lent byte or entry, refusals too.
 use mathlib.Core.Bool.{cond}
-use mathlib.Core.List.{List, [], _∷_, _++_}
+use mathlib.Core.List.{List, _++_}
 use Prim.Native.Nat.{ℕ, _-_}
 use lib.ListN.{length, drop, replicate}
 use lib.Dec.{eqb}

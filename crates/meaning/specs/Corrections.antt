@@ -1,13 +1,13 @@
 -- "Corrections": a new content for one line of a set in its buffer.
 use mathlib.Core.Bool.{Bool, cond, not, _&&_, _||_}
-use mathlib.Core.List.{List, [], _∷_, _++_}
-use Prim.Native.Nat.{ℕ, pred, _+_}
+use mathlib.Core.List.{List, _++_}
+use Prim.Native.Nat.{ℕ, pred}
 use lib.ListN.{length, take, set}
 use lib.Dec.{leb, eqb}
 use Rattle.meaning.specs.Field.{Field, field, labelAtLine, isNil}
-use Rattle.meaning.specs.Refusals.{Spot, start, byte, Fault, atLine, ask, Reply, refused, done, thenTo, refusal, verdict, badUse, noSuchLine, fixedLine, badContent}
+use Rattle.meaning.specs.Refusals.{Spot, start, byte, Fault, atLine, ask, Reply, refused, thenTo, refusal, verdict, badUse, noSuchLine, fixedLine, badContent}
 use Rattle.meaning.specs.Pieces.{Parsed}
-use Rattle.meaning.specs.Lines.{size, offset, lowBytes}
+use Rattle.meaning.specs.Lines.{offset, lowBytes}
 use Rattle.meaning.specs.Rules.{profile, fits}
 use Rattle.meaning.specs.Reading.{read}
 use Rattle.meaning.specs.Lists.{withoutSum, withSum, setWithRoom}

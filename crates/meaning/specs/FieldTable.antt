@@ -1,6 +1,6 @@
 -- The field table (chapter 4 of the QMS description), row by row in the order printed there, and whether a content fits its field.
 -- 6330 and 6331 stand for their ranges, as in Tables.
-use mathlib.Core.Bool.{Bool, true, false, cond, _&&_}
+use mathlib.Core.Bool.{Bool, cond, _&&_}
 use mathlib.Core.List.{List, [], _∷_}
 use Prim.Native.Nat.{ℕ}
 use lib.ListN.{length}

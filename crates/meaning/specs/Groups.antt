@@ -1,6 +1,6 @@
 -- "Groups": what each line is in its set, by the labels before it: a line at set level, a member of the open group, or neither.
 -- One state serves 11, 12 and 13, the missing labels (Missing) and the headers of the index (Index).
-use mathlib.Core.Bool.{Bool, true, false, cond, not, _||_}
+use mathlib.Core.Bool.{Bool, cond, not, _||_}
 use mathlib.Core.List.{List, [], _∷_}
 use mathlib.Core.Option.{Option, none, some}
 use Prim.Native.Nat.{ℕ, _+_}

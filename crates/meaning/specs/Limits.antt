@@ -1,6 +1,6 @@
 -- "Limits of a set are named once, with the set's own type", and its five types by number.
 -- `SetType::limits`, `SetType::of` and `SetType::number` are proved to say the same as these definitions.
-use mathlib.Core.Bool.{Bool, cond}
+use mathlib.Core.Bool.{cond}
 use Prim.Native.Nat.{ℕ, _-_}
 use lib.Dec.{eqb}
 use Rattle.meaning.specs.declared.Limits.{Limits}

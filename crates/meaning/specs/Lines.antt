@@ -1,5 +1,5 @@
 -- "Line and set": how a line is written, what is wrong with the line at the front of some bytes (2 to 6), where a set ends.
-use mathlib.Core.Bool.{Bool, true, false, _&&_, _||_}
+use mathlib.Core.Bool.{Bool, _&&_, _||_}
 use mathlib.Core.List.{List, [], _∷_, _++_}
 use Prim.Native.Nat.{ℕ, suc, _+_, _-_}
 use lib.ListN.{length, take, drop, getD}

@@ -1,14 +1,14 @@
 -- "Field list": turning a set into a list, and writing a set from a list.
-use mathlib.Core.Bool.{Bool, cond, _&&_}
+use mathlib.Core.Bool.{cond, _&&_}
 use mathlib.Core.List.{List, [], _∷_}
 use Prim.Native.Nat.{ℕ, pred, _+_}
-use lib.ListN.{length, take}
+use lib.ListN.{take}
 use lib.Dec.{leb}
 use Rattle.meaning.specs.Limits.{maxEntries, maxSetBytes}
 use Rattle.meaning.specs.Digits.{digits}
 use Rattle.meaning.specs.Field.{Field, field, isNil}
-use Rattle.meaning.specs.Refusals.{Spot, behind, Reply, refused, done, thenTo, refusal, verdict, withRoom, empty}
-use Rattle.meaning.specs.Pieces.{Parsed, pieces, putAll}
+use Rattle.meaning.specs.Refusals.{Spot, behind, Reply, refused, thenTo, refusal, verdict, withRoom, empty}
+use Rattle.meaning.specs.Pieces.{pieces, putAll}
 use Rattle.meaning.specs.Lines.{lineLead, lineEnd, lineSize, size, render}
 use Rattle.meaning.specs.Entries.{entryForm, entryLead, listSize}
 use Rattle.meaning.specs.Rules.{ruleFaults}

@@ -1,9 +1,8 @@
 -- Judging a set: "first 1; then all lines, in order, each by 7, 2, 3, 4, 5, 6; then" the rules (Rules). "Bytes after the set are not judged; a read answers the set's length."
-use mathlib.Core.Bool.{Bool, cond}
-use mathlib.Core.List.{List, [], _∷_}
+use mathlib.Core.Bool.{cond}
+use mathlib.Core.List.{List}
 use Prim.Native.Nat.{ℕ, _+_, _-_}
 use lib.ListN.{length}
-use Rattle.meaning.specs.declared.Refusal.{Refusal}
 use Rattle.meaning.specs.declared.Shape.{Shape}
 use Rattle.meaning.specs.declared.Judged.{Judged}
 use Rattle.meaning.specs.declared.Judged.the-variants.{Accepted, Refused}
@@ -12,7 +11,7 @@ use Rattle.meaning.specs.declared.Known.the-variants.{Of, Nothing}
 use Rattle.meaning.specs.Limits.{maxLines, typeNumber}
 use Rattle.meaning.specs.Field.{Field, isNil}
 use Rattle.meaning.specs.Refusals.{Spot, behind, Reply, refused, done, refusal, verdict, empty}
-use Rattle.meaning.specs.Pieces.{Parsed, parsed, pieceThen, pieces}
+use Rattle.meaning.specs.Pieces.{Parsed, pieceThen, pieces}
 use Rattle.meaning.specs.Lines.{lineForm, lineFaults, lineLead, size, offset}
 use Rattle.meaning.specs.Rules.{profile, setFaults}
 
