@@ -1,5 +1,5 @@
-/* test.c: tests of gdt.c: the ten examples of the rules paper, the index that its gdtlist example prints, and cases from its
-   decided open points (B1 to B49). Each checks the reply and every byte of the lent buffers, which stand between guard bytes.
+/* test.c: tests of gdt.c: the ten examples of the rules paper, the index that its gdtlist example prints, and cases of
+   docs/DECISIONS.md (B1 to B44). Each checks the reply and every byte of the lent buffers, which stand between guard bytes.
    Prints `ok - NAME` or `FAILED - NAME` for each, and answers 1 if any failed.
 
    Sets, lists and sheets are given as text: lines or entries parted by `|`, each four digits (label, or line number in a sheet)
@@ -74,12 +74,12 @@ static unsigned number(const char *text)
 /* Adds one entry of a list or a sheet. */
 static void add_entry(struct bytes *b, const char *line, size_t n)
 {
-    unsigned kind = number(line);
+    unsigned label = number(line);
     uint8_t head[4];
     head[0] = (uint8_t)((n - 4) & 255);
     head[1] = (uint8_t)((n - 4) >> 8);
-    head[2] = (uint8_t)(kind & 255);
-    head[3] = (uint8_t)(kind >> 8);
+    head[2] = (uint8_t)(label & 255);
+    head[3] = (uint8_t)(label >> 8);
     add(b, head, 4);
     add(b, line + 4, n - 4);
 }
@@ -276,7 +276,7 @@ static int refused_by_all(const struct bytes *set, struct reply want)
         & corrects(set, set->n + 20, set->n, 1, "x", want, NULL) & views(set, &sheet, 1, want);
 }
 
-/* The list of an accepted set is written as that set again. Bytes behind the set are not part of it. */
+/* The list of an accepted set is written as that set again. Bytes after the set are not part of it. */
 static int comes_back(const struct bytes *set, size_t length)
 {
     static struct bytes list, front;
@@ -401,7 +401,7 @@ static void test_long_sets(void)
 
 /* ---- Contents -------------------------------------------------------------------------------------------------------------- */
 
-/* Contents of one label, added to `lines`; those before the empty text are accepted, those behind it refused by `no`. */
+/* Contents of one label, added to `lines`; those before the empty text are accepted, those after it refused by `no`. */
 static const struct content_case {
     const char *name, *lines, *label;
     size_t no;
