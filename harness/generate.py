@@ -34,18 +34,18 @@ def fields_for(r, faults):
         most = sets.MOST_LINES - any(no in ADDING for no in faults)
         lines = r.choice((most, most - 1, r.randint(MANY_LINES + 1, most)))
         return 6310, sets.accepted(r, 6310, lines, short=r.random() < 0.9)
-    settype = 6310 if 12 in faults else r.choice((6310, *SET_TABLES))
-    return settype, sets.accepted(r, settype, r.choice((0, 8, 14, r.randint(5, 40))), short=r.random() < 0.5)
+    set_type = 6310 if 12 in faults else r.choice((6310, *SET_TABLES))
+    return set_type, sets.accepted(r, set_type, r.choice((0, 8, 14, r.randint(5, 40))), short=r.random() < 0.5)
 
 
 def set_with(r, faults):
     """The lines of a set that has these faults; one that is accepted if there are none."""
     if 1 in faults:
         return []
-    settype, fields = fields_for(r, faults)
+    set_type, fields = fields_for(r, faults)
     for no in reversed(faults):
         if no in sets.FIELD_FAULTS and len(fields) > 2:
-            sets.FIELD_FAULTS[no](r, settype, fields, 2)
+            sets.FIELD_FAULTS[no](r, set_type, fields, 2)
     lines = sets.lines_of(fields)
     if faults and all(no in FOUND_FIRST for no in faults) and r.random() < FAR:
         lines = sets.far(r, lines, sets.MOST_LINES if 7 in faults else r.randint(70, sets.MOST_LINES - 1))
@@ -62,11 +62,11 @@ def list_with(r, faults):
     """The entries of a list that has these faults, and what the writer would need for it."""
     if 1 in faults:
         return [], 0
-    settype, fields = fields_for(r, faults)
+    set_type, fields = fields_for(r, faults)
     fields = [field for field in fields if field[0] != 8100]
     for no in reversed(faults):
         if no in sets.FIELD_FAULTS and len(fields) > 1:
-            sets.FIELD_FAULTS[no](r, settype, fields, 1)
+            sets.FIELD_FAULTS[no](r, set_type, fields, 1)
     found = sets.entries_of(fields)
     need = sum(map(len, found)) + 5 * len(found) + 14
     if faults and all(no in (6, 7, 21) for no in faults) and r.random() < FAR:
@@ -264,11 +264,11 @@ def cases(seed, count, calls):
                 yield case, None
 
 
-def plain_fields(settype, leave_out):
+def plain_fields(set_type, leave_out):
     """The required fields of a set, without one of them."""
     r = random.Random(STORED_SEED)
-    needed = [(label, sets.fitting(r, label, short=True)) for label in marked(SET_TABLES[settype], "!") if label not in (8000, 8100, leave_out)]
-    return [(8000, b"%d" % settype), (8100, None)] + needed
+    needed = [(label, sets.fitting(r, label, short=True)) for label in marked(SET_TABLES[set_type], "!") if label not in (8000, 8100, leave_out)]
+    return [(8000, b"%d" % set_type), (8100, None)] + needed
 
 
 def judged(fields):
@@ -279,12 +279,12 @@ def row_cases():
     """For judge: every label in every set type, once and twice; every row of the field table with the contents at the edges of its length and kind."""
     r = random.Random(STORED_SEED)
     headers = {**sets.MEMBER_OF, **{name + 1: name for name in sets.NAMES}}
-    for settype in SET_TABLES:
+    for set_type in SET_TABLES:
         for label in sorted({*FIELDS, 101, 8412, 6306, 6329, 6400, 9999} - {8000}):
             field = (label, sets.fitting(r, label) if label in FIELDS else b"7")
-            before = [(headers[label], b"x")] if label in headers and settype == 6310 else []
-            yield judged(plain_fields(settype, label) + [field])
-            yield judged(plain_fields(settype, label) + before + [field, field])
+            before = [(headers[label], b"x")] if label in headers and set_type == 6310 else []
+            yield judged(plain_fields(set_type, label) + [field])
+            yield judged(plain_fields(set_type, label) + before + [field, field])
     for label in sorted(set(FIELDS) - {8000, 8100} - set(range(6332, 6398))):
         before = [(headers[label], b"x")] if label in headers else []
         for content in sets.fitting_edges(r, label) + sets.unfitting_lines(r, label):
@@ -295,9 +295,9 @@ def row_cases():
 
 def again_cases():
     """For the writer: 8000 and 8100 again, in every set type."""
-    for settype in SET_TABLES:
-        for again in ((8000, b"%d" % settype), (8100, b"00051")):
-            yield Case("w", {"room": 200, "list": b"".join(sets.entries_of(plain_fields(settype, None) + [again]))})
+    for set_type in SET_TABLES:
+        for again in ((8000, b"%d" % set_type), (8100, b"00051")):
+            yield Case("w", {"room": 200, "list": b"".join(sets.entries_of(plain_fields(set_type, None) + [again]))})
 
 
 # ---- What a stream meets ----------------------------------------------------------------------------------------------------------------

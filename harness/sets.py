@@ -159,15 +159,15 @@ def block(r):
     return [r.choice(marked(SET_TABLES[6310], "+"))]
 
 
-def accepted(r, settype, lines=0, short=False):
+def accepted(r, set_type, lines=0, short=False):
     """The fields of an accepted set of this type; a 6310 set has this many lines if its single fields leave room for them."""
-    table = SET_TABLES[settype]
+    table = SET_TABLES[set_type]
     chance = r.choice((0, 0.3, 0.6, 1))
     needed = [label for label in marked(table, "!") if label not in (8000, 8100)]
     optional = [label for label in labels(table) if label not in marked(table, "!") + marked(table, "+") and r.random() < chance]
     blocks = [[label] for label in needed + optional]
     left = lines - 2 - len(blocks)
-    while settype == 6310 and left > 0:
+    while set_type == 6310 and left > 0:
         more = block(r)
         if len(more) > left:
             more = [r.choice((TEST, 6228))]
@@ -175,7 +175,7 @@ def accepted(r, settype, lines=0, short=False):
         left -= len(more)
     r.shuffle(blocks)
     body = [(label, fitting(r, label, short)) for more in blocks for label in more]
-    return [(8000, b"%d" % settype), (8100, None)] + body
+    return [(8000, b"%d" % set_type), (8100, None)] + body
 
 
 # ---- Lines and entries -----------------------------------------------------------------------------------------------------------
@@ -202,7 +202,7 @@ def entries_of(fields):
 # ---- Faults in the fields, by number. `head` is how many fields stand in front and keep their places: 2 in a set, 1 in a list -----
 
 
-def no_start(r, _settype, fields, head):
+def no_start(r, _set_type, fields, head):
     first = fields[0]
     way = r.randrange(3)
     if way == 0:
@@ -213,12 +213,12 @@ def no_start(r, _settype, fields, head):
         fields.insert(0, fields.pop(r.randrange(head, len(fields))))
 
 
-def unknown_set(r, _settype, fields, head):
+def unknown_set(r, _set_type, fields, head):
     names = [b"6303", b"6309", b"6312", b"6320", b"6299", b"7310", b"0310", b"630", b"63000", b"6310 ", b"631o", b"abcd", b"8000", b"6", b"\xb663\xff"]
     fields[0] = (8000, r.choice(names + [b""] * (head == 1)))
 
 
-def no_sum(r, _settype, fields, _head):
+def no_sum(r, _set_type, fields, _head):
     way = r.randrange(4)
     if way == 0:
         del fields[1:]
@@ -230,9 +230,9 @@ def no_sum(r, _settype, fields, _head):
         fields[1] = (r.choice((8101, 8001, 3000, 810, 0)), b"00051")
 
 
-def not_in_set(r, settype, fields, head):
+def not_in_set(r, set_type, fields, head):
     near = [0, 1, 101, 104, 3001, 3109, 3111, 3624, 6202, 6306, 6329, 6400, 8001, 8101, 8401, 8409, 8412, 8433, 8479, 8481, 8991, 9205, 9219, 9999]
-    label = r.choice(sorted((set(near) | known(6310) | {r.randrange(10000)}) - known(settype)))
+    label = r.choice(sorted((set(near) | known(6310) | {r.randrange(10000)}) - known(set_type)))
     fields.insert(r.randint(head, len(fields)), (label, fitting(r, label) if label in FIELDS else prose(r, 5)))
 
 
@@ -248,7 +248,7 @@ def open_headers(fields):
     return found
 
 
-def stray(r, _settype, fields, head):
+def stray(r, _set_type, fields, head):
     places = range(head, len(fields) + 1)
     if r.random() < 0.6:
         label = r.choice(list(MEMBER_OF))
@@ -263,14 +263,14 @@ def stray(r, _settype, fields, head):
     fields.insert(r.choice(r.choice((places, likely or places))), (label, either(r, label)))
 
 
-def repeated(r, settype, fields, head):
-    single = {label for label in labels(SET_TABLES[settype]) if label not in marked(SET_TABLES[settype], "+")} - {8000}
+def repeated(r, set_type, fields, head):
+    single = {label for label in labels(SET_TABLES[set_type]) if label not in marked(SET_TABLES[set_type], "+")} - {8000}
     headers = open_headers(fields)
     in_set, in_groups = [], []
     for at, (label, _) in enumerate(fields):
         if label in single:
             in_set.append((label, r.randint(max(at + 1, head), len(fields))))
-        elif settype == 6310 and label in MEMBER_OF and label not in REPEATED_MEMBERS and headers[at + 1]:
+        elif set_type == 6310 and label in MEMBER_OF and label not in REPEATED_MEMBERS and headers[at + 1]:
             end = at + 1
             while end < len(fields) and MEMBER_OF.get(fields[end][0]) == headers[at + 1]:
                 end += 1
@@ -281,23 +281,23 @@ def repeated(r, settype, fields, head):
     fields.insert(at, (label, either(r, label)))
 
 
-def bad_content(r, _settype, fields, head):
+def bad_content(r, _set_type, fields, head):
     at = r.randrange(1, len(fields))
     label = fields[at][0]
     fields[at] = (label, unfitting(r, label) if head == 1 else r.choice(unfitting_lines(r, label)))
 
 
-def other_version(r, _settype, fields, _head):
+def other_version(r, _set_type, fields, _head):
     for at, (label, _) in enumerate(fields):
         if label == 9218:
             fields[at] = (label, r.choice((b"02.00", b"01.00", b"02.11", b"03.10", b"99.99", b"12.10", b"02.20", b"00.00")))
 
 
-def missing(r, settype, fields, head):
+def missing(r, set_type, fields, head):
     """Takes one to three required fields away."""
     for _ in range(r.choice((1, 1, 2, 3))):
-        places = [at for at in range(head, len(fields)) if fields[at][0] in marked(SET_TABLES[settype], "!")]
-        if settype == 6310 and r.random() < 0.75:
+        places = [at for at in range(head, len(fields)) if fields[at][0] in marked(SET_TABLES[set_type], "!")]
+        if set_type == 6310 and r.random() < 0.75:
             inner = set(marked(GROUPS[ARCHIVE], "!")) | {name + 1 for name in NAMES} | set(NEEDS.values())
             places = [at for at in range(head, len(fields)) if fields[at][0] in inner and needed_in_group(fields, at)] or places
         if places:
@@ -317,7 +317,7 @@ def needed_in_group(fields, at):
     return any(NEEDS.get(other) == label for other, _ in fields[start:end])
 
 
-def bad_sum(r, _settype, fields, _head):
+def bad_sum(r, _set_type, fields, _head):
     right = sum(map(len, lines_of(fields)))
     wrong = {right - 1, right + 1, right + 9, right - 14, right - 2 * len(fields), right + 10000, right ^ 1, 0, 99999, r.randrange(100000)}
     fields[1] = (8100, b"%05d" % r.choice([value for value in wrong if value != right and 0 <= value <= 99999]))

@@ -88,11 +88,11 @@ def stored():
 
 
 def entries(data) -> List[Tuple[int, int, bytes]]:
-    """The entries of a list or sheet: place, kind and content; a cut one has what is left of it."""
+    """The entries of a list or sheet: place, label (in a sheet the number of a line) and content; a cut one has what is left of it."""
     found, at = [], 0
     while at < len(data):
-        length, kind = struct.unpack("<HH", (data[at : at + 4] + bytes(4))[:4])
-        found.append((at, kind, data[at + 4 : at + 4 + length]))
+        length, label = struct.unpack("<HH", (data[at : at + 4] + bytes(4))[:4])
+        found.append((at, label, data[at + 4 : at + 4 + length]))
         at += 4 + length
     return found
 
@@ -119,7 +119,7 @@ def told(case):
             continue
         out.append("%-7s %d bytes" % (arg, len(value)))
         if arg in ("list", "sheet"):
-            out += ["%7d  %5d %s" % (at, kind, text(content)) for at, kind, content in entries(value)]
+            out += ["%7d  %5d %s" % (at, label, text(content)) for at, label, content in entries(value)]
         elif arg == "content":
             out.append("         " + text(value))
         else:

@@ -20,7 +20,7 @@ enum {
     SUM_LINE = 14,                /* the length of line 2 */
     SUM_DIGITS = 20,              /* the place of the digits of 8100: line 1 has 13 bytes */
     SUM_WIDTH = 5,
-    ENTRY_HEAD = 4,               /* content length and kind of a list entry */
+    ENTRY_HEAD = 4,               /* content length and label of a list entry */
     ENTRY_BYTES = ENTRY_HEAD + 65535
 };
 
@@ -848,7 +848,7 @@ struct gdt_made gdt_write(const uint8_t *list, size_t list_length, uint8_t *out,
 }
 
 /* "Corrections": 18 (used length), the set's own refusals, 18 (second set), 19, 20, 6, 14, 22. Then the tail moves, 0Dh 0Ah of the
-   line included, and the content, the line's length and 8100 are written; the line stands after 8100. */
+   line included, and the content, the line's length and 8100 are written; 8000 and 8100 are fixed, so the line stands after 8100. */
 struct gdt_made gdt_correct(uint8_t *buffer, size_t room, size_t used, size_t line, const uint8_t *content, size_t content_length)
 {
     struct lines lines;

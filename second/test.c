@@ -74,12 +74,12 @@ static unsigned number(const char *text)
 /* Adds one entry of a list or a sheet. */
 static void add_entry(struct bytes *b, const char *line, size_t n)
 {
-    unsigned kind = number(line);
+    unsigned label = number(line);
     uint8_t head[4];
     head[0] = (uint8_t)((n - 4) & 255);
     head[1] = (uint8_t)((n - 4) >> 8);
-    head[2] = (uint8_t)(kind & 255);
-    head[3] = (uint8_t)(kind >> 8);
+    head[2] = (uint8_t)(label & 255);
+    head[3] = (uint8_t)(label >> 8);
     add(b, head, 4);
     add(b, line + 4, n - 4);
 }

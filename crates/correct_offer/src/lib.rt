@@ -46,11 +46,11 @@ pub fn line_after(set: &[u8], before: usize) -> OneLine
         if length == 0 {
             return no_line();
         }
-        at += length + line_read::LINE_FRAME;
+        at += length + meaning::LINE_FRAME;
         left -= 1;
     }
     let label = line_read::told_label(set, at);
-    let size = line_read::told_length(set, at) + line_read::LINE_FRAME;
+    let size = line_read::told_length(set, at) + meaning::LINE_FRAME;
     OneLine { label, at, size }
 }
 

@@ -5,12 +5,8 @@ ghost use Prim.Native.Nat.{_+_, _*_, _≤_};
 ghost use lib.ListN.{length};
 ghost use Rattle.meaning.specs.Entries.{byteValues, twoBytesAt};
 ghost use Rattle.entry_read.specs.Head.{entryAt, headsEnd};
-
-// The bytes of a length or a label.
-pub const NUMBER_BYTES: usize = 2;
-
-// The bytes before a content.
-pub const ENTRY_LEAD: usize = NUMBER_BYTES + NUMBER_BYTES;
+use meaning::ENTRY_LEAD;
+use meaning::NUMBER_BYTES;
 
 // What the head of an entry tells.
 pub enum Head {

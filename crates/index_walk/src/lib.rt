@@ -117,10 +117,10 @@ pub fn next_entry(set: &[u8], walk: Walk) -> Next
     ensures { λ r. ⌜ r ≡ nextEntry (now (set .entry)) walk ⌝ }
 {
     let at = walk.at;
-    if set.len() < line_read::LINE_LEAD {
+    if set.len() < meaning::LINE_LEAD {
         return no_line();
     }
-    if set.len() - line_read::LINE_LEAD < at {
+    if set.len() - meaning::LINE_LEAD < at {
         return no_line();
     }
     let length = line_read::told_length(set, at);
@@ -131,12 +131,12 @@ pub fn next_entry(set: &[u8], walk: Walk) -> Next
     Next {
         entry: Entry {
             label,
-            place: at + line_read::LINE_LEAD,
+            place: at + meaning::LINE_LEAD,
             length,
             header,
         },
         walk: Walk {
-            at: at + (length + line_read::LINE_FRAME),
+            at: at + (length + meaning::LINE_FRAME),
             lines,
             header: last,
         },

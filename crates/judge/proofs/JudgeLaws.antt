@@ -30,7 +30,7 @@ use Rattle.meaning.proofs.FieldLaws.{sum-fits}
 use Rattle.meaning.proofs.SetLaws.{scanned, second-fits, later-sound}
 use Rattle.line_read.specs.declared.Number.the-variants.{Is}
 use Rattle.line_read.specs.Number.{numberAt}
-use Rattle.line_read.proofs.Bridge.{asNumber, number-is, read-line}
+use Rattle.line_read.proofs.Bridge.{asNumber, number-is, read-line, reads-content, reads-on}
 use Rattle.line_scan.proofs.Bridge.{summary, scan-is}
 use Rattle.judge_missing.specs.Lacks.{begin}
 use Rattle.meaning.proofs.FirstLaws.{firstOf, Real, first-append, real-append, real-ask, first-none, or-assoc, or-none, or-bad, or-then}
@@ -39,7 +39,7 @@ use Rattle.judge_line.proofs.FoundLaws.{middle, real-middle, ofType, whole-foun
 use Rattle.judge_start.specs.Sum.{sumWalk}
 use Rattle.judge_start.proofs.Laws.{starts, real-starts}
 use Rattle.judge_lines.specs.Pass.{passFrom}
-use Rattle.judge_lines.proofs.PassLaws.{reads-content, reads-on, pass-is}
+use Rattle.judge_lines.proofs.PassLaws.{pass-is}
 use Rattle.judge.specs.Walks.{secondBy, secondWalk, asJudged, typedBy, firstBy, linesWalk, judgedScan, judgeWalk}
 
 -- ---- 11 to 16, as found

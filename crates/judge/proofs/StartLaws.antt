@@ -22,7 +22,7 @@ use Rattle.line_read.specs.declared.Number.the-variants.{Is, None}
 use Rattle.line_read.specs.declared.Line.{Line}
 use Rattle.line_read.specs.declared.Line.the-variants.{Read, Refused}
 use Rattle.line_read.specs.Number.{numberAt}
-use Rattle.line_read.specs.Line.{lineAt}
+use Rattle.line_read.specs.Line.{lineAt, contentOf}
 use Rattle.line_read.proofs.Bridge.{read-back}
 use Rattle.line_scan.specs.declared.Scan.{Scan}
 use Rattle.line_scan.specs.declared.Scan.the-variants.{Done}
@@ -30,7 +30,7 @@ use Rattle.line_scan.specs.Scan.{endsAt, scanFrom, scanSet}
 use Rattle.line_scan.proofs.Laws.{scan-bad, scan-further}
 use Rattle.judge_missing.specs.Lacks.{begin}
 use Rattle.judge_start.specs.Sum.{sumWalk}
-use Rattle.judge_lines.specs.Pass.{afterLine, contentOf, passFrom, firstUnread, doneUnless, Stops, passed}
+use Rattle.judge_lines.specs.Pass.{afterLine, passFrom, firstUnread, doneUnless, Stops, passed}
 use Rattle.judge_lines.proofs.OnceLaws.{Counts, scan-counts, label-read, ends-label, stops-unread, scan-first}
 use Rattle.judge.specs.Walks.{ruledWalk, secondBy, secondWalk, asJudged, typedBy, firstBy, linesWalk, judgedScan, judgeWalk}
 

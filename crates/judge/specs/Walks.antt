@@ -15,13 +15,13 @@ use Rattle.meaning.specs.Rules.{typeNamed}
 use Rattle.meaning.specs.Answers.{noRefusal, orElse}
 use Rattle.line_read.specs.declared.Line.{Line}
 use Rattle.line_read.specs.declared.Line.the-variants.{Read, Refused}
-use Rattle.line_read.specs.Line.{lineAt}
+use Rattle.line_read.specs.Line.{lineAt, contentOf}
 use Rattle.line_scan.specs.declared.Scan.{Scan}
 use Rattle.line_scan.specs.declared.Scan.the-variants.{Done}
 use Rattle.line_scan.specs.Scan.{scanSet}
 use Rattle.judge_missing.specs.Lacks.{begin}
 use Rattle.judge_start.specs.Sum.{sumWalk}
-use Rattle.judge_lines.specs.Pass.{afterLine, contentOf, passFrom}
+use Rattle.judge_lines.specs.Pass.{afterLine, passFrom}
 
 -- 11 to 17, where line 2 is 8100 and stands at `at`: 17 is asked only where the pass found nothing
 abbrev pub ruledWalk : List ℕ → SetType → ℕ → ℕ → ℕ → Refusal

@@ -5,9 +5,8 @@ ghost use Rattle.meaning.specs.declared.Known.the-variants.{Of};
 ghost use Rattle.meaning.specs.Rules.{typeNamed};
 ghost use Rattle.meaning.specs.Reading as Reading;
 ghost use Rattle.line_read.specs.declared.Line.the-variants.{Read};
-ghost use Rattle.line_read.specs.Line.{lineAt};
+ghost use Rattle.line_read.specs.Line.{lineAt, contentOf};
 ghost use Rattle.line_scan.specs.Scan.{scanSet};
-ghost use Rattle.judge_lines.specs.Pass.{contentOf};
 ghost use Rattle.judge.specs.Walks.{ruledWalk, asJudged, typedBy, firstBy, judgedScan};
 use line_read::Line;
 use line_read::Number;
@@ -45,7 +44,7 @@ fn second_line(s: &[u8], settype: SetType, at: usize) -> Judged
     ensures { λ r. ⌜ r ≡ judgedScan (scanSet (now (s .entry))) (λ total lines. typedBy (now (s .entry)) (Of settype) at total lines) ⌝ }
 {
     let no_sum = Refusal::at(Refusal::NO_SUM, at);
-    let number = line_read::number_at(s, at + line_read::LENGTH_DIGITS, line_read::LABEL_DIGITS);
+    let number = line_read::number_at(s, at + meaning::LENGTH_DIGITS, meaning::LABEL_DIGITS);
     let Number::Is(label) = number else {
         return Judged::Refused(judge_lines::unless_unread(s, at, 1, no_sum));
     };
@@ -68,8 +67,8 @@ fn first_line(s: &[u8], label: usize, size: usize) -> Judged
             Refusal::at(Refusal::NO_START, 0),
         ));
     }
-    let end = size - line_read::LINE_END;
-    let known = judge_start::type_of(&s[line_read::LINE_LEAD..end]);
+    let end = size - meaning::LINE_END;
+    let known = judge_start::type_of(&s[meaning::LINE_LEAD..end]);
     let Known::Of(settype) = known else {
         return Judged::Refused(judge_lines::unless_unread(
             s,

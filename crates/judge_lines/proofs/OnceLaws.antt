@@ -28,7 +28,7 @@ use Rattle.line_read.specs.declared.Number.the-variants.{Is}
 use Rattle.line_read.specs.declared.Line.{Line}
 use Rattle.line_read.specs.declared.Line.the-variants.{Read}
 use Rattle.line_read.specs.Number.{numberAt}
-use Rattle.line_read.specs.Line.{lineAt}
+use Rattle.line_read.specs.Line.{lineAt, contentOf}
 use Rattle.line_read.proofs.Laws.{number-within}
 use Rattle.line_read.proofs.Bridge.{asNumber, number-is, read-back}
 use Rattle.line_scan.specs.declared.Scan.{Scan}
@@ -40,7 +40,7 @@ use Rattle.judge_missing.specs.declared.Group.{Group}
 use Rattle.judge_missing.specs.Lacks.{State, noFlags, begin, openLack, firstLack, finish, stateOf}
 use Rattle.judge_line.specs.declared.Step.{Step}
 use Rattle.judge_line.specs.Steps.{rowOf, againNo, placeNo, labelNo, versionNo, contentNo, lineNo, nextState, staysIn, Stepped}
-use Rattle.judge_lines.specs.Pass.{contentOf, passFrom, firstUnread, doneUnless, Stops, NextAt, finishedScan, passed}
+use Rattle.judge_lines.specs.Pass.{passFrom, firstUnread, doneUnless, Stops, NextAt, finishedScan, passed}
 use Rattle.judge_lines.proofs.PassLaws.{pass-bad, pass-on}
 
 -- ---- the scan

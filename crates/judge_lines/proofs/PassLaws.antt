@@ -6,28 +6,26 @@ use Prim.Native.Nat.{ℕ, zero, suc, _+_, _-_, _≤_}
 use native.Mathlib.Numerals.{add-one}
 use native.Mathlib.Omega.{arith}
 use lib.ListN.{length, drop, take}
-use lib.Seq.{drop-drop}
 use borrow.Author.Tests.{ne-eqb}
 use Rattle.meaning.specs.declared.Refusal.{Refusal}
 use Rattle.meaning.specs.declared.SetType.{SetType}
 use Rattle.meaning.specs.Field.{Field}
 use Rattle.meaning.specs.Refusals.{start, refusal}
-use Rattle.meaning.specs.Lines.{lineLead, lineSize, lineThen, size, offset, render}
-use Rattle.meaning.specs.Tables.{table}
+use Rattle.meaning.specs.Lines.{lineLead, lineSize, size, offset, render}
 use Rattle.meaning.specs.Groups as G
 use Rattle.meaning.specs.Reading.{inSet}
 use Rattle.meaning.proofs.Bools.{Every}
-use Rattle.meaning.proofs.LineLaws.{Sound, size-line, content-line, drop-line}
+use Rattle.meaning.proofs.LineLaws.{Sound}
 use Rattle.table_find.specs.LookUp.{Found}
 use Rattle.line_read.specs.declared.Line.the-variants.{Read}
-use Rattle.line_read.specs.Line.{lineAt}
-use Rattle.line_read.proofs.Bridge.{read-line, read-back}
+use Rattle.line_read.specs.Line.{lineAt, contentOf}
+use Rattle.line_read.proofs.Bridge.{read-line, read-back, reads-content, reads-on}
 use Rattle.judge_missing.specs.Lacks.{State, stateOf}
 use Rattle.judge_missing.proofs.FlagLaws.{Same}
 use Rattle.judge_line.specs.declared.Step.{Step}
 use Rattle.judge_line.specs.Steps.{rowOf, lineNo, Stepped}
 use Rattle.judge_line.proofs.SameLaws.{whole, pass-line, pass-finish}
-use Rattle.judge_lines.specs.Pass.{contentOf, passFrom}
+use Rattle.judge_lines.specs.Pass.{passFrom}
 
 -- ---- the pass: one line more
 
@@ -63,16 +61,6 @@ offset-next (x ∷ xs) zero f fs e =
 offset-next (x ∷ xs) (suc k) f fs e =
     let ih = offset-next xs k f fs e in
     (omega (arith, ih .0), ih .1)
-
--- a line that is written at an offset, as the pass reads it
-module _ (s : List ℕ) (at : ℕ) (f : Field) (u : List ℕ) (h : Sound f) (w : drop at s ≡ lineThen f u) where
-  pub reads-content : contentOf s at (lineSize f) ≡ f .content
-  reads-content =
-      ap (take (lineSize f - 9)) (sym (drop-drop 7 at s) ∙ ap (drop 7) w)
-      ∙ (ap (λ (m : ℕ). take (m - 9) (drop 7 (lineThen f u))) (sym (size-line f u h)) ∙ content-line f u h)
-
-  pub reads-on : drop (at + lineSize f) s ≡ u
-  reads-on = sym (drop-drop (lineSize f) at s) ∙ (ap (drop (lineSize f)) w ∙ (ap (λ (m : ℕ). drop m (lineThen f u)) (sym (size-line f u h)) ∙ drop-line f u h))
 
 module _ (s : List ℕ) (settype : SetType) (all : List Field) where
   next-place : (at k : ℕ) (f : Field) (fs : List Field) → at ≡ inSet all k start → drop k all ≡ f ∷ fs → at + lineSize f ≡ inSet all (k + 1) start

@@ -3,17 +3,15 @@ use mathlib.Core.Bool.{cond}
 use mathlib.Core.Path.{_≡_}
 use mathlib.Core.List.{List}
 use Prim.Native.Nat.{ℕ, zero, suc, _+_, _-_, _<_}
-use lib.ListN.{take, drop}
 use lib.Dec.{eqb}
 use Rattle.meaning.specs.declared.Refusal.{Refusal}
 use Rattle.meaning.specs.declared.SetType.{SetType}
 use Rattle.meaning.specs.Limits.{maxLines}
 use Rattle.meaning.specs.Refusals.{refusal}
-use Rattle.meaning.specs.Lines.{lineLead, lineEnd}
 use Rattle.meaning.specs.Answers.{noRefusal}
 use Rattle.line_read.specs.declared.Line.{Line}
 use Rattle.line_read.specs.declared.Line.the-variants.{Read, Refused}
-use Rattle.line_read.specs.Line.{lineAt}
+use Rattle.line_read.specs.Line.{lineAt, contentOf}
 use Rattle.line_scan.specs.declared.Scan.{Scan}
 use Rattle.line_scan.specs.declared.Scan.the-variants.{Done}
 use Rattle.line_scan.specs.Scan.{scanFrom}
@@ -26,10 +24,6 @@ use Rattle.judge_line.specs.Steps.{rowOf, lineNo, nextState, staysIn, lackThen}
 abbrev pub afterLine : Line → (ℕ → ℕ → Refusal) → Refusal
 afterLine (Read l n) f = f l n
 afterLine (Refused r) f = r
-
--- where a line of n bytes at `at` has its content
-abbrev pub contentOf : List ℕ → ℕ → ℕ → List ℕ
-contentOf s at n = take (n - (lineLead + lineEnd)) (drop (at + lineLead) s)
 
 -- the n lines from a line start on: 11 to 15 of each, and 16 behind the last
 unfoldable pub passFrom : List ℕ → SetType → ℕ → State → Refusal → ℕ → Refusal

@@ -8,11 +8,11 @@ ghost use Rattle.meaning.specs.declared.Known.the-variants.{Of};
 ghost use Rattle.meaning.specs.Limits.{maxLines};
 ghost use Rattle.meaning.specs.Rules.{typeNamed};
 ghost use Rattle.line_read.specs.declared.Line.the-variants.{Read};
-ghost use Rattle.line_read.specs.Line.{lineAt};
+ghost use Rattle.line_read.specs.Line.{lineAt, contentOf};
 ghost use Rattle.line_scan.specs.Scan.{scanFrom, scanSet};
 ghost use Rattle.judge_missing.specs.Lacks.{finish, stateOf};
 ghost use Rattle.judge_line.specs.Steps.{rowOf, Stepped};
-ghost use Rattle.judge_lines.specs.Pass.{contentOf, firstUnread, finishedScan, NextAt, passed};
+ghost use Rattle.judge_lines.specs.Pass.{firstUnread, finishedScan, NextAt, passed};
 use judge_line::Step;
 use judge_missing::Group;
 use judge_missing::ROWS;
@@ -41,8 +41,8 @@ fn line_step(
     requires { ⌜ (10 ≤ size) × (at + size ≤ length (now s)) ⌝ }
     ensures { λ r. ⌜ Stepped (rowOf settype label) settype (stateOf group (now (members .entry)) (now (top .entry))) (group .lack) at label (contentOf (now (s .entry)) at size) r (now (members .exit)) (now (top .exit)) ⌝ }
 {
-    let from = at + line_read::LINE_LEAD;
-    let end = at + size - line_read::LINE_END;
+    let from = at + meaning::LINE_LEAD;
+    let end = at + size - meaning::LINE_END;
     judge_line::step_at(settype, at, label, s, from, end, group, members, top)
 }
 

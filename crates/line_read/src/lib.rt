@@ -11,36 +11,17 @@ ghost use Rattle.line_read.specs.declared.Line.the-variants.{Read};
 ghost use Rattle.line_read.specs.Number.{numberAt};
 ghost use Rattle.line_read.specs.Line.{labelledLine, sizedLine, lineAt};
 ghost use Rattle.line_read.specs.Told.{threeBytes, threeZeros, fourBytes, fourZeros, toldLength, toldLabel};
+use meaning::CR;
+use meaning::LABEL_DIGITS;
+use meaning::LENGTH_DIGITS;
+use meaning::LF;
+use meaning::LINE_END;
+use meaning::LINE_FRAME;
+use meaning::LINE_LEAD;
 use meaning::Refusal;
-
-// "A line is three digits (its whole length), four digits (label), content, 0Dh 0Ah."
-pub const LENGTH_DIGITS: usize = 3;
-
-pub const LABEL_DIGITS: usize = 4;
-
-pub const CR: u8 = 13;
-
-pub const LF: u8 = 10;
 
 // Both as one number, the first byte the lower.
 const CR_LF: usize = CR as usize + LF as usize * meaning::BYTE_VALUES;
-
-// The bytes before a content.
-pub const LINE_LEAD: usize = LENGTH_DIGITS + LABEL_DIGITS;
-
-// The bytes behind a content.
-pub const LINE_END: usize = 2;
-
-// "Length = content + 9."
-pub const LINE_FRAME: usize = LINE_LEAD + LINE_END;
-
-// The digits of a set type, the content of line 1.
-pub const TYPE_DIGITS: usize = 4;
-
-// "8100 has five digits", and its line so many bytes.
-pub const SUM_DIGITS: usize = 5;
-
-pub const SUM_LINE: usize = SUM_DIGITS + LINE_FRAME;
 
 // "Content has 1 byte or more, so lengths run 010 to 999."
 const MIN_LINE_BYTES: usize = LINE_FRAME + 1;

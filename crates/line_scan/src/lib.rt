@@ -26,10 +26,10 @@ pub fn ends_at(s: &[u8], at: usize) -> bool
     if s.len() <= at {
         return true;
     }
-    if s.len() - at < line_read::LINE_LEAD {
+    if s.len() - at < meaning::LINE_LEAD {
         return false;
     }
-    let label = at + line_read::LENGTH_DIGITS;
+    let label = at + meaning::LENGTH_DIGITS;
     if s[label] != b'8' {
         return false;
     }

@@ -11,6 +11,7 @@ use lib.Seq.{take-at, drop-at, drop-drop}
 use borrow.Author.Tests.{leb-true, le-leb}
 use Rattle.meaning.specs.Field.{Field}
 use Rattle.meaning.specs.Pieces.{putAll}
+use Rattle.meaning.specs.Lines.{size}
 use Rattle.meaning.specs.Entries.{twoBytesAt, entryLabel, entryContent, entryField, entryWidth, entryWhole, entryOk, maxLabel, entryFaults, entryThen, entryForm, listSize}
 use Rattle.meaning.proofs.Bools.{and-left, and-right, and-both, Every}
 use Rattle.meaning.proofs.FaultLaws.{ask-none, High, lows-none, lows-back}
@@ -129,3 +130,8 @@ entry-lawful = record {
 pub length-entries : (es : List Field) → length (putAll entryForm es []) ≡ listSize es
 length-entries [] = refl
 length-entries (f ∷ fs) = simp length-append (omega (arith, length-entries fs))
+
+-- each line has five bytes more than the entry of its field: nine in the place of four
+pub lines-over-entries : (fs : List Field) → size fs ≡ listSize fs + length fs * 5
+lines-over-entries [] = refl
+lines-over-entries (f ∷ fs) = omega (arith, lines-over-entries fs)

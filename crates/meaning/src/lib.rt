@@ -13,6 +13,43 @@ pub const DIGIT_ZERO: u8 = b'0';
 
 pub const DIGIT_NINE: u8 = b'9';
 
+// ---- how a line and an entry are laid out
+
+// "A line is three digits (its whole length), four digits (label), content, 0Dh 0Ah."
+pub const LENGTH_DIGITS: usize = 3;
+
+pub const LABEL_DIGITS: usize = 4;
+
+pub const CR: u8 = 13;
+
+pub const LF: u8 = 10;
+
+// The bytes of a line before its content.
+pub const LINE_LEAD: usize = LENGTH_DIGITS + LABEL_DIGITS;
+
+// The bytes of a line after its content.
+pub const LINE_END: usize = 2;
+
+// "Length = content + 9."
+pub const LINE_FRAME: usize = LINE_LEAD + LINE_END;
+
+// The digits of a set type, the content of line 1.
+pub const TYPE_DIGITS: usize = 4;
+
+// "8100 has five digits", and its line this many bytes.
+pub const SUM_DIGITS: usize = 5;
+
+pub const SUM_LINE: usize = SUM_DIGITS + LINE_FRAME;
+
+// "Content length in two bytes", label (in a sheet a line number) in two bytes.
+pub const NUMBER_BYTES: usize = 2;
+
+// The bytes of an entry before its content.
+pub const ENTRY_LEAD: usize = NUMBER_BYTES + NUMBER_BYTES;
+
+// A line has this many bytes more than the entry of the same field.
+pub const LINE_OVER_ENTRY: usize = LINE_FRAME - ENTRY_LEAD;
+
 // ---- the labels that a rule names
 
 // Line 1 of a set, which names its type, and line 2, which has its length.

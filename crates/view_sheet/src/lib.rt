@@ -38,7 +38,7 @@ fn check_entry(set: &[u8], shape: Shape, sheet: &[u8], at: usize) -> Checked
             label: named,
             length,
         } => {
-            let content = at + entry_read::ENTRY_LEAD;
+            let content = at + meaning::ENTRY_LEAD;
             let end = content + length;
             let offer = correct_offer::judge_offer(set, shape, named, &sheet[content..end]);
             if offer.no == 0 {
@@ -60,8 +60,8 @@ fn part_of_set(set: &[u8], shape: Shape, line: usize) -> Part
 {
     let x = correct_offer::line_after(set, line - 1);
     Part {
-        place: x.at + line_read::LINE_LEAD,
-        length: x.size - line_read::LINE_FRAME,
+        place: x.at + meaning::LINE_LEAD,
+        length: x.size - meaning::LINE_FRAME,
     }
 }
 
@@ -80,7 +80,7 @@ fn shown_by_sheet(set: &[u8], shape: Shape, sheet: &[u8], line: usize) -> Viewed
                 return Viewed::Refused(r);
             }
             Checked::Good { named, length } => {
-                let place = at + entry_read::ENTRY_LEAD;
+                let place = at + meaning::ENTRY_LEAD;
                 shown = view_part::newer_part(shown, Part { place, length }, named, line);
                 at = place + length;
             }

@@ -31,7 +31,7 @@ fn put_set(list: &[u8], total: usize, out: &mut [u8])
                 return;
             }
             Head::Whole { label, length } => {
-                let from = at + entry_read::ENTRY_LEAD;
+                let from = at + meaning::ENTRY_LEAD;
                 let end = from + length;
                 to = write_lines::put_lines(at, label, &list[from..end], total, out, to);
                 at = end;
@@ -48,7 +48,7 @@ fn write_entries(list: &[u8], n: usize, out: &mut [u8]) -> Made
     ensures { λ r. ⌜ (r ≡ writeCall (now (list .entry)) (now (out .entry)) .answer) × (now (out .exit) ≡ writeCall (now (list .entry)) (now (out .entry)) .buffer) ⌝ }
 {
     // 22, NoRoom: "the new total is over the buffer or over 99,999"; "place: the need"
-    let total = list.len() + n * list::LINE_LOSS + line_read::SUM_LINE;
+    let total = list.len() + n * meaning::LINE_OVER_ENTRY + meaning::SUM_LINE;
     if out.len() < total {
         return Made::Refused(Refusal::at(Refusal::NO_ROOM, total));
     }

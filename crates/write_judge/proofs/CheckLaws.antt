@@ -17,12 +17,11 @@ use Rattle.meaning.specs.Refusals.{Fault, atLine, atByte, ask, behind, Reply, r
 use Rattle.meaning.specs.Pieces.{Parsed, parsed, andBefore, pieceThen, pieces}
 use Rattle.meaning.specs.Lines.{leastByte, lowBytes}
 use Rattle.meaning.specs.Entries.{entryLead, twoBytesAt, entryLabel, entryWidth, entryContent, entryField, entryWhole, maxLabel, entryFaults, entryForm, entryOk, listSize}
-use Rattle.meaning.proofs.Bools.{nil-is, and-left, and-right}
+use Rattle.meaning.proofs.Bools.{nil-is, byte-then, and-left, and-right}
 use Rattle.meaning.proofs.FaultLaws.{ask-none, High, lows-none, refused-done, done-same}
 use Rattle.meaning.proofs.LeftLaws.{one-more, none-left}
 use Rattle.meaning.proofs.PieceLaws.{piece-back}
 use Rattle.byte_low.specs.Low.{firstLow}
-use Rattle.line_read.proofs.Laws.{byte-then}
 use Rattle.entry_read.specs.declared.Head.{Head}
 use Rattle.entry_read.specs.declared.Head.the-variants.{Whole, Cut}
 use Rattle.entry_read.specs.Head.{entryAt, behindHead, headsEnd}

@@ -22,7 +22,7 @@ use meaning::SetType;
 const ENTRIES: usize = SetType::LINES - 1;
 
 // A list of no more bytes than this has no more entries, since each has a head.
-const FEW_BYTES: usize = ENTRIES * entry_read::ENTRY_LEAD;
+const FEW_BYTES: usize = ENTRIES * meaning::ENTRY_LEAD;
 
 // The largest number that four digits write.
 const MAX_LABEL: usize = 9_999;
@@ -56,7 +56,7 @@ fn check_entry(list: &[u8], at: usize) -> Item
         return Item::Refused(Refusal::at(Refusal::BAD_LIST, at));
     }
     // 6, BadByte: "content byte under 20h; place is that byte"
-    let content = at + entry_read::ENTRY_LEAD;
+    let content = at + meaning::ENTRY_LEAD;
     let low = byte_low::first_low(list, content, length);
     if low < content + length {
         return Item::Refused(Refusal::at(Refusal::BAD_BYTE, low));
@@ -90,7 +90,7 @@ fn judge_entry(
     if late.no != 0 {
         return turn;
     }
-    let from = at + entry_read::ENTRY_LEAD;
+    let from = at + meaning::ENTRY_LEAD;
     let end = from + bytes;
     let group = turn.group;
     let step = judge_line::step_at(settype, at, label, list, from, end, group, members, top);
@@ -170,7 +170,7 @@ fn pass_entries(
                     &mut members,
                     &mut top,
                 );
-                at += entry_read::ENTRY_LEAD + length;
+                at += meaning::ENTRY_LEAD + length;
                 n += 1;
             }
         }
@@ -195,8 +195,8 @@ fn first_entry(list: &[u8], label: usize, bytes: usize) -> Checked
         return check_then(list, Refusal::at(Refusal::NO_START, 0));
     }
     // 9, UnknownSet: "8000 names none of the five"
-    let end = entry_read::ENTRY_LEAD + bytes;
-    let Known::Of(settype) = judge_start::type_of(&list[entry_read::ENTRY_LEAD..end]) else {
+    let end = meaning::ENTRY_LEAD + bytes;
+    let Known::Of(settype) = judge_start::type_of(&list[meaning::ENTRY_LEAD..end]) else {
         return check_then(list, Refusal::at(Refusal::UNKNOWN_SET, 0));
     };
     pass_entries(list, settype, Refusal::none(), end, 1)

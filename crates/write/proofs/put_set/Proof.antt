@@ -3,7 +3,7 @@ use mathlib.Core.Path.{_≡_, refl, sym, ap, _∙_}
 use mathlib.Core.List.{List}
 use Prim.Native.Nat.{ℕ, _+_, _-_, _≤_}
 use native.Mathlib.Omega.{arith}
-use native.Mathlib.Nat.{add-assoc}
+use native.Mathlib.Nat.{add-assoc, add-sub-cancel-left}
 use borrow.Author.Needs.{needs}
 use lib.ListN.{length}
 use Rattle.meaning.specs.Digits.{digits}
@@ -11,7 +11,6 @@ use Rattle.meaning.specs.Lists.{sumDigits}
 use Rattle.entry_read.proofs.HeadLaws.{whole-back}
 use Rattle.byte_put.specs.Places.{over}
 use Rattle.byte_put.proofs.OverLaws.{over-none}
-use Rattle.list.proofs.PartLaws.{part-length}
 use Rattle.write.specs.Writing.{linesLeft}
 use Rattle.write.proofs.WriteLaws.{lines-end, lines-cut, lines-fit, put-turn}
 use Rattle.write.proofs.put_set.Statement.{statement}
@@ -93,7 +92,7 @@ put-lines-requires c κs =
     let b10 = b7 .before .before .before in
     let a = b10 .args in
     let l = b7 .loop in
-    lines-fit (a .list .now) (digits sumDigits (a .total)) (l .at) (b6 .loop-test .taken) (sym (b5 .entry-at .ensures) ∙ b3 .label .given .1) _ (part-length _ _) _ (add-assoc (l .at) _ _) (l .out) (l .to) (l .inv .2)
+    lines-fit (a .list .now) (digits sumDigits (a .total)) (l .at) (b6 .loop-test .taken) (sym (b5 .entry-at .ensures) ∙ b3 .label .given .1) _ (add-sub-cancel-left _ _) _ (add-assoc (l .at) _ _) (l .out) (l .to) (l .inv .2)
 
 loop-less : tie.Need-loop-less Inv-loop μ-loop
 loop-less c =
@@ -113,7 +112,7 @@ loop-again c =
     let b13 = b10 .before .before .before in
     let a = b13 .args in
     let l = b10 .loop in
-    let t = put-turn (a .list .now) (digits sumDigits (a .total)) (l .at) (b9 .loop-test .taken) (sym (b8 .entry-at .ensures) ∙ b6 .label .given .1) _ (part-length _ _) _ (add-assoc (l .at) _ _) (l .out) (l .to) (l .inv .2) _ _ (c .before .before .put-lines .ensures .0) (c .before .before .put-lines .ensures .1) in (omega (arith, whole-back (a .list .now) (l .at) (sym (b8 .entry-at .ensures) ∙ b6 .label .given .1) .within), t .same-room ∙ l .inv .1, t .has-room, t .same ∙ l .inv .3)
+    let t = put-turn (a .list .now) (digits sumDigits (a .total)) (l .at) (b9 .loop-test .taken) (sym (b8 .entry-at .ensures) ∙ b6 .label .given .1) _ (add-sub-cancel-left _ _) _ (add-assoc (l .at) _ _) (l .out) (l .to) (l .inv .2) _ _ (c .before .before .put-lines .ensures .0) (c .before .before .put-lines .ensures .1) in (omega (arith, whole-back (a .list .now) (l .at) (sym (b8 .entry-at .ensures) ∙ b6 .label .given .1) .within), t .same-room ∙ l .inv .1, t .has-room, t .same ∙ l .inv .3)
 
 same-length-2 : tie.Need-same-length-2 Inv-loop μ-loop
 same-length-2 c = c .before .loop .inv .1
