@@ -2,7 +2,7 @@
    It assumes x86-64 and how words are passed there; tools/both builds it, and bench/measure.py runs it and reads its lines:
    `calls` prints the loads, `calls count LOAD` prints `CALL NO PROVED SECOND`, instructions, for each input of the load and each call
    that answers its number, `calls time LOAD` prints `CALL PROVED SECOND`, nanoseconds of the process, for each sample of the whole load.
-   It ends with status 1 where the two answer differently or not the number that the input is made for. */
+   It ends with status 1 if the two answer differently or not the number that the input is made for. */
 #include "x86.h"
 #include "icount.h"
 #include "gdt.h"
@@ -12,7 +12,7 @@ enum {
     WORDS = 8, /* that a call is given at most */
     REPLY_WORDS = 6,
     FILL = 0xAA, /* what is lent holds before a call */
-    SPARE = 8,   /* bytes that a correction has behind the set */
+    SPARE = 8,   /* bytes that a correction has after the set */
     SAMPLES = 3, /* bench/measure.py runs it some times */
     LEAST_SAMPLE = 4000000 /* nanoseconds */
 };
@@ -78,7 +78,7 @@ static const struct call {
     [BYTE_SUM] = {"byte_sum", (void *)byte_sum, (void *)byte_sum},
 };
 
-/* Whether a call can answer a number, 0 where it is done; the byte sum goes with judge. */
+/* Whether a call can answer a number, 0 if it is done; the byte sum goes with judge. */
 static bool can_answer(int call, size_t no)
 {
     switch (call) {
@@ -188,7 +188,7 @@ static uint64_t now(void)
     return (uint64_t)time.tv_sec * 1000000000 + (uint64_t)time.tv_nsec;
 }
 
-/* The time of so many rounds through the load; corrections are made and turned back by turns. */
+/* The time of this many rounds through the load; corrections are made and turned back by turns. */
 static uint64_t timed(const struct task *tasks, size_t task_count, void *function, size_t rounds)
 {
     uint64_t start = now();

@@ -55,9 +55,9 @@ static uint8_t *line_at(struct input *input, size_t number)
     return at;
 }
 
-static void put_entry(uint8_t *bytes, size_t *used, size_t kind, const uint8_t *content, size_t length)
+static void put_entry(uint8_t *bytes, size_t *used, size_t label, const uint8_t *content, size_t length)
 {
-    const uint8_t head[] = {(uint8_t)length, (uint8_t)(length >> 8), (uint8_t)kind, (uint8_t)(kind >> 8)};
+    const uint8_t head[] = {(uint8_t)length, (uint8_t)(length >> 8), (uint8_t)label, (uint8_t)(label >> 8)};
     memcpy(bytes + *used, head, sizeof head);
     memcpy(bytes + *used + sizeof head, content, length);
     *used += sizeof head + length;
@@ -86,7 +86,7 @@ static void choose_line(struct input *input, size_t number)
     put_entry(input->sheet, &input->sheet_used, number, input->content, input->content_length);
 }
 
-/* Behind the last line: the sum, the list, and a new content of the patient's line, one byte longer than the old one. */
+/* After the last line: the sum, the list, and a new content of the patient's line, one byte longer than the old one. */
 static void finish(struct input *input)
 {
     const uint8_t *patient = line_at(input, PATIENT_LINE);

@@ -1,5 +1,5 @@
 """measure.py: measures the two programs: instructions and times by bench/calls.c, stack by harness/stack.c over the stored streams of cases.
-Assumes the Rattle kit. Says on standard error what is done; where a program fails it ends with that program's message."""
+Assumes the Rattle kit. Says on standard error what is done; if a program fails it ends with that program's message."""
 import collections
 import concurrent.futures
 import os
@@ -78,7 +78,7 @@ def ratio(inputs):
 
 
 def times(loads):
-    """For each load and call the ratio of the times in each sample. There are some runs, since it moves a ratio where a process has its code and data."""
+    """For each load and call the ratio of the times in each sample. There are some runs, since the places of a process's code and data move a ratio."""
     found = {load: collections.defaultdict(list) for load in loads}
     for load in loads:
         since = time.monotonic()

@@ -1,5 +1,5 @@
 /* cases.c: reads a stream of cases on standard input, makes the call of gdt.h that each asks for, and writes a line for each.
-   It assumes nothing of the program behind gdt.h but its names; harness/README.md tells the stream and the lines. */
+   It assumes nothing of the program but the names of gdt.h; harness/README.md describes the stream and the lines. */
 #include "x86.h"
 #include "gdt.h"
 
@@ -24,7 +24,7 @@ _Noreturn static void stop(const char *why)
     exit(2);
 }
 
-/* Memory for so many bytes, never null. */
+/* Memory for this many bytes, never null. */
 static void *memory(size_t length)
 {
     void *bytes = malloc(length + 1);
@@ -93,7 +93,7 @@ static size_t take_room(void)
 /* ---- What is lent ---------------------------------------------------------------------------------------------------------- */
 
 /* Bytes that are lent to a call, and what they held before it. They end where their memory ends and start at an odd address, so
-   that a sanitizer sees each byte read or written behind them, and the pointer is not null where there are none. */
+   that a sanitizer sees each byte read or written after them, and the pointer is not null if there are none. */
 struct lent {
     uint8_t *at, *was;
     size_t length;
@@ -166,7 +166,7 @@ static void print_refused(size_t no, size_t place, size_t label, bool same)
     printf("refused %zu %zu %zu %s\n", no, place, label, word(same));
 }
 
-/* "They are 0 where the call was done." */
+/* Place and label are 0 if the call was done. */
 static void expect_done(size_t place, size_t label)
 {
     if (place != 0 || label != 0) {
@@ -194,11 +194,11 @@ static void case_judge(void)
     struct lent set = lend_string();
     struct gdt_judged judged = gdt_judge(set.at, set.length);
     if (judged.no != 0) {
-        bool empty = judged.length == 0 && judged.lines == 0 && judged.kind == 0;
+        bool empty = judged.length == 0 && judged.lines == 0 && judged.type == 0;
         print_refused(judged.no, judged.place, judged.label, kept(&set) && empty);
     } else {
         expect_done(judged.place, judged.label);
-        printf("ok %zu %zu %zu\n", judged.length, judged.lines, judged.kind);
+        printf("ok %zu %zu %zu\n", judged.length, judged.lines, judged.type);
     }
     take_back(&set);
 }
@@ -258,8 +258,8 @@ static void case_correct(void)
     take_back(&buffer);
 }
 
-/* Whether gdt_view_copy, lent so much room, answers the part's length, copies the part as far as there is room, and writes nothing
-   where the part is empty. */
+/* Whether gdt_view_copy, lent this much room, answers the part's length, copies the part as far as there is room, and writes nothing
+   if the part is empty. */
 static bool copies(const struct lent *set, const struct lent *sheet, size_t line, const uint8_t *part, size_t length, size_t room)
 {
     struct lent out = lend_room(room);

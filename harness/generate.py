@@ -1,6 +1,6 @@
 #!/usr/bin/env python3
 """generate.py SEED COUNT CALLS [--check] | rows | store: writes a stream of cases; --check runs it and prints how often each answer is met.
-Assumes harness/sets.py and, where it checks, the second program through harness/run; the same seed gives the same stream."""
+Assumes harness/sets.py and, for --check, the second program through harness/run; the same seed gives the same stream."""
 import collections
 import lzma
 import os
@@ -20,7 +20,7 @@ STORED_CASES = 1200
 STORED_SEED = 21
 ROWS = "rows"  # the stored stream that goes through the tables row by row
 
-# Of a call's cases at least so many parts of a hundred must be accepted, meet each number, have over 400 lines.
+# Of a call's cases at least this many in a hundred must be accepted, meet each number, have over 400 lines.
 LEAST_ACCEPTED, LEAST_NUMBER, LEAST_LONG = 30, 0.1, 1
 
 # ---- Sets and lists with given faults: those that leave the least standing are made last ----------------------------------------------
@@ -34,18 +34,18 @@ def fields_for(r, faults):
         most = sets.MOST_LINES - any(no in ADDING for no in faults)
         lines = r.choice((most, most - 1, r.randint(MANY_LINES + 1, most)))
         return 6310, sets.accepted(r, 6310, lines, short=r.random() < 0.9)
-    kind = 6310 if 12 in faults else r.choice((6310, *SET_TABLES))
-    return kind, sets.accepted(r, kind, r.choice((0, 8, 14, r.randint(5, 40))), short=r.random() < 0.5)
+    set_type = 6310 if 12 in faults else r.choice((6310, *SET_TABLES))
+    return set_type, sets.accepted(r, set_type, r.choice((0, 8, 14, r.randint(5, 40))), short=r.random() < 0.5)
 
 
 def set_with(r, faults):
-    """The lines of a set that has these faults; one that is accepted where there are none."""
+    """The lines of a set that has these faults; one that is accepted if there are none."""
     if 1 in faults:
         return []
-    kind, fields = fields_for(r, faults)
+    set_type, fields = fields_for(r, faults)
     for no in reversed(faults):
         if no in sets.FIELD_FAULTS and len(fields) > 2:
-            sets.FIELD_FAULTS[no](r, kind, fields, 2)
+            sets.FIELD_FAULTS[no](r, set_type, fields, 2)
     lines = sets.lines_of(fields)
     if faults and all(no in FOUND_FIRST for no in faults) and r.random() < FAR:
         lines = sets.far(r, lines, sets.MOST_LINES if 7 in faults else r.randint(70, sets.MOST_LINES - 1))
@@ -62,11 +62,11 @@ def list_with(r, faults):
     """The entries of a list that has these faults, and what the writer would need for it."""
     if 1 in faults:
         return [], 0
-    kind, fields = fields_for(r, faults)
+    set_type, fields = fields_for(r, faults)
     fields = [field for field in fields if field[0] != 8100]
     for no in reversed(faults):
         if no in sets.FIELD_FAULTS and len(fields) > 1:
-            sets.FIELD_FAULTS[no](r, kind, fields, 1)
+            sets.FIELD_FAULTS[no](r, set_type, fields, 1)
     found = sets.entries_of(fields)
     need = sum(map(len, found)) + 5 * len(found) + 14
     if faults and all(no in (6, 7, 21) for no in faults) and r.random() < FAR:
@@ -82,7 +82,7 @@ def list_with(r, faults):
 
 
 def follower(r):
-    """Bytes behind a set that are not judged: another set, good or not."""
+    """Bytes after a set that are not judged: another set, good or not."""
     return r.choice((b"xyz8000", b"0138000", b"\x00\x01\x028000\xff", b"".join(set_with(r, ())), b"".join(set_with(r, (r.randint(2, 17),)))[:200]))
 
 
@@ -118,12 +118,12 @@ def write_case(r, faults):
 
 
 def labels_in(lines):
-    """The labels of lines that may be faulty; 3000 where there is none."""
+    """The labels of lines that may be faulty; 3000 if there is none."""
     return [int(data[3:7]) if data[3:7].isdigit() and int(data[3:7]) in FIELDS else 3000 for data in lines]
 
 
 def label_of(labels, line):
-    """The label of a line, 3000 where there is no such line."""
+    """The label of a line, 3000 if there is no such line."""
     return labels[line - 1] if 0 < line <= len(labels) else 3000
 
 
@@ -145,7 +145,7 @@ def content_of(r, label, faults):
 
 
 def longer_line(r, lines, labels):
-    """The number of a line that may have a longer content, and such a content; nothing where there is no such line."""
+    """The number of a line that may have a longer content, and such a content; nothing if there is no such line."""
     able = []
     for number, (data, label) in enumerate(zip(lines, labels), 1):
         longer, most = len(data) - 8, FIELDS[label][1]
@@ -239,7 +239,7 @@ def some_faults(r, numbers, turn):
 
 
 def cases(seed, count, calls):
-    """So many cases of each call, and beside each the number that it was made for; None where more than one fault was made."""
+    """This many cases of each call, and beside each the number that it was made for; None if more than one fault was made."""
     r = random.Random("%s %s" % (seed, calls))
     turns = collections.Counter()
     for _ in range(count):
@@ -264,11 +264,11 @@ def cases(seed, count, calls):
                 yield case, None
 
 
-def plain_fields(kind, leave_out):
+def plain_fields(set_type, leave_out):
     """The required fields of a set, without one of them."""
     r = random.Random(STORED_SEED)
-    needed = [(label, sets.fitting(r, label, short=True)) for label in marked(SET_TABLES[kind], "!") if label not in (8000, 8100, leave_out)]
-    return [(8000, b"%d" % kind), (8100, None)] + needed
+    needed = [(label, sets.fitting(r, label, short=True)) for label in marked(SET_TABLES[set_type], "!") if label not in (8000, 8100, leave_out)]
+    return [(8000, b"%d" % set_type), (8100, None)] + needed
 
 
 def judged(fields):
@@ -279,12 +279,12 @@ def row_cases():
     """For judge: every label in every set type, once and twice; every row of the field table with the contents at the edges of its length and kind."""
     r = random.Random(STORED_SEED)
     headers = {**sets.MEMBER_OF, **{name + 1: name for name in sets.NAMES}}
-    for kind in SET_TABLES:
+    for set_type in SET_TABLES:
         for label in sorted({*FIELDS, 101, 8412, 6306, 6329, 6400, 9999} - {8000}):
             field = (label, sets.fitting(r, label) if label in FIELDS else b"7")
-            before = [(headers[label], b"x")] if label in headers and kind == 6310 else []
-            yield judged(plain_fields(kind, label) + [field])
-            yield judged(plain_fields(kind, label) + before + [field, field])
+            before = [(headers[label], b"x")] if label in headers and set_type == 6310 else []
+            yield judged(plain_fields(set_type, label) + [field])
+            yield judged(plain_fields(set_type, label) + before + [field, field])
     for label in sorted(set(FIELDS) - {8000, 8100} - set(range(6332, 6398))):
         before = [(headers[label], b"x")] if label in headers else []
         for content in sets.fitting_edges(r, label) + sets.unfitting_lines(r, label):
@@ -295,9 +295,9 @@ def row_cases():
 
 def again_cases():
     """For the writer: 8000 and 8100 again, in every set type."""
-    for kind in SET_TABLES:
-        for again in ((8000, b"%d" % kind), (8100, b"00051")):
-            yield Case("w", {"room": 200, "list": b"".join(sets.entries_of(plain_fields(kind, None) + [again]))})
+    for set_type in SET_TABLES:
+        for again in ((8000, b"%d" % set_type), (8100, b"00051")):
+            yield Case("w", {"room": 200, "list": b"".join(sets.entries_of(plain_fields(set_type, None) + [again]))})
 
 
 # ---- What a stream meets ----------------------------------------------------------------------------------------------------------------
@@ -345,7 +345,7 @@ def histogram(counts):
 
 
 def check(found, aims):
-    """Prints the histogram of these cases by the second program; the sentences where something is wrong."""
+    """Prints the histogram of these cases by the second program; answers sentences on what is wrong."""
     told = answers("second", b"".join(map(packed, found)))
     if told.status:
         return ["the second program: " + told.message]

@@ -42,10 +42,10 @@ MEMBER_OF = {member: header for header, table in GROUPS.items() for member in la
 REPEATED_MEMBERS = [member for table in GROUPS.values() for member in marked(table, "+")]
 
 
-def known(kind):
+def known(set_type):
     """Every label that may stand in a set of this type."""
-    found = set(labels(SET_TABLES[kind]))
-    if kind == 6310:
+    found = set(labels(SET_TABLES[set_type]))
+    if set_type == 6310:
         found |= set(GROUPS) | set(MEMBER_OF) | set(NAMES) | {name + 1 for name in NAMES}
     return found
 

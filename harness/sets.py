@@ -21,7 +21,7 @@ NO_DIGITS = b"/: aO-\xb2"
 
 
 def prose(r, length):
-    """So many content bytes, now and then with one from the edges of what is allowed."""
+    """This many content bytes, now and then with one from the edges of what is allowed."""
     at = r.randrange(len(PROSE))
     content = bytearray((PROSE[at:] + PROSE * (1 + length // len(PROSE)))[:length])
     if content and r.random() < 0.1:
@@ -34,7 +34,7 @@ def digits(r, length):
 
 
 def number(r, length):
-    """A float of so many bytes."""
+    """A float of this many bytes."""
     sign = b"-" if length > 1 and r.random() < 0.4 else b""
     rest = length - len(sign)
     if rest < 3 or r.random() < 0.4:
@@ -159,15 +159,15 @@ def block(r):
     return [r.choice(marked(SET_TABLES[6310], "+"))]
 
 
-def accepted(r, kind, lines=0, short=False):
-    """The fields of an accepted set of this type; a 6310 set has so many lines where its single fields leave that room."""
-    table = SET_TABLES[kind]
+def accepted(r, set_type, lines=0, short=False):
+    """The fields of an accepted set of this type; a 6310 set has this many lines if its single fields leave room for them."""
+    table = SET_TABLES[set_type]
     chance = r.choice((0, 0.3, 0.6, 1))
     needed = [label for label in marked(table, "!") if label not in (8000, 8100)]
     optional = [label for label in labels(table) if label not in marked(table, "!") + marked(table, "+") and r.random() < chance]
     blocks = [[label] for label in needed + optional]
     left = lines - 2 - len(blocks)
-    while kind == 6310 and left > 0:
+    while set_type == 6310 and left > 0:
         more = block(r)
         if len(more) > left:
             more = [r.choice((TEST, 6228))]
@@ -175,7 +175,7 @@ def accepted(r, kind, lines=0, short=False):
         left -= len(more)
     r.shuffle(blocks)
     body = [(label, fitting(r, label, short)) for more in blocks for label in more]
-    return [(8000, b"%d" % kind), (8100, None)] + body
+    return [(8000, b"%d" % set_type), (8100, None)] + body
 
 
 # ---- Lines and entries -----------------------------------------------------------------------------------------------------------
@@ -202,7 +202,7 @@ def entries_of(fields):
 # ---- Faults in the fields, by number. `head` is how many fields stand in front and keep their places: 2 in a set, 1 in a list -----
 
 
-def no_start(r, _kind, fields, head):
+def no_start(r, _set_type, fields, head):
     first = fields[0]
     way = r.randrange(3)
     if way == 0:
@@ -213,12 +213,12 @@ def no_start(r, _kind, fields, head):
         fields.insert(0, fields.pop(r.randrange(head, len(fields))))
 
 
-def unknown_set(r, _kind, fields, head):
+def unknown_set(r, _set_type, fields, head):
     names = [b"6303", b"6309", b"6312", b"6320", b"6299", b"7310", b"0310", b"630", b"63000", b"6310 ", b"631o", b"abcd", b"8000", b"6", b"\xb663\xff"]
     fields[0] = (8000, r.choice(names + [b""] * (head == 1)))
 
 
-def no_sum(r, _kind, fields, _head):
+def no_sum(r, _set_type, fields, _head):
     way = r.randrange(4)
     if way == 0:
         del fields[1:]
@@ -230,9 +230,9 @@ def no_sum(r, _kind, fields, _head):
         fields[1] = (r.choice((8101, 8001, 3000, 810, 0)), b"00051")
 
 
-def not_in_set(r, kind, fields, head):
+def not_in_set(r, set_type, fields, head):
     near = [0, 1, 101, 104, 3001, 3109, 3111, 3624, 6202, 6306, 6329, 6400, 8001, 8101, 8401, 8409, 8412, 8433, 8479, 8481, 8991, 9205, 9219, 9999]
-    label = r.choice(sorted((set(near) | known(6310) | {r.randrange(10000)}) - known(kind)))
+    label = r.choice(sorted((set(near) | known(6310) | {r.randrange(10000)}) - known(set_type)))
     fields.insert(r.randint(head, len(fields)), (label, fitting(r, label) if label in FIELDS else prose(r, 5)))
 
 
@@ -248,7 +248,7 @@ def open_headers(fields):
     return found
 
 
-def stray(r, _kind, fields, head):
+def stray(r, _set_type, fields, head):
     places = range(head, len(fields) + 1)
     if r.random() < 0.6:
         label = r.choice(list(MEMBER_OF))
@@ -263,14 +263,14 @@ def stray(r, _kind, fields, head):
     fields.insert(r.choice(r.choice((places, likely or places))), (label, either(r, label)))
 
 
-def repeated(r, kind, fields, head):
-    single = {label for label in labels(SET_TABLES[kind]) if label not in marked(SET_TABLES[kind], "+")} - {8000}
+def repeated(r, set_type, fields, head):
+    single = {label for label in labels(SET_TABLES[set_type]) if label not in marked(SET_TABLES[set_type], "+")} - {8000}
     headers = open_headers(fields)
     in_set, in_groups = [], []
     for at, (label, _) in enumerate(fields):
         if label in single:
             in_set.append((label, r.randint(max(at + 1, head), len(fields))))
-        elif kind == 6310 and label in MEMBER_OF and label not in REPEATED_MEMBERS and headers[at + 1]:
+        elif set_type == 6310 and label in MEMBER_OF and label not in REPEATED_MEMBERS and headers[at + 1]:
             end = at + 1
             while end < len(fields) and MEMBER_OF.get(fields[end][0]) == headers[at + 1]:
                 end += 1
@@ -281,23 +281,23 @@ def repeated(r, kind, fields, head):
     fields.insert(at, (label, either(r, label)))
 
 
-def bad_content(r, _kind, fields, head):
+def bad_content(r, _set_type, fields, head):
     at = r.randrange(1, len(fields))
     label = fields[at][0]
     fields[at] = (label, unfitting(r, label) if head == 1 else r.choice(unfitting_lines(r, label)))
 
 
-def other_version(r, _kind, fields, _head):
+def other_version(r, _set_type, fields, _head):
     for at, (label, _) in enumerate(fields):
         if label == 9218:
             fields[at] = (label, r.choice((b"02.00", b"01.00", b"02.11", b"03.10", b"99.99", b"12.10", b"02.20", b"00.00")))
 
 
-def missing(r, kind, fields, head):
+def missing(r, set_type, fields, head):
     """Takes one to three required fields away."""
     for _ in range(r.choice((1, 1, 2, 3))):
-        places = [at for at in range(head, len(fields)) if fields[at][0] in marked(SET_TABLES[kind], "!")]
-        if kind == 6310 and r.random() < 0.75:
+        places = [at for at in range(head, len(fields)) if fields[at][0] in marked(SET_TABLES[set_type], "!")]
+        if set_type == 6310 and r.random() < 0.75:
             inner = set(marked(GROUPS[ARCHIVE], "!")) | {name + 1 for name in NAMES} | set(NEEDS.values())
             places = [at for at in range(head, len(fields)) if fields[at][0] in inner and needed_in_group(fields, at)] or places
         if places:
@@ -317,7 +317,7 @@ def needed_in_group(fields, at):
     return any(NEEDS.get(other) == label for other, _ in fields[start:end])
 
 
-def bad_sum(r, _kind, fields, _head):
+def bad_sum(r, _set_type, fields, _head):
     right = sum(map(len, lines_of(fields)))
     wrong = {right - 1, right + 1, right + 9, right - 14, right - 2 * len(fields), right + 10000, right ^ 1, 0, 99999, r.randrange(100000)}
     fields[1] = (8100, b"%05d" % r.choice([value for value in wrong if value != right and 0 <= value <= 99999]))
@@ -325,7 +325,7 @@ def bad_sum(r, _kind, fields, _head):
 
 FIELD_FAULTS = {8: no_start, 9: unknown_set, 10: no_sum, 11: not_in_set, 12: stray, 13: repeated, 14: bad_content, 15: other_version, 16: missing, 17: bad_sum}
 
-# ---- Faults in the lines of a set, by number, where there is a choice in the line of place `at` -------------------------------------
+# ---- Faults in the lines of a set, by number; if there is a choice, in the line of place `at` ---------------------------------------
 
 
 def bad_length(r, lines, at):
@@ -371,12 +371,12 @@ LINE_FAULTS = {2: bad_length, 3: cut_line, 4: bad_end, 5: bad_label, 6: bad_byte
 
 
 def far(r, lines, count):
-    """A set of so many lines, those from the third on of 999 bytes: places that 16 bits do not hold."""
+    """A set of this many lines, those from the third on of 999 bytes: places that 16 bits do not hold."""
     return lines[:2] + [line(6228, prose(r, MOST_CONTENT))] * (count - 2)
 
 
 def too_many(r, lines):
-    """Behind 512 lines another line, or anything but another set."""
+    """After 512 lines another line, or anything but another set."""
     return lines + [r.choice((line(3000, b"7"), b"x", b"0138000"[:6], line(6228, b"one more") * 2, b"\x00\x00\x00\x00\x00\x00\x00\x00"))]
 
 
@@ -396,7 +396,7 @@ def cut_entries(r, found):
 
 
 def far_entries(r, found, count, lengths):
-    """A list of so many entries, those from the second on long."""
+    """A list of this many entries, those from the second on long."""
     return found[:1] + [entry(6228, prose(r, r.choice(lengths)))] * (count - 1)
 
 

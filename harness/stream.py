@@ -1,5 +1,5 @@
 """stream.py: cases and their stream: packing and unpacking, running a program over a stream, and printing a case for people.
-Assumes the form that harness/README.md tells: a byte for the call, numbers in 8 bytes, byte strings behind their length."""
+Assumes the form that harness/README.md gives: a byte for the call, numbers in 8 bytes, byte strings after their length."""
 import glob
 import lzma
 import os
@@ -69,7 +69,7 @@ def answers(program, stream):
 
 
 def first_difference(cases, lines, others):
-    """The place of the first case that two programs do not answer alike, or that one of them does not answer; None where there is none."""
+    """The place of the first case that two programs do not answer alike, or that one of them does not answer; None if there is none."""
     for at in range(len(cases)):
         if at >= min(len(lines), len(others)) or lines[at] != others[at]:
             return at
@@ -88,17 +88,17 @@ def stored():
 
 
 def entries(data) -> List[Tuple[int, int, bytes]]:
-    """The entries of a list or sheet: place, kind and content; a cut one has what is left of it."""
+    """The entries of a list or sheet: place, label (in a sheet the number of a line) and content; a cut one has what is left of it."""
     found, at = [], 0
     while at < len(data):
-        length, kind = struct.unpack("<HH", (data[at : at + 4] + bytes(4))[:4])
-        found.append((at, kind, data[at + 4 : at + 4 + length]))
+        length, label = struct.unpack("<HH", (data[at : at + 4] + bytes(4))[:4])
+        found.append((at, label, data[at + 4 : at + 4 + length]))
         at += 4 + length
     return found
 
 
 def lines(data):
-    """Bytes cut behind each 0Ah."""
+    """Bytes cut after each 0Ah."""
     return re.findall(rb"[^\n]*\n|[^\n]+", data)
 
 
@@ -119,7 +119,7 @@ def told(case):
             continue
         out.append("%-7s %d bytes" % (arg, len(value)))
         if arg in ("list", "sheet"):
-            out += ["%7d  %5d %s" % (at, kind, text(content)) for at, kind, content in entries(value)]
+            out += ["%7d  %5d %s" % (at, label, text(content)) for at, label, content in entries(value)]
         elif arg == "content":
             out.append("         " + text(value))
         else:

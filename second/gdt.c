@@ -18,9 +18,9 @@ enum {
     LINE_FRAME = 9,               /* "Length = content + 9" */
     SET_BYTES = 99999,            /* 8100 has five digits */
     SUM_LINE = 14,                /* the length of line 2 */
-    SUM_DIGITS = 20,              /* where the digits of 8100 stand: line 1 has 13 bytes (B49) */
+    SUM_DIGITS = 20,              /* the place of the digits of 8100: line 1 has 13 bytes */
     SUM_WIDTH = 5,
-    ENTRY_HEAD = 4,               /* content length and kind of a list entry */
+    ENTRY_HEAD = 4,               /* content length and label of a list entry */
     ENTRY_BYTES = ENTRY_HEAD + 65535
 };
 
@@ -329,7 +329,7 @@ static int is_time(const uint8_t *p)
     return two_digits(p) <= 24 && two_digits(p + 2) <= 59 && two_digits(p + 4) <= 59;
 }
 
-/* Whether a content without bytes under 20h keeps the length, kind and rule of its row; 14 where not. An empty one never does. */
+/* Whether a content without bytes under 20h keeps the length, kind and rule of its row; 14 if not. An empty one never does. */
 static int fits(unsigned row, const uint8_t *p, size_t n)
 {
     if (n < fields[row].least || n > fields[row].most) {
@@ -488,7 +488,7 @@ static struct refusal split_list(struct lines *list, const uint8_t *bytes, size_
 
 /* ---- Groups ---------------------------------------------------------------------------------------------------------------- */
 
-/* Where the walk over the lines stands. `seen` holds for each row the number of the header under which its label stood last, plus
+/* The state of the walk over the lines. `seen` holds for each row the number of the header under which its label stood last, plus
    1; so 1 for a label at set level, and 0 for a label not seen. `open` is the role of the group's header, OUT outside groups;
    `header` is the number of the header's line. `missing` is the first refusal by 16 among the groups and pairs closed. */
 struct walk {
@@ -504,8 +504,8 @@ static int has(const struct walk *walk, unsigned row)
     return walk->seen[row] == walk->header + 1;
 }
 
-/* The lowest label that the open group or pair lacks, 0 for none. 8421 is required where any of 8420, 8461, 8462 stands (B12),
-   8437 where 8438 stands. */
+/* The lowest label that the open group or pair lacks, 0 for none. 8421 is required if any of 8420, 8461, 8462 stands (B12),
+   8437 if 8438 stands. */
 static unsigned lacks(const struct walk *walk, const struct lines *lines)
 {
     switch (walk->open) {
@@ -708,7 +708,7 @@ static struct refusal judge_content(const struct line *line, const uint8_t *cont
     return none;
 }
 
-/* Whether the set has the line number; 19 where not. */
+/* Whether the set has the line number; 19 if not. */
 static int has_line(const struct lines *set, size_t number)
 {
     return number >= 1 && number <= set->count;
@@ -773,7 +773,7 @@ struct gdt_judged gdt_judge(const uint8_t *set, size_t set_length)
     }
     judged.length = lines.length;
     judged.lines = lines.count;
-    judged.kind = type_numbers[lines.type];
+    judged.type = type_numbers[lines.type];
     return judged;
 }
 
@@ -848,7 +848,7 @@ struct gdt_made gdt_write(const uint8_t *list, size_t list_length, uint8_t *out,
 }
 
 /* "Corrections": 18 (used length), the set's own refusals, 18 (second set), 19, 20, 6, 14, 22. Then the tail moves, 0Dh 0Ah of the
-   line included, and the content, the line's length and 8100 are written; the line stands behind 8100 (B49). */
+   line included, and the content, the line's length and 8100 are written; 8000 and 8100 are fixed, so the line stands after 8100. */
 struct gdt_made gdt_correct(uint8_t *buffer, size_t room, size_t used, size_t line, const uint8_t *content, size_t content_length)
 {
     struct lines lines;

@@ -1,5 +1,5 @@
 /* test.c: tests of gdt.c: the ten examples of the rules paper, the index that its gdtlist example prints, and cases from its
-   decided open points (B1 to B49). Each checks the reply and every byte of the lent buffers, which stand between guard bytes.
+   decided open points (B1 to B44). Each checks the reply and every byte of the lent buffers, which stand between guard bytes.
    Prints `ok - NAME` or `FAILED - NAME` for each, and answers 1 if any failed.
 
    Sets, lists and sheets are given as text: lines or entries parted by `|`, each four digits (label, or line number in a sheet)
@@ -74,12 +74,12 @@ static unsigned number(const char *text)
 /* Adds one entry of a list or a sheet. */
 static void add_entry(struct bytes *b, const char *line, size_t n)
 {
-    unsigned kind = number(line);
+    unsigned label = number(line);
     uint8_t head[4];
     head[0] = (uint8_t)((n - 4) & 255);
     head[1] = (uint8_t)((n - 4) >> 8);
-    head[2] = (uint8_t)(kind & 255);
-    head[3] = (uint8_t)(kind >> 8);
+    head[2] = (uint8_t)(label & 255);
+    head[3] = (uint8_t)(label >> 8);
     add(b, head, 4);
     add(b, line + 4, n - 4);
 }
@@ -184,7 +184,7 @@ static const uint8_t *noise(size_t n)
 static int judges(const struct bytes *set, struct reply want)
 {
     struct gdt_judged got = gdt_judge(lend(&lent_in, set->of, set->n), set->n);
-    struct reply have = {got.no, got.place, got.label, got.length, got.lines, got.kind};
+    struct reply have = {got.no, got.place, got.label, got.length, got.lines, got.type};
     return holds(&lent_in, set->of) & equal(have, want);
 }
 
@@ -276,7 +276,7 @@ static int refused_by_all(const struct bytes *set, struct reply want)
         & corrects(set, set->n + 20, set->n, 1, "x", want, NULL) & views(set, &sheet, 1, want);
 }
 
-/* The list of an accepted set is written as that set again. Bytes behind the set are not part of it. */
+/* The list of an accepted set is written as that set again. Bytes after the set are not part of it. */
 static int comes_back(const struct bytes *set, size_t length)
 {
     static struct bytes list, front;
@@ -381,7 +381,7 @@ static void test_long_sets(void)
     make_long(&set, 512);
     report("B2 512 lines", judges(&set, (struct reply){0, 0, 0, length, 512, 6310}) & comes_back(&set, length));
     add_text(&set, "xyz8000");
-    report("B2 512 lines and a set behind them", judges(&set, (struct reply){0, 0, 0, length, 512, 6310}));
+    report("B2 512 lines and a set after them", judges(&set, (struct reply){0, 0, 0, length, 512, 6310}));
     make_long(&set, 512);
     add_text(&set, "x");
     report("B2 a 513th line starts", refused_by_all(&set, (struct reply){7, length, 0, 0, 0, 0}));
@@ -401,7 +401,7 @@ static void test_long_sets(void)
 
 /* ---- Contents -------------------------------------------------------------------------------------------------------------- */
 
-/* Contents of one label, added to `lines`; those before the empty text are accepted, those behind it refused by `no`. */
+/* Contents of one label, added to `lines`; those before the empty text are accepted, those after it refused by `no`. */
 static const struct content_case {
     const char *name, *lines, *label;
     size_t no;
@@ -483,7 +483,7 @@ static void test_index(void)
     report("B33 an index of three entries for four lines", indexes(&set, 3, (struct reply){22, 4, 0, 0, 0, 0}, NULL)
            & indexes(&set, 0, (struct reply){22, 4, 0, 0, 0, 0}, NULL));
     add_text(&set, "01380006300\r\n");
-    report("B35 an index with a set behind", indexes(&set, 5, (struct reply){0, 0, 0, 4, 0, 0}, of_p));
+    report("B35 an index with a set after it", indexes(&set, 5, (struct reply){0, 0, 0, 4, 0, 0}, of_p));
     make_set(&set, B "|8410FEV1|8420-3.7|8421l");
     report("example 8: lines 7 and 8 have header 6", indexes(&set, 8, (struct reply){0, 0, 0, 8, 0, 0}, of_example));
     make_set(&set, B "|8410A|84201|8421x|6398n|6399c|6302a|6305b|6304c|6303d|8410A|8410A|8411x|8990s");
@@ -500,7 +500,7 @@ static void test_list(void)
     report("B33 a list of 21 bytes", makes(gdt_list, &set, 21, (struct reply){22, 22, 0, 0, 0, 0}, NULL)
            & makes(gdt_list, &set, 0, (struct reply){22, 22, 0, 0, 0, 0}, NULL));
     add_text(&set, "xyz8000");
-    report("B35 a list with a set behind", makes(gdt_list, &set, 22, (struct reply){0, 0, 0, 22, 0, 0}, &list));
+    report("B35 a list with a set after it", makes(gdt_list, &set, 22, (struct reply){0, 0, 0, 22, 0, 0}, &list));
 }
 
 /* ---- Writer ---------------------------------------------------------------------------------------------------------------- */
@@ -645,7 +645,7 @@ static void test_views(void)
     make_set(&two, P);
     add_text(&two, "xyz8000");
     make_list(&sheet, "0009x");
-    report("B38 a set behind the viewed set", views(&two, &sheet, 9, (struct reply){18, 51, 0, 0, 0, 0}));
+    report("B38 a set after the viewed set", views(&two, &sheet, 9, (struct reply){18, 51, 0, 0, 0, 0}));
 }
 
 int main(void)

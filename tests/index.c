@@ -11,7 +11,7 @@ struct gdt_made second_index(const uint8_t *set, size_t set_length, struct gdt_e
 enum {
     BYTES = 40000,
     LINES = 512,
-    GUARDS = 4,       /* entries before and behind those that are lent */
+    GUARDS = 4,       /* entries before and after those that are lent */
     SUM_AT = 20,      /* the place of the sum's digits */
     SUM_DIGITS = 5,
     STACK_MOST = 8192 /* "8 KiB of stack" */
@@ -214,7 +214,7 @@ static bool accepted_sets(unsigned type)
     for (int i = 0; i < 40; i++) {
         make(type);
         if (!same_rooms(0)) return false;
-        /* another set behind it is not looked at */
+        /* another set after it is not looked at */
         memcpy(set + used, "01380006300\r\n", 13);
         used += 13;
         if (!same(lines)) return false;

@@ -1,4 +1,4 @@
-/* putline.h: puts digits and lines of a set into a buffer behind the bytes that are used; shared by the C programs here that build sets.
+/* putline.h: puts digits and lines of a set into a buffer after the bytes that are used; shared by the C programs here that build sets.
    It assumes that the buffer has room. */
 #ifndef PUTLINE_H
 #define PUTLINE_H

@@ -109,7 +109,7 @@ module _ (s : List ℕ) (fs : List Field) (rest : List ℕ) (set-lines : SetLine
   pub one-list : (gs : List Field) (a : List ℕ) → SetLines s gs a → gs ≡ fs
   one-list gs a l = done-same-lines gs fs a rest (sym (set-scan s gs a l) ∙ set-scan s fs rest set-lines)
 
-  -- a breach of a well-formed set is one of its lines
+  -- only breaches of these lines can come before r, stage by stage: no other lines can be read from s
   by-stage : (r : Rank)
       → ((b : StartBreach fs) → Before (startRank b) r → ⊥)
       → ((t : SetType) → contentAtLine fs 0 ≡ digits 4 (typeNumber t) → (k : ℕ) → k < length fs → (b : RuleBreach t fs k) → Before (rank 3 k (ruleNumber b) 0) r → ⊥)
@@ -138,7 +138,7 @@ before-number n m (inr (e, inl x)) = absurd (omega arith)
 before-number n m (inr (e, inr (f, inl x))) = x
 before-number n m (inr (e, inr (f, inr x))) = absurd (omega (arith, x .1))
 
--- the refusal of a fault of line k
+-- the refusal of a fault
 abbrev toldAt : List Field → Fault → Refusal
 toldAt fs x = refusal (x .no) (inSet fs (x .line) (x .spot)) (x .label)
 
@@ -168,6 +168,7 @@ module _ (s : List ℕ) (fs : List Field) (rest : List ℕ) (set-lines : SetLine
       (λ t q c. later-stage (missingRank c) (rank 2 0 n 0) 4 (missing-stage t fs c) (omega arith))
       (λ q. later-stage (rank 5 0 0 0) (rank 2 0 n 0) 5 refl (omega arith)) d (subst (λ (y : Rank). Before (rankOf d) y) e z)
 
+  -- By the three tests in order: the first that fails gives the breach, and those before it hold, so no smaller number is broken.
   start-first : (x : Fault) (xs : List Fault) → startFaults fs ≡ x ∷ xs → FirstBreach s (toldAt fs x)
   unfolding startFaults
   start-first x xs e = go (labelIs fs 0 8000) (typeKnown fs) (labelIs fs 1 8100) refl refl refl e
@@ -227,6 +228,7 @@ module _ (s : List ℕ) (fs : List Field) (rest : List ℕ) (set-lines : SetLine
     before-rule i k n m (inr (e, inr (f, inl x))) = inr (f, x)
     before-rule i k n m (inr (e, inr (f, inr x))) = absurd (omega (arith, x .1))
 
+    -- The first line with faults gives the breach: the lines before it break no rule, it breaks none of a smaller number, the start is right, and 16 and 17 come later.
     rules-first : (x : Fault) (xs : List Fault) → rulesFrom (typed t) first 0 fs ≡ x ∷ xs → FirstBreach s (toldAt fs x)
     rules-first x xs e = record {
       breach = in-rules t fs rest typed-lines k (f .inside) (b .breach);
@@ -323,7 +325,7 @@ module _ (s : List ℕ) (fs : List Field) (rest : List ℕ) (set-lines : SetLine
             none-before = no-breach-but k (rank 5 0 0 0) (λ q z. nothing-itself z);
           }
 
-    -- all faults behind the start
+    -- the first fault of a set that starts well: of the rules 11 to 15, of 16, or of 17
     typed-first : (x : Fault) (xs : List Fault) → (rulesFrom (typed t) first 0 fs ++ missingFaults (table t) (labels fs)) ++ sumFaults fs ≡ x ∷ xs → FirstBreach s (toldAt fs x)
     typed-first x xs e = outer (head-append (rulesFrom (typed t) first 0 fs ++ missingFaults (table t) (labels fs)) (sumFaults fs) x xs e)
       where
@@ -455,7 +457,7 @@ keeps-no-breach s t fs rest k b =
 pub accepted-no-breach : (s : List ℕ) (x : Shape) → judge s ≡ Accepted x → Breach s → ⊥
 accepted-no-breach s x e b = let f = accepted-exactly s x .0 e in keeps-no-breach s (f .set-type) (f .lines) (f .rest) (f .keeps) b
 
--- a set is refused exactly where there is a breach
+-- a set is refused exactly when there is a breach
 pub refused-for-a-breach : (s : List ℕ) → ((r : Refusal) × (judge s ≡ Refused r)) ↔ Breach s
 refused-for-a-breach s = (λ x. refused-first s (x .0) (x .1) .breach, go (judge s) refl)
   where

@@ -114,6 +114,7 @@ before-part n m p q i j (inl x) = absurd (omega arith)
 before-part n m p q i j (inr (e, inl x)) = absurd (omega arith)
 before-part n m p q i j (inr (e, inr (f, x))) = x
 
+-- Each breach is held against the test that passed: it comes before part p and byte i only if its own part or byte is smaller, and then its test would have failed.
 passed-first : (n : ℕ) (s : List ℕ) (p i : ℕ) → Passed n s p i → (b : LineBreach n s) → Before (lineRank b) (rank 1 n p i) → ⊥
 passed-first n s p i h (too-many e) x = go (before-part n n 0 p 0 i x)
   where
@@ -194,6 +195,7 @@ faultRefusal at x = refusal (x .no) (at + behind 7 (x .spot)) (x .label)
 plain-place : (at m : ℕ) (x : Fault) → x ≡ atLine m 0 0 → faultRefusal at x ≡ refusal m at 0
 plain-place at m x e = ap (faultRefusal at) e ∙ ap (λ (p : ℕ). refusal m p 0) (omega arith)
 
+-- By the four tests in order: the first that fails gives the breach, and those before it passed. If none fails, the first low byte gives it.
 pub fault-first : (n : ℕ) (s : List ℕ) (at : ℕ) (x : Fault) (xs : List Fault) → (n ≢ maxLines) → lineFaults s ≡ x ∷ xs → LineFirst n s at (faultRefusal at x)
 unfolding lineFaults
 fault-first n s at x xs few e = go (lengthOk s) (wholeOk s) (endOk s) (labelOk s) refl refl refl refl e
@@ -274,7 +276,7 @@ fault-first n s at x xs few e = go (lengthOk s) (wholeOk s) (endOk s) (labelOk s
           });
         }
 
--- a line without faults has no breach but that it is one too many
+-- a line without faults that is not one too many has no breach
 pub fine-no-breach : (n : ℕ) (s : List ℕ) → (n ≢ maxLines) → lineFaults s ≡ [] → LineBreach n s → ⊥
 unfolding lineFaults
 fine-no-breach n s few e b = go b
@@ -381,7 +383,7 @@ refused-pieces (suc n) at s r e = go (refused-pieces n) (setOver s) refl e
 
 -- ---- lines are read in one way
 
--- the bytes behind fewer lines are the other lines, and what follows them
+-- the bytes after fewer lines are the other lines, and what follows them
 rest-behind : (gs hs : List Field) (a b : List ℕ) → Every Sound gs → Every Sound hs → render gs a ≡ render hs b → length hs ≤ length gs → b ≡ render (drop (length hs) gs) a
 rest-behind gs [] a b p q e l = sym e
 rest-behind [] (h ∷ hs) a b p q e l = absurd (omega arith)
@@ -390,7 +392,7 @@ rest-behind (g ∷ gs) (h ∷ hs) a b p q e l =
     sym (drop-line g (render gs a) (p .0)) ∙ (ap (λ (x : List ℕ). drop (sizeAt x) x) e ∙ drop-line h (render hs b) (q .0)) in
     rest-behind gs hs a b (p .1) (q .1) f (omega arith)
 
--- the line behind fewer lines has no fault
+-- the line after fewer lines has no fault
 fine-behind : (gs hs : List Field) (a b : List ℕ) → Every Sound gs → Every Sound hs → render gs a ≡ render hs b → length hs < length gs
     → (t : List ℕ) × (b ≡ lineThen (getD gs (length hs) noField) t) × (lineFaults b ≡ [])
 fine-behind gs hs a b p q e l =
@@ -461,6 +463,7 @@ first-refused s r x xs m e q = record {
   is-first = subst (λ (y : Refusal). LineFirst 0 s 0 y) (sym q) (fault-first 0 s 0 x xs (λ z. omega arith) e);
 }
 
+-- The first line is put before the lines that were read after it. The scan stopped at one line too many, or at a line with a fault: that gives the first breach.
 later-refused : (s : List ℕ) (r : Refusal) → lineFaults s ≡ [] → RefusedAt 511 (0 + sizeAt s) (drop (sizeAt s) s) r → ScanRefused s r
 later-refused s r e x = record {
   lines = fs;
@@ -554,7 +557,7 @@ line-none-before s r x fs rest st b h = go (before-line (length fs) (length gs) 
         subst (λ (u : List ℕ). (c : LineBreach (length gs) u) → Before (lineRank c) (lineRank (x .is-first .breach)) → ⊥) (sym q) (x .is-first .none-before) in
         subst (λ (m : ℕ). (c : LineBreach m rest) → Before (lineRank c) (lineRank (x .is-first .breach)) → ⊥) (sym e) any b h
 
--- where a scan ends well no line has a breach
+-- if a scan ends well, no line has a breach: after fewer lines stands a line without fault, and after as many or more no line starts
 pub scanned-no-breach : (s : List ℕ) (gs : List Field) (a : List ℕ) → s ≡ render gs a → Every Sound gs → 0 < length gs → length gs ≤ maxLines → (a ≡ []) ⊎ StartsSet a
     → (fs : List Field) (rest : List ℕ) → LineStarts s fs rest → LineBreach (length fs) rest → ⊥
 scanned-no-breach s gs a e sg some few end fs rest st b = go (lt-or-le (length fs) (length gs))

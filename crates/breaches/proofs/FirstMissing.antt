@@ -1,4 +1,4 @@
--- 16: the first lack that is told is a required label that is absent, and none comes before it: set level, then groups and names by their line, then by label.
+-- 16: the first lack that is given is a required label that is absent, and none comes before it: set level, then groups and names by their line, then by label.
 use mathlib.Core.Path.{_≡_, refl, sym, ap, _∙_, subst}
 use mathlib.Core.Bool.{Bool, true, false, cond, not, _&&_, true≢false}
 use mathlib.Core.List.{List, [], _∷_, _++_, cons≢nil}
@@ -72,6 +72,7 @@ none-smaller : (a : ℕ) (has : ℕ → Bool) (xs : List Row) → Every (λ q. a
 none-smaller a has [] h = tt
 none-smaller a has (x ∷ xs) h = (λ l. absurd (omega (arith, h .0)), none-smaller a has xs (h .1))
 
+-- Row by row, in the order of labels: the first row that is lacking is the one; those before it are met, and no label after it is smaller.
 row-lack : (P : Row → Type 0) (xs : List Row) (h k : ℕ) (has : ℕ → Bool) (x : Fault) (ys : List Fault) → Every P xs → Sorted xs → lackingOf xs h k has ≡ x ∷ ys
     → RowLack P xs h k has x
 unfolding lackingOf
@@ -131,7 +132,7 @@ table-lack t h k has x ys e =
           (unsorted (λ y. y .label < f .its-row .label → Met has y) (rowsUnder (table t) h) (f .smaller-met))) u m;
     }
 
--- of a name the label one higher is told
+-- a name lacks the label one higher
 name-missing : (l m : ℕ) → IsName l → missingLabel l m ≡ suc l
 unfolding missingLabel
 name-missing l m n = go (paired l)
@@ -176,6 +177,7 @@ module _ (t : SetType) (fs : List Field) (fine : (k : ℕ) → k < length fs →
       let g : Regular r = row-regular t l r h in
       (λ e. no-absurd q (g .name-optional e), λ e. omega (arith, g .under-name e))
 
+  -- The first row that is lacking gives the label. It is required by its row, since no label at set level has a condition; smaller labels that are required were seen.
   set-first : (x : Fault) (ys : List Fault) → lacking (table t) setLevel 0 (among (stateAt t fs (length fs) .top)) ≡ x ∷ ys → MissingFirst x
   unfolding rowLabel missingLabel
   set-first x ys e = in-set (r .label) (r, f .in-table, f .under-it) (r, f .in-table, req) absent-so (f .is) before
@@ -219,7 +221,7 @@ module _ (t : SetType) (fs : List Field) (fine : (k : ℕ) → k < length fs →
       before (of-group h l i m q n) z = let w : suc h ≡ 0 = before-set (r .label) (rank 4 (suc h) l 0) refl z .0 in omega arith
       before (of-name k i m n) z = let w : suc k ≡ 0 = before-set (r .label) (rank 4 (suc k) (suc (labelAtLine fs k)) 0) refl z .0 in omega arith
 
-  -- ---- in groups and behind names
+  -- ---- in groups and after names
 
   record FirstEnd (x : Fault) : Type 0 where
     ends-at : ℕ
@@ -242,6 +244,7 @@ module _ (t : SetType) (fs : List Field) (fine : (k : ℕ) → k < length fs →
       go (in-open r h u o) = absurd (cons≢nil (sym (rw (role-open t fs k st r h u o) at e)))
       go (behind-name r h u o) = absurd (cons≢nil (sym (rw (role-odd t fs k st r h u o) at e)))
 
+  -- Line by line from line i on: the group ends at the first line that finds a lack, or at the end of the set.
   end-from : (n i : ℕ) (x : Fault) (xs : List Fault) → i + n ≡ length fs → ((j : ℕ) → j < i → lackAt t fs j ≡ [])
       → groupsLacking (table t) (stateAt t fs i) i (drop i (labels fs)) ≡ x ∷ xs → FirstEnd x
   end-from zero i x xs e h q = record {
@@ -306,7 +309,7 @@ module _ (t : SetType) (fs : List Field) (fine : (k : ℕ) → k < length fs →
     earlier-group i l p m (with-value q v) n = n (subst (λ (y : ℕ). GroupHas t fs i y) (sym q) (values-have-units t fs fine h clear-to i p v))
     earlier-group i l p m (with-8438 q v) n = n (subst (λ (y : ℕ). GroupHas t fs i y) (sym q) (has-8437-with-8438 t fs fine h clear-to i p v))
 
-    -- of a header or name before it nothing is lacking; of its own line only what is smaller is left to see
+    -- nothing comes before label l of line h but a smaller label of line h: the set, and the groups and names before h, lack nothing
     before-line : (l : ℕ) (own-group : (j : ℕ) → MemberOf t (labelAtLine fs h) j → RequiredIn t fs h j → (GroupHas t fs h j → ⊥) → j < l → ⊥)
         (own-name : IsName (labelAtLine fs h) → suc (labelAtLine fs h) < l → ⊥) (b : MissingBreach t fs) → Before (missingRank b) (rank 4 (suc h) l 0) → ⊥
     before-line l g n (of-set j a q c) z = let w = complete j a q in c (w .0) (w .1) (w .2)
@@ -399,7 +402,7 @@ module _ (t : SetType) (fs : List Field) (fine : (k : ℕ) → k < length fs →
           (the-lack .is ∙ rw (header-no-pair (labelAtLine fs h) u) refl)
           (before-line (r .label) smaller-there (λ n z. no-name-header (labelAtLine fs h) u n))
 
-    -- behind a name
+    -- after a name
     name-first : IsName (labelAtLine fs h) → MissingFirst x
     name-first n =
         in-name h header-line n (λ q. name-open t fs k (e .within) (e .ended) h o n q)

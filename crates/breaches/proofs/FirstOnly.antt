@@ -1,4 +1,4 @@
--- The first breach decides the answer: a set is refused with r exactly where r is the refusal of the first breach in the paper's order (`refused-exactly-with`).
+-- The first breach decides the answer: a set is refused with r exactly when r is the refusal of the first breach in the paper's order (`refused-exactly-with`).
 use mathlib.Core.Path.{_≡_, refl, sym, ap, ap₂, _∙_, subst}
 use mathlib.Core.List.{List, [], _∷_}
 use mathlib.Core.Logic.{_⊎_, inl, inr, _↔_}
@@ -29,7 +29,7 @@ lineNumber : ℕ → ℕ
 lineNumber zero = tooManyLines
 lineNumber (suc p) = suc p
 
--- 6 alone has a byte behind the line's start
+-- only 6 has its place after the line's first byte
 lineByte : ℕ → ℕ → ℕ
 lineByte zero i = 0
 lineByte (suc zero) i = 0
@@ -39,7 +39,7 @@ lineByte (suc (suc (suc (suc zero)))) i = 0
 lineByte (suc (suc (suc (suc (suc zero))))) i = 0
 lineByte (suc (suc (suc (suc (suc (suc p)))))) i = lineLead + i
 
--- 10 alone is told at line 2
+-- only 10 has its place at line 2
 startPlace : List Field → ℕ → ℕ
 startPlace fs n = elim (eqb n noSum) [ true ↦ offset fs 1 | false ↦ 0 ]
 
@@ -149,6 +149,7 @@ ordered m n = go (eqb m n) refl
     go true e = inr (inl (eqb-true m n e))
     go false e = other (ne-cases m n (eqb-false m n e))
 
+-- Stage, line, part and byte are equal, one after the other: if one differs and those before it agree, one of the ranks comes before the other.
 neither : (a b : Rank) → (Before a b → ⊥) → (Before b a → ⊥) → a ≡ b
 neither a b p q = λ i. record { stage = st i; line = li i; part = pa i; byte = by i }
   where
@@ -191,7 +192,7 @@ one-first s r q f g =
     let e : rankOf (f .breach) ≡ rankOf (g .breach) = neither (rankOf (f .breach)) (rankOf (g .breach)) (g .none-before (f .breach)) (f .none-before (g .breach)) in
     f .its-refusal ∙ (same-rank s (f .breach) (g .breach) e ∙ sym (g .its-refusal))
 
--- a set is refused with number, place and label r exactly where r is that of the first breach in the paper's order
+-- a set is refused with number, place and label r exactly when r is that of the first breach in the paper's order
 pub refused-exactly-with : (s : List ℕ) (r : Refusal) → (judge s ≡ Refused r) ↔ FirstBreach s r
 refused-exactly-with s r = (refused-first s r, λ f. go f (judge s) refl)
   where

@@ -1,4 +1,4 @@
--- 11 to 15: the first fault of a line behind lines without faults is a breach of its rule, and no rule of a smaller number is broken there.
+-- 11 to 15: the first fault of a line after lines without faults is a breach of its rule, and no rule of a smaller number is broken there.
 use mathlib.Core.Path.{_≡_, refl, sym, ap, _∙_, subst}
 use mathlib.Core.Bool.{Bool, true, false, cond, not, _||_, true≢false}
 use mathlib.Core.List.{List, [], _∷_, _++_, cons≢nil}
@@ -72,7 +72,7 @@ module _ (t : SetType) (fs : List Field) (k : ℕ) (st : State) (inside : k < le
       go false true p q z = (p, q)
       go false false p q z = absurd (true≢false z)
 
-  -- what is first where the label has no fault
+  -- the first breach if the label has no fault: 14 if the content does not fit, else 15; 11 to 13 are kept
   content-first : (x : Fault) (xs : List Fault) → Stands t fs k st → LabelFine t fs k st → contentFaults (typed t) k (getD fs k noField) ≡ x ∷ xs → RuleFirst x
   unfolding contentFaults fits current is0210
   content-first x xs s fine e = go (fitsLabel (labelAtLine fs k) (contentAtLine fs k)) refl e
@@ -199,6 +199,7 @@ module _ (t : SetType) (fs : List Field) (k : ℕ) (st : State) (inside : k < le
     none-smaller = λ d l. none-less 12 (known r h) d (omega arith);
   }
 
+  -- By the row of the label: none is 11. Else by where the row stands, and whether its header or name is open: 12 if not, else 13, 14 or 15.
   pub rule-first : (x : Fault) (xs : List Fault) → lineRules (roleBehind t fs st k) (typed t) st k (getD fs k noField) ≡ x ∷ xs → RuleFirst x
   unfolding lineRules labelFaults role roleOf belongs
   rule-first x xs e = go (find (table t) (labelAtLine fs k)) refl e
@@ -280,7 +281,7 @@ module _ (t : SetType) (fs : List Field) where
   pub behind-line : (k : ℕ) → ((j : ℕ) → j < k → faultsAt t fs j ≡ []) → Behind t fs k (stateAt t fs k)
   behind-line k h = behind-fine t fs k (λ j p. labels-of j (h j p))
 
-  -- a line without faults, behind lines without faults, breaks no rule
+  -- a line without faults, after lines without faults, breaks no rule
   pub fine-line : (k : ℕ) → k < length fs → ((j : ℕ) → j < suc k → faultsAt t fs j ≡ []) → RuleBreach t fs k → ⊥
   unfolding fits
   fine-line k l h c =

@@ -1,4 +1,4 @@
--- The laws that the proofs of this crate and of later ones cite.
+-- From the first fault that is found to the first breach, and back: a file for the lines, one for 11 to 15, one for 16, then all of them.
 pub mod FirstLine
 pub mod FirstRule
 pub mod FirstMissing

@@ -19,7 +19,7 @@ use Rattle.meaning.specs.FieldTable.{fitsLabel}
 use Rattle.meaning.specs.Refusals.{refusal, empty, badLength, cutLine, badEnd, badLabel, badByte, tooManyLines, noStart, unknownSet, noSum, notInSet, stray, repeated, badContent, otherVersion, missing, badSum}
 use Rattle.keeps.specs.Keeps.{LinesWellFormed, StartsSet, EndsBefore, HasRow, AtSetLevel, Required, MemberOf, IsName, IsOdd, InGroup, GroupHas}
 
--- ---- 2 to 7: a line that starts behind the lines fs
+-- ---- 2 to 7: a line that starts after the lines fs
 
 -- the lines fs are well formed and none but the first starts a set; more follows, which starts no set unless it is the first line
 pub record LineStarts (s : List ℕ) (fs : List Field) (rest : List ℕ) : Type 0 where
@@ -152,7 +152,7 @@ refusalOf (in-sum fs rest l e) = refusal badSum (offset fs 1) 0
 
 -- ---- the order
 
--- where a breach comes: by its stage, then by its line, then by its number or label, then by its byte
+-- the rank of a breach: its stage, then its line, then its number or label, then its byte
 pub record Rank : Type 0 where
   pub stage : ℕ
   pub line : ℕ

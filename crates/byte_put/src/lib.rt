@@ -7,10 +7,7 @@ ghost use lib.ListN.{length, take, drop, replicate};
 ghost use Rattle.meaning.specs.Digits.{digits};
 ghost use Rattle.byte_put.specs.Places.{word, halfWord, over};
 
-// "Digits" are 30h to 39h.
-const DIGIT_ZERO: u8 = b'0';
-
-// So many bytes are moved at once.
+// This many bytes are copied at once.
 const WORD: usize = 8;
 
 const HALF_WORD: usize = 4;
@@ -25,7 +22,7 @@ pub fn put_digits(s: &mut [u8], at: usize, k: usize, n: usize)
     while 0 < i {
         i -= 1;
         let rest = left / 10;
-        s[at + i] = DIGIT_ZERO + (left - rest * 10) as u8;
+        s[at + i] = meaning::DIGIT_ZERO + (left - rest * 10) as u8;
         left = rest;
     }
 }

@@ -26,11 +26,7 @@ pub fn correct(buffer: &mut [u8], used: usize, line: usize, content: &[u8]) -> M
     let room = buffer.len();
     // 18, BadUse: "used length over the buffer (place: buffer length)"
     if room < used {
-        return Made::Refused(Refusal {
-            no: Refusal::BAD_USE,
-            place: room,
-            label: 0,
-        });
+        return Made::Refused(Refusal::at(Refusal::BAD_USE, room));
     }
     match plan_change(&buffer[..used], room, line, content) {
         Plan::Refused(r) => Made::Refused(r),

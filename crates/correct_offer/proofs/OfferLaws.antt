@@ -19,14 +19,13 @@ use Rattle.meaning.specs.FieldTable.{fitsLabel}
 use Rattle.meaning.specs.Rules.{fits}
 use Rattle.meaning.specs.Reading.{shape, read}
 use Rattle.meaning.specs.Corrections.{fixed, changeFaults}
-use Rattle.meaning.proofs.Bools.{and-left, and-right, Every, every-at}
+use Rattle.meaning.proofs.Bools.{and-left, and-right, byte-then, Every, every-at}
 use Rattle.meaning.proofs.LineLaws.{Sound, length-render}
 use Rattle.meaning.proofs.PlaceLaws.{drop-lineThen, content-at}
 use Rattle.meaning.proofs.SetLaws.{accepted}
 use Rattle.meaning.proofs.CorrectionLaws.{Change, change}
 use Rattle.byte_low.specs.Low.{firstLow}
 use Rattle.line_read.specs.Told.{toldLength, toldLabel}
-use Rattle.line_read.proofs.Laws.{byte-then}
 use Rattle.line_read.proofs.Bridge.{read-line}
 use Rattle.line_read.proofs.ToldLaws.{read-told}
 use Rattle.correct_offer.specs.declared.OneLine.{OneLine}

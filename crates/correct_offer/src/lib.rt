@@ -46,11 +46,11 @@ pub fn line_after(set: &[u8], before: usize) -> OneLine
         if length == 0 {
             return no_line();
         }
-        at += length + line_read::LINE_FRAME;
+        at += length + meaning::LINE_FRAME;
         left -= 1;
     }
     let label = line_read::told_label(set, at);
-    let size = line_read::told_length(set, at) + line_read::LINE_FRAME;
+    let size = line_read::told_length(set, at) + meaning::LINE_FRAME;
     OneLine { label, at, size }
 }
 
@@ -59,9 +59,9 @@ fn is_fixed(label: usize) -> bool
     ensures { λ r. ⌜ r ≡ fixed label ⌝ }
 {
     match label {
-        8000 => true,
-        8100 => true,
-        9218 => true,
+        meaning::LABEL_8000 => true,
+        meaning::LABEL_8100 => true,
+        meaning::LABEL_9218 => true,
         _ => false,
     }
 }

@@ -67,7 +67,7 @@ pub fn plan_judged(set: &[u8], shape: Shape, room: usize, line: usize, content: 
     if offer.no != 0 {
         return refused(offer.no, place_of(offer), offer.label);
     }
-    let old = offer.size - line_read::LINE_FRAME;
+    let old = offer.size - meaning::LINE_FRAME;
     let total = set.len() - old + content.len();
     plan_total(room, offer.at, old, total)
 }

@@ -7,12 +7,12 @@ ghost use lib.ListN.{length};
 ghost use Rattle.meaning.specs.Lines.{lineLead};
 ghost use Rattle.meaning.specs.Lists.{sumDigits};
 ghost use Rattle.correct_put.specs.Middle.{replaced, newTotal, sumPlace, recontented};
-use line_read::LENGTH_DIGITS;
-use line_read::LINE_FRAME;
-use line_read::LINE_LEAD;
+use meaning::LENGTH_DIGITS;
+use meaning::LINE_FRAME;
+use meaning::LINE_LEAD;
 
 // The content of line 2, the sum, stands behind line 1, whose content is the set's type, and behind its own line's lead.
-const SUM_PLACE: usize = line_read::TYPE_DIGITS + LINE_FRAME + LINE_LEAD;
+const SUM_PLACE: usize = meaning::TYPE_DIGITS + LINE_FRAME + LINE_LEAD;
 
 // Replaces the `old` bytes at an offset by others: the bytes behind them move inside the buffer, and "every byte past the new used length becomes zero".
 fn replace_middle(buffer: &mut [u8], at: usize, old: usize, new: &[u8], used: usize)
@@ -43,5 +43,5 @@ pub fn put_content(
 {
     replace_middle(buffer, place + LINE_LEAD, old, content, used);
     byte_put::put_digits(buffer, place, LENGTH_DIGITS, content.len() + LINE_FRAME);
-    byte_put::put_digits(buffer, SUM_PLACE, line_read::SUM_DIGITS, total);
+    byte_put::put_digits(buffer, SUM_PLACE, meaning::SUM_DIGITS, total);
 }

@@ -1,4 +1,4 @@
--- What the walk of an entry's head means: kind and content of the entry at the front of the bytes from the offset on, where it is whole.
+-- What the walk of an entry's head means: label and content of the entry at the front of the bytes from the offset on, where it is whole.
 use mathlib.Core.Path.{_≡_, refl, sym, ap, _∙_}
 use mathlib.Core.Bool.{Bool, true, false, cond, _&&_}
 use mathlib.Core.List.{List}
@@ -68,28 +68,28 @@ entry-is s at =
     told false b d = refl
 
 -- what a whole entry at an offset tells of the bytes there
-pub record WholeAt (s : List ℕ) (at kind n : ℕ) : Type 0 where
+pub record WholeAt (s : List ℕ) (at label n : ℕ) : Type 0 where
   pub whole : entryWhole (drop at s) ≡ true
-  pub kind-so : kind ≡ entryLabel (drop at s)
+  pub label-so : label ≡ entryLabel (drop at s)
   pub width-so : entryLead + n ≡ entryWidth (drop at s)
   pub content-so : take n (drop (at + entryLead) s) ≡ entryContent (drop at s)
   pub content-length : length (entryContent (drop at s)) ≡ n
   pub within : at + (entryLead + n) ≤ length s
 
-pub whole-back : (s : List ℕ) (at : ℕ) {kind n : ℕ} → entryAt s at ≡ Whole kind n → WholeAt s at kind n
-whole-back s at {kind} {n} e = go (entryWhole (drop at s)) refl (sym (entry-is s at) ∙ e)
+pub whole-back : (s : List ℕ) (at : ℕ) {label n : ℕ} → entryAt s at ≡ Whole label n → WholeAt s at label n
+whole-back s at {label} {n} e = go (entryWhole (drop at s)) refl (sym (entry-is s at) ∙ e)
   where
     d : List ℕ
     d = drop at s
 
-    go : (b : Bool) → entryWhole d ≡ b → headOf b d ≡ Whole kind n → WholeAt s at kind n
+    go : (b : Bool) → entryWhole d ≡ b → headOf b d ≡ Whole label n → WholeAt s at label n
     go true q h =
         let w = entire d q in
-        let k : kind ≡ entryLabel d = cc in
+        let k : label ≡ entryLabel d = cc in
         let m : n ≡ twoBytesAt d 0 = cc in
         record {
           whole = q;
-          kind-so = k;
+          label-so = k;
           width-so = omega arith;
           content-so = rw (m, ← drop-drop entryLead at s) refl;
           content-length = length-take (twoBytesAt d 0) (drop entryLead d) ∙ omega (arith, w .within, length-drop entryLead d);
@@ -123,6 +123,6 @@ module _ (s : List ℕ) (at : ℕ) where
         let q : k ≡ suc (k - 1) = omega (arith, g) in
         rw (q, lt-leb (length s) at h, e)
 
-    pub heads-further : {k j : ℕ} → k ≡ suc j → {kind n : ℕ} → entryAt s at ≡ Whole kind n → headsEnd s at k ≡ headsEnd s (at + (entryLead + n)) j
+    pub heads-further : {k j : ℕ} → k ≡ suc j → {label n : ℕ} → entryAt s at ≡ Whole label n → headsEnd s at k ≡ headsEnd s (at + (entryLead + n)) j
     unfolding headsEnd
     heads-further q e = rw (q, lt-leb (length s) at h, e)

@@ -1,21 +1,17 @@
-// The head of an entry at an offset of a field list or a sheet: "content length in two bytes, kind in two bytes .., both little-endian, then the content". And where heads lead to.
+// The head of an entry at an offset of a field list or a sheet: "content length in two bytes, label in two bytes .., both little-endian, then the content". And where heads lead to.
 // Assumes nothing of the bytes or the offset: the contracts cite walks of specs/, and proofs/HeadLaws says what they mean.
 ghost use mathlib.Core.Path.{_≡_};
 ghost use Prim.Native.Nat.{_+_, _*_, _≤_};
 ghost use lib.ListN.{length};
 ghost use Rattle.meaning.specs.Entries.{byteValues, twoBytesAt};
 ghost use Rattle.entry_read.specs.Head.{entryAt, headsEnd};
-
-// The bytes of a length or a kind.
-pub const NUMBER_BYTES: usize = 2;
-
-// The bytes before a content.
-pub const ENTRY_LEAD: usize = NUMBER_BYTES + NUMBER_BYTES;
+use meaning::ENTRY_LEAD;
+use meaning::NUMBER_BYTES;
 
 // What the head of an entry tells.
 pub enum Head {
-    // The entry is all there: its kind (a label, in a sheet a line number), and the length of its content.
-    Whole { kind: usize, length: usize },
+    // The entry is all there: its label (a label, in a sheet a line number), and the length of its content.
+    Whole { label: usize, length: usize },
     // Its head or its content runs past the input.
     Cut,
 }
@@ -49,8 +45,8 @@ pub fn entry_at(s: &[u8], at: usize) -> Head
     if s.len() - at - ENTRY_LEAD < length {
         return Head::Cut;
     }
-    let kind = two_bytes(s, at + NUMBER_BYTES);
-    Head::Whole { kind, length }
+    let label = two_bytes(s, at + NUMBER_BYTES);
+    Head::Whole { label, length }
 }
 
 // The heads lead from entry to entry to the end of the bytes, and there are no more than `most`. Of the contents nothing is asked.
@@ -67,7 +63,7 @@ pub fn heads_end(s: &[u8], most: usize) -> bool
             Head::Cut => {
                 return false;
             }
-            Head::Whole { kind: _, length } => {
+            Head::Whole { label: _, length } => {
                 at += ENTRY_LEAD + length;
                 left -= 1;
             }

@@ -1,5 +1,5 @@
 -- The field table (chapter 4 of the QMS description) as printed there, and for each row contents that just fit and contents that just do not.
--- The rows are written off the document; of specs/ only the definitions under test are used.
+-- The rows are copied from the document; of specs/ only the definitions under test are used.
 use mathlib.Core.Path.{_≡_, refl}
 use mathlib.Core.Bool.{Bool, true, false, cond, _&&_, Bool·beq}
 use mathlib.Core.List.{List, [], _∷_, _++_, map, flatMap, flatten}
@@ -36,7 +36,7 @@ data Kind : Type 0 where
   alnum num float rule020 rule008 rule090 version : Kind
   oneOf : String → Kind
 
--- a row has more than one label where a range is printed
+-- a row has more than one label if a range is printed
 record Printed : Type 0 where
   labels : List ℕ
   lengths : Length
@@ -51,6 +51,7 @@ range l m n k = record { labels = map (λ (i : ℕ). l + 2 * i) (from 0 (suc ((m
 
 -- ---- the rows
 
+-- label, length, type and rule of each row, in the printed order
 printed : List Printed
 printed =
     row 0102 (<= 60) alnum
@@ -141,7 +142,7 @@ lengthsTried (exactly k) = 0 ∷ 1 ∷ pred k ∷ k ∷ suc k ∷ []
 lengthsTried (<= k) = 0 ∷ 1 ∷ k ∷ suc k ∷ []
 lengthsTried var = 0 ∷ 1 ∷ 60 ∷ 61 ∷ []
 
--- what the contents of a kind are made of, again and again: at the right length they fit
+-- the bytes that contents of a kind repeat: at the right length they fit
 abbrev pattern : Kind → List ℕ
 pattern alnum = 32 ∷ 127 ∷ 128 ∷ 255 ∷ []
 pattern num = text "0123456789"
@@ -152,7 +153,7 @@ pattern rule090 = text "010203"
 pattern version = text "02.10"
 pattern (oneOf ds) = text ds
 
--- n bytes: these again and again
+-- n bytes: these repeated
 abbrev cycle : ℕ → List ℕ → List ℕ
 cycle n bs = take n (flatten (replicate n bs))
 
@@ -168,7 +169,7 @@ spoilt l bs c = flatMap (λ (i : ℕ). map (λ (b : ℕ). case l false (set c i 
 abbrev noDigits : String
 noDigits = "/:- a"
 
--- one byte again and again: the first and the last content byte, and those about 80h
+-- one byte repeated: the first and the last content byte, and those on both sides of 80h
 abbrev filled : ℕ → ℕ → List Case
 filled l n = map (λ (b : ℕ). case l true (replicate n b)) (32 ∷ 127 ∷ 128 ∷ 255 ∷ [])
 
@@ -245,19 +246,19 @@ versions =
     texts 9218 true ("02.10" ∷ [])
     ++ texts 9218 false ("02.00" ∷ "01.00" ∷ "99.99" ∷ "02.11" ∷ "02.01" ∷ "12.10" ∷ "00.10" ∷ "10.02" ∷ [])
 
--- what is answered to the paper's set P where 9218 has this content
+-- what is answered to the paper's set P if 9218 has this content
 versionReply : String → Judged
 unfolding computes
 versionReply v = judge (text "01380006300\r\n014810000051\r\n0149218" ++ text v ++ text "\r\n01030000\r\n")
 
 -- ---- the answers
 
--- the cases that a test answers otherwise
+-- the cases that a test answers differently
 abbrev wrong : (ℕ → List ℕ → Bool) → List Case → List Case
 wrong test [] = []
 wrong test (c ∷ cs) = let rest = wrong test cs in cond (Bool·beq (test (c .label) (c .content)) (c .fits)) rest (c ∷ rest)
 
--- Each printed row is there, so many contents are tried, and none is answered otherwise. To see which one differs, state the third of one row:
+-- Each printed row is there, this many contents are tried, and none is answered differently. To see which one differs, state the third of one row:
 -- `wrong fitsLabel (ofRow r) ≡ []`.
 all-fields :
     (length printed ≡ 57)
@@ -265,7 +266,7 @@ all-fields :
     × (wrong fitsLabel cases ≡ [])
     × (wrong (λ l c. is0210 c) versions ≡ [])
     × (map versionReply ("02.10" ∷ "02.00" ∷ "01.00" ∷ "99.99" ∷ "02,10" ∷ [])
-    ≡ Accepted (record { length = 51; lines = 4; kind = 6300 })
+    ≡ Accepted (record { length = 51; lines = 4; settype = 6300 })
     ∷ Refused (refusal 15 27 9218)
     ∷ Refused (refusal 15 27 9218)
     ∷ Refused (refusal 15 27 9218)

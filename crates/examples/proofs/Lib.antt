@@ -1,4 +1,4 @@
--- The laws that the proofs of this crate and of later ones cite.
+-- The examples: the set tables, the field table, the longest sets and lists.
 pub mod RowExamples
 pub mod FieldExamples
 pub mod LongSets

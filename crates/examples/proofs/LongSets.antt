@@ -1,5 +1,5 @@
 -- Sets of 512 lines, the most that a set can have (B2 of docs/DECISIONS.md), and lists of more than 511 entries (B28): a table and a theorem for each.
--- They stand apart from the other open points, in crate `meaning`, since so many lines take long to compute.
+-- The other open points are in crate `meaning`; these stand apart, since sets of this size take long to compute.
 use mathlib.Core.Path.{_≡_, refl}
 use mathlib.Core.List.{List, [], _∷_, _++_}
 use Prim.Native.Nat.{ℕ}

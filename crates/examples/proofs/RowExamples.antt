@@ -1,5 +1,5 @@
 -- The five set tables (chapter 3 of the QMS description) as printed there, and for each row sets in which its line is absent, in place, again and out of place.
--- The rows are written off the documents; what a set is to be answered is told from the printed rows alone.
+-- The rows are copied from the documents; what must be answered for a set follows from the printed rows alone.
 use mathlib.Core.Path.{_≡_, refl}
 use mathlib.Core.Bool.{Bool, true, false, cond, not, _&&_, _||_}
 use mathlib.Core.List.{List, [], _∷_, _++_, map, flatMap}
@@ -28,7 +28,7 @@ data Level : Type 0 where
 data Occurs : Type 0 where
   one many : Occurs
 
--- the column "necessary": M, K, or m where one of these labels stands in the group
+-- the column "necessary": M, K, or m if one of these labels stands in the group
 data Need : Type 0 where
   M K : Need
   m : List ℕ → Need
@@ -83,7 +83,7 @@ printed6301 =
     ∷ row 3623 top one K
     ∷ row 3628 top one K ∷ []
 
--- "New Test Request", where 8410 is a line like any other
+-- "New Test Request", in which 8410 is a line like any other
 printed6302 : List Printed
 printed6302 =
     row 8000 top one M
@@ -140,7 +140,7 @@ first6310 =
     ∷ row 3628 top one K
     ∷ row 8402 top one M ∷ []
 
--- 8410 is printed m where one of 8411 to 8480 stands: such a one without its 8410 is Stray, so that 8410 itself is never missing.
+-- 8410 is printed m, required if one of 8411 to 8480 stands: without its 8410 that one is Stray, so 8410 itself is never missing.
 -- 8411 is printed V, which is no word of this column: K. 8431 is printed 1 and n: the paper says n.
 second6310 : List Printed
 second6310 =
@@ -186,7 +186,7 @@ printed6310 : List Printed
 unfolding first6310 second6310 third6310
 printed6310 = first6310 ++ second6310 ++ third6310
 
--- "Test Data Display", where 8432 and 8439 are lines like any other
+-- "Test Data Display", in which 8432 and 8439 are lines like any other
 printed6311 : List Printed
 printed6311 =
     row 8000 top one M
@@ -209,7 +209,7 @@ printed6311 =
 
 -- ---- the lines of a set
 
--- contents that fit, where the label's own four digits do not
+-- contents that fit; the other labels take their own four digits as content
 contents : List Field
 contents =
     field 3103 (text "12041946")
@@ -236,9 +236,9 @@ line : ℕ → ℕ → Field
 unfolding contents
 line t l = field l (cond (eqb l 8000) (digits 4 t) (contentIn contents l))
 
--- ---- what is given, and what is to be answered
+-- ---- what is given, and what must be answered
 
--- lines by their labels: with the sum put in as line 2 and further lines behind the set, or as they stand
+-- lines by their labels: with the sum put in as line 2 and further lines after the set, or as they stand
 data Given : Type 0 where
   summed : List ℕ → List ℕ → Given
   bare : List ℕ → Given
@@ -269,7 +269,7 @@ bytes t (bare ls) = render (lines t (bare ls)) []
 
 -- "The place is the offset of the line's first byte"
 abbrev answer : ℕ → List Field → Demand → Judged
-answer t fs accepted = Accepted (record { length = length (render fs []); lines = length fs; kind = t })
+answer t fs accepted = Accepted (record { length = length (render fs []); lines = length fs; settype = t })
 answer t fs (refused n k l) = Refused (refusal n (length (render (take k fs) [])) l)
 
 -- a set that is accepted
@@ -320,13 +320,13 @@ needed : List Printed → List ℕ
 unfolding labelsOf
 needed rs = without 8100 (labelsOf (keep (λ (r : Printed). atSetLevel (r .level) && isM (r .need)) rs))
 
--- the members of h that are required where h and l stand
+-- the members of h that are required if h and l stand
 called : List Printed → ℕ → ℕ → List ℕ
 unfolding labelsOf
 called rs h l =
     labelsOf (keep (λ (r : Printed). isUnder h (r .level) && (elem h (conditions (r .need)) || elem l (conditions (r .need)))) rs)
 
--- a line at set level with the members that it requires: three behind 6302, none behind any other
+-- a line at set level with the members that it requires: three after 6302, none after any other
 block : List Printed → ℕ → List ℕ
 unfolding called
 block rs h = h ∷ called rs h h
@@ -343,7 +343,7 @@ abbrev again : Occurs → List ℕ → List ℕ → ℕ → Case
 again one before rest l = refuse 13 before rest l
 again many before rest l = accept (before ++ rest)
 
--- absent, which is 16 for M, at place 0; at the end; in line 3 and again at the end. Where it is K, it is absent in the set of what is needed (`ofTable`).
+-- absent, which is 16 for M, at place 0; at the end; in line 3 and again at the end. If it is K, it is absent in the set of what is needed (`ofTable`).
 setLine : List Printed → Printed → ℕ → List Case
 unfolding needed block
 setLine rs r l =
@@ -352,14 +352,14 @@ setLine rs r l =
     cond (isM (r .need)) (case (summed (8000 ∷ rest) []) (refused 16 0 l) ∷ []) []
     ++ (accept (8000 ∷ rest ++ own) ∷ again (r .occurs) (8000 ∷ own ++ rest) own l ∷ [])
 
--- 8000 absent, and again: "line 1 is not 8000" is 8, and a later one ends the set, whatever stands behind it
+-- 8000 absent, and again: "line 1 is not 8000" is 8, and a later one ends the set, whatever stands after it
 startLine : List ℕ → List Case
 startLine ls =
     case (summed (without 8000 ls) []) (refused 8 0 0)
     ∷ case (summed ls (8000 ∷ [])) accepted
     ∷ case (summed ls (8000 ∷ 9999 ∷ [])) accepted ∷ []
 
--- 8100 absent, late, and again: "line 2 is absent or not 8100" is 10
+-- 8100 absent, late, and again: "line 2 is absent (place: set length) or not 8100" is 10
 sumLine : List ℕ → List Case
 sumLine ls =
     case (bare (8000 ∷ [])) (refused 10 1 0)
@@ -370,7 +370,7 @@ sumLine ls =
 
 -- ---- the cases of a member of a group
 
--- absent in a group that has c (a member, or h itself), which requires it: the group by itself, and behind a right one
+-- absent in a group that has c (a member, or h itself), which requires it: the group by itself, and after a right one
 lacking : List Printed → ℕ → ℕ → ℕ → List Case
 unfolding needed called group
 lacking rs h l c =
@@ -380,8 +380,8 @@ lacking rs h l c =
 abbrev otherHeader : ℕ → ℕ
 otherHeader h = cond (eqb h 8410) 6302 8410
 
--- in its group, and so in two; twice in one; in none; behind a line that closed it; in the other header's group; absent.
--- Where it is K, it is absent in the groups of the other members.
+-- in its group, and so in two; twice in one; in none; after a line that closed it; in the other header's group; absent.
+-- If it is K, it is absent in the groups of the other members.
 member : List Printed → Printed → ℕ → ℕ → List Case
 unfolding needed group block lacking flatMap
 member rs r h l =
@@ -406,7 +406,7 @@ nameLine b o l =
     ∷ refuse 16 b (l ∷ 8990 ∷ []) (suc l)
     ∷ refuse 16 b (l ∷ l ∷ suc l ∷ []) (suc l) ∷ []
 
--- "An odd label 6331 to 6399 stands nowhere else": alone, again, in a group, one line too late, behind another pair, behind another name.
+-- "An odd label 6331 to 6399 stands nowhere else": alone, again, in a group, one line too late, after another pair, after another name.
 -- A name that is left alone by that would be 16, but 12 comes first.
 oddLine : List ℕ → List ℕ → ℕ → List Case
 unfolding flatMap
@@ -431,7 +431,7 @@ ofRows : List Printed → List Printed → List Case
 unfolding ofLabel flatMap
 ofRows rs some = flatMap (λ (r : Printed). flatMap (λ (l : ℕ). ofLabel rs r (r .level) l) (r .labels)) some
 
--- what is needed alone, so that every row that is K is absent; every row once, in printed order;
+-- only what is needed, so that every row that is K is absent; every row once, in printed order;
 -- and 11, "label not in the set's table": each label of 6310 that this table lacks, and some that no table has
 ofTable : List Printed → List Case
 unfolding needed labelsOf printed6310 flatMap
@@ -445,7 +445,7 @@ ofTable rs =
 
 -- an answer in numbers: 0, length, lines and type, or number, place and label
 abbrev numbers : Judged → List ℕ
-numbers (Accepted x) = 0 ∷ x .length ∷ x .lines ∷ x .kind ∷ []
+numbers (Accepted x) = 0 ∷ x .length ∷ x .lines ∷ x .settype ∷ []
 numbers (Refused r) = r .no ∷ r .place ∷ r .label ∷ []
 
 abbrev same : List ℕ → List ℕ → Bool
@@ -454,7 +454,7 @@ same [] (y ∷ ys) = false
 same (x ∷ xs) [] = false
 same (x ∷ xs) (y ∷ ys) = eqb x y && same xs ys
 
--- the cases that `judge` answers otherwise in sets of type t
+-- the cases that `judge` answers differently in sets of type t
 wrong : ℕ → List Case → List Case
 unfolding computes lines bytes
 wrong t [] = []
@@ -463,7 +463,7 @@ wrong t (c ∷ cs) =
     cond (same (numbers (judge (bytes t (c .given)))) (numbers (answer t (lines t (c .given)) (c .demand)))) rest (c ∷ rest)
 
 -- ---- the examples, table by table, and page by page in 6310
--- To find a case that differs, state it of fewer cases, as `wrong 6310 (take 9 secondCases6310) ≡ []`. Of one case the refusal shows it.
+-- To find a case that differs, state it of fewer cases, as `wrong 6310 (take 9 secondCases6310) ≡ []`. With one case the checker's message shows it.
 
 cases6300 : List Case
 unfolding printed6300 ofTable ofRows
@@ -529,7 +529,7 @@ right6311 : wrong 6311 cases6311 ≡ []
 unfolding computes cases6311 wrong
 right6311 = refl
 
--- Each printed row is there, so many cases are tried, and none is answered otherwise.
+-- Each printed row is there, this many cases are tried, and none is answered differently.
 all-rows :
     (map (λ (rs : List Printed). length rs) (printed6300 ∷ printed6301 ∷ printed6302 ∷ printed6310 ∷ printed6311 ∷ [])
     ≡ 7 ∷ 20 ∷ 25 ∷ 57 ∷ 17 ∷ [])

@@ -18,7 +18,7 @@ judgedReply j = record {
   label = judgedRefusal j .label;
   length = judgedShape j .length;
   lines = judgedShape j .lines;
-  kind = judgedShape j .kind;
+  settype = judgedShape j .settype;
 }
 
 -- the refusal's number, place and label, 0 where there is none; how much was made, 0 where the call is refused

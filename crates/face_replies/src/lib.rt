@@ -17,7 +17,7 @@ pub struct JudgedReply {
     pub label: usize,
     pub length: usize,
     pub lines: usize,
-    pub kind: usize,
+    pub settype: usize,
 }
 
 // What index, list, writer and correction answer: number 0 and how much was made, or the refusal.
@@ -57,7 +57,7 @@ pub fn judged_reply(judged: Judged) -> JudgedReply
             label: 0,
             length: shape.length,
             lines: shape.lines,
-            kind: shape.kind,
+            settype: shape.settype,
         },
         Judged::Refused(r) => JudgedReply {
             no: r.no,
@@ -65,7 +65,7 @@ pub fn judged_reply(judged: Judged) -> JudgedReply
             label: r.label,
             length: 0,
             lines: 0,
-            kind: 0,
+            settype: 0,
         },
     }
 }
@@ -135,11 +135,7 @@ fn all_entries(shape: Shape, room: usize) -> Plan
     ensures { λ r. ⌜ r ≡ allEntries shape room ⌝ }
 {
     if room < shape.lines {
-        return no_entries(Refusal {
-            no: Refusal::NO_ROOM,
-            place: shape.lines,
-            label: 0,
-        });
+        return no_entries(Refusal::at(Refusal::NO_ROOM, shape.lines));
     }
     let reply = made_reply(Made::Done(shape.lines));
     Plan {

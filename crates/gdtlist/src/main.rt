@@ -55,7 +55,7 @@ fn print_refusal(r: Refusal) {
 // "First line: type, bytes, lines."
 fn print_shape(shape: Shape) {
     print(b"set");
-    print_next(shape.kind);
+    print_next(shape.settype);
     print_next(shape.length);
     print_next(shape.lines);
     print(b"\n");

@@ -87,13 +87,13 @@ step-is s f u at k last h w c =
 behind-line : (s : List ℕ) (at : ℕ) (f : Field) (u : List ℕ) → drop at s ≡ render (f ∷ []) u → drop (at + lineSize f) s ≡ u
 behind-line s at f u w = sym (drop-drop (lineSize f) at s) ∙ (ap (drop (lineSize f)) w ∙ drop-lineThen f u)
 
-module _ (s : List ℕ) (kind : SetType) where
+module _ (s : List ℕ) (settype : SetType) where
   -- the profile of a set of this type
   abbrev profileOf : Profile
-  profileOf = record { setType = Of kind }
+  profileOf = record { setType = Of settype }
 
   abbrev Kept : State → ℕ → Type 0
-  Kept = follow kind .Kept
+  Kept = follow settype .Kept
 
   -- the lines fs from offset `at` on, with k lines before them, none of which breaks 11 or 12: by induction on fs, one `step-is` for each line
   walk-is : (fs : List Field) (t : List ℕ) (at k : ℕ) (st : State) (last : ℕ) → Every Sound fs → drop at s ≡ render fs t → k + length fs ≤ maxLines
@@ -104,7 +104,7 @@ module _ (s : List ℕ) (kind : SetType) where
       let l : ℕ = f .label in
       let o : Role = roleIn profileOf st f in
       let r = append-none (lineRules o profileOf st k f) _ q in
-      let g = follow kind .goes st k l last b (placed o profileOf st k f (r .0)) in
+      let g = follow settype .goes st k l last b (placed o profileOf st k f (r .0)) in
       let here : ℕ → Entry = λ header. record { label = l; place = at + lineLead; length = length (f .content); header = header } in
       let then : Walk = walkAt (at + lineSize f) (k + 1) (lastBehind l (k + 1) last) in
       let e = step-is s f (render fs t) at k last (h .0) w (omega arith) in

@@ -210,7 +210,7 @@ follow-none : (rs : List Row) → allRows headerless rs ≡ true → Follow rs
 follow-none rs all = record { Kept = None; begins = refl; goes = none-goes rs all }
 
 -- In a set of each type, where no line breaks 11 or 12, the labels alone tell each line's header.
-pub follow : (kind : SetType) → Follow (table kind)
+pub follow : (settype : SetType) → Follow (table settype)
 unfolding table
 follow T6300 = follow-open rows6300 grouped-6300
 follow T6301 = follow-open rows6301 grouped-6301

@@ -45,32 +45,32 @@ fn one_more(n: usize) -> usize
 fn is_header(label: usize) -> bool
     ensures { λ r. ⌜ r ≡ isHeader label ⌝ }
 {
-    if 8410 < label {
+    if meaning::LABEL_8410 < label {
         return false;
     }
-    if label == 8410 {
+    if label == meaning::LABEL_8410 {
         return true;
     }
     if table_fields::is_pair(label) {
         return label % 2 == 0;
     }
-    label == 6302
+    label == meaning::LABEL_6302
 }
 
 // "8411 to 8480", "6303, 6304 and 6305", and the odd labels 6331 to 6399.
 fn is_member(label: usize) -> bool
     ensures { λ r. ⌜ r ≡ isMember label ⌝ }
 {
-    if 8410 < label {
-        return label <= 8480;
+    if meaning::LABEL_8410 < label {
+        return label <= meaning::LABEL_8480;
     }
     if table_fields::is_pair(label) {
         return label % 2 == 1;
     }
-    if label < 6303 {
+    if label < meaning::LABEL_6303 {
         return false;
     }
-    label <= 6305
+    label <= meaning::LABEL_6305
 }
 
 // The number of the header's line of a line with this label, 0 for none: a member's header is the last one before it. In 6311 sets "8432 and 8439 are plain
@@ -117,10 +117,10 @@ pub fn next_entry(set: &[u8], walk: Walk) -> Next
     ensures { λ r. ⌜ r ≡ nextEntry (now (set .entry)) walk ⌝ }
 {
     let at = walk.at;
-    if set.len() < line_read::LINE_LEAD {
+    if set.len() < meaning::LINE_LEAD {
         return no_line();
     }
-    if set.len() - line_read::LINE_LEAD < at {
+    if set.len() - meaning::LINE_LEAD < at {
         return no_line();
     }
     let length = line_read::told_length(set, at);
@@ -131,12 +131,12 @@ pub fn next_entry(set: &[u8], walk: Walk) -> Next
     Next {
         entry: Entry {
             label,
-            place: at + line_read::LINE_LEAD,
+            place: at + meaning::LINE_LEAD,
             length,
             header,
         },
         walk: Walk {
-            at: at + (length + line_read::LINE_FRAME),
+            at: at + (length + meaning::LINE_FRAME),
             lines,
             header: last,
         },

@@ -22,7 +22,7 @@ use Rattle.meaning.specs.Groups.{first}
 use Rattle.meaning.specs.Rules.{Profile, profile, typeNamed, isKnown, fits, startFaults, rulesFrom, sumFaults, ruleFaults, setFaults}
 use Rattle.meaning.specs.Reading.{inSet, scan, byRules, read, judged, judge}
 use Rattle.meaning.specs.Lists.{sumDigits}
-use Rattle.meaning.specs.Answers.{noRefusal}
+use Rattle.meaning.specs.Answers.{noRefusal, orElse}
 use Rattle.meaning.proofs.Bools.{Every}
 use Rattle.meaning.proofs.FaultLaws.{append-none}
 use Rattle.meaning.proofs.LineLaws.{Sound}
@@ -30,23 +30,23 @@ use Rattle.meaning.proofs.FieldLaws.{sum-fits}
 use Rattle.meaning.proofs.SetLaws.{scanned, second-fits, later-sound}
 use Rattle.line_read.specs.declared.Number.the-variants.{Is}
 use Rattle.line_read.specs.Number.{numberAt}
-use Rattle.line_read.proofs.Bridge.{asNumber, number-is, read-line}
+use Rattle.line_read.proofs.Bridge.{asNumber, number-is, read-line, reads-content, reads-on}
 use Rattle.line_scan.proofs.Bridge.{summary, scan-is}
-use Rattle.judge_missing.specs.Lacks.{orElse, begin}
-use Rattle.judge_missing.proofs.FirstLaws.{firstOf, Real, first-append, real-append, real-ask, first-none, or-assoc, or-none, or-bad, or-then}
+use Rattle.judge_missing.specs.Lacks.{begin}
+use Rattle.meaning.proofs.FirstLaws.{firstOf, Real, first-append, real-append, real-ask, first-none, or-assoc, or-none, or-bad, or-then}
 use Rattle.judge_missing.proofs.FlagLaws.{begin-same}
 use Rattle.judge_line.proofs.FoundLaws.{middle, real-middle, ofType, whole-found}
 use Rattle.judge_start.specs.Sum.{sumWalk}
 use Rattle.judge_start.proofs.Laws.{starts, real-starts}
 use Rattle.judge_lines.specs.Pass.{passFrom}
-use Rattle.judge_lines.proofs.PassLaws.{reads-content, reads-on, pass-is}
+use Rattle.judge_lines.proofs.PassLaws.{pass-is}
 use Rattle.judge.specs.Walks.{secondBy, secondWalk, asJudged, typedBy, firstBy, linesWalk, judgedScan, judgeWalk}
 
 -- ---- 11 to 16, as found
 
-pass-found : (s : List ℕ) (kind : SetType) (fs : List Field) (t : List ℕ) → Every Sound fs → s ≡ render fs t
-    → passFrom s kind 0 begin noRefusal (length fs) ≡ firstOf (inSet fs) (middle (ofType kind) fs)
-pass-found s kind fs t h w = pass-is s kind fs fs t 0 0 begin first noRefusal h w (omega arith) refl refl (begin-same (inSet fs) refl) ∙ whole-found kind (inSet fs) fs
+pass-found : (s : List ℕ) (settype : SetType) (fs : List Field) (t : List ℕ) → Every Sound fs → s ≡ render fs t
+    → passFrom s settype 0 begin noRefusal (length fs) ≡ firstOf (inSet fs) (middle (ofType settype) fs)
+pass-found s settype fs t h w = pass-is s settype fs fs t 0 0 begin first noRefusal h w (omega arith) refl refl (begin-same (inSet fs) refl) ∙ whole-found settype (inSet fs) fs
 
 -- ---- all rules, as found
 
@@ -66,12 +66,12 @@ module _ (fs : List Field) (a b c : Bool) (e : startFaults fs ≡ starts a b c) 
       ∙ (ap (λ (x : Refusal). orElse x (firstOf (inSet fs) (sumFaults fs))) (first-append (inSet fs) (starts a b c) m (real-starts a b c))
       ∙ sym (or-assoc (firstOf (inSet fs) (starts a b c)) (firstOf (inSet fs) m) (firstOf (inSet fs) (sumFaults fs)))))
 
--- the answer, from the first fault; `kind` is the type that line 1 names
-verdict-is : (pl : ℕ → Spot → ℕ) (xs : List Fault) (d : Parsed) (kind : SetType) → profile (d .fields) .setType ≡ Of kind → Real xs
-    → judged (verdict pl xs d) ≡ asJudged (firstOf pl xs) kind (size (d .fields)) (length (d .fields))
+-- the answer, from the first fault; `settype` is the type that line 1 names
+verdict-is : (pl : ℕ → Spot → ℕ) (xs : List Fault) (d : Parsed) (settype : SetType) → profile (d .fields) .setType ≡ Of settype → Real xs
+    → judged (verdict pl xs d) ≡ asJudged (firstOf pl xs) settype (size (d .fields)) (length (d .fields))
 unfolding asJudged
-verdict-is pl [] d kind e h = rw e
-verdict-is pl (x ∷ xs) d kind e h = sym (rw (ne-eqb (x .no) 0 h))
+verdict-is pl [] d settype e h = rw e
+verdict-is pl (x ∷ xs) d settype e h = sym (rw (ne-eqb (x .no) 0 h))
 
 -- a first fault that is one is the answer
 verdict-bad : (pl : ℕ → Spot → ℕ) (xs : List Fault) (d : Parsed) → (firstOf pl xs .no ≡ 0 → ⊥) → judged (verdict pl xs d) ≡ Judged.Refused (firstOf pl xs)
@@ -108,18 +108,18 @@ cond-when : {A : Type 0} (c : Bool) (x y z : A) → (c ≡ true → x ≡ y) →
 cond-when true x y z h = h refl
 cond-when false x y z h = refl
 
-second-is : (s : List ℕ) (kind : SetType) (total : ℕ) (f g : Field) (fs : List Field) (t : List ℕ) → Every Sound (f ∷ g ∷ fs) → s ≡ render (f ∷ g ∷ fs) t
+second-is : (s : List ℕ) (settype : SetType) (total : ℕ) (f g : Field) (fs : List Field) (t : List ℕ) → Every Sound (f ∷ g ∷ fs) → s ≡ render (f ∷ g ∷ fs) t
     → lineSize f ≡ inSet (f ∷ g ∷ fs) 1 start
-    → secondWalk s kind (lineSize f) total (length (f ∷ g ∷ fs))
-    ≡ cond (eqb (g .label) 8100) (orElse (firstOf (inSet (f ∷ g ∷ fs)) (middle (ofType kind) (f ∷ g ∷ fs))) (firstOf (inSet (f ∷ g ∷ fs)) (ask (eqb (number (g .content)) total) (atLine badSum 1 0))))
+    → secondWalk s settype (lineSize f) total (length (f ∷ g ∷ fs))
+    ≡ cond (eqb (g .label) 8100) (orElse (firstOf (inSet (f ∷ g ∷ fs)) (middle (ofType settype) (f ∷ g ∷ fs))) (firstOf (inSet (f ∷ g ∷ fs)) (ask (eqb (number (g .content)) total) (atLine badSum 1 0))))
     (refusal noSum (lineSize f) 0)
 unfolding secondWalk secondBy
-second-is s kind total f g fs t h w e =
+second-is s settype total f g fs t h w e =
     let all : List Field = f ∷ g ∷ fs in
     let w′ = first-end s f t (g ∷ fs) (h .0) w in
-    let p : Profile = ofType kind in
+    let p : Profile = ofType settype in
     let P : Refusal = firstOf (inSet all) (middle p all) in
-    rw (le-leb 2 (length all) (omega arith), read-line s (lineSize f) g (render fs t) w′ (h .1 .0), pass-found s kind all t h w)
+    rw (le-leb 2 (length all) (omega arith), read-line s (lineSize f) g (render fs t) w′ (h .1 .0), pass-found s settype all t h w)
     (cond-when (eqb (g .label) 8100) (orElse P (sumWalk s (lineSize f) total)) (orElse P (firstOf (inSet all) (ask (eqb (number (g .content)) total) (atLine badSum 1 0)))) (refusal noSum (lineSize f) 0)
     (λ c. or-then P (λ z.
     let none : middle p all ≡ [] = first-none (inSet all) (middle p all) (real-middle p all) z in
@@ -138,15 +138,15 @@ module _ (all : List Field) (d : Parsed) (same : d .fields ≡ all) (xs : List F
   bad r n w = verdict-bad (inSet all) xs d (λ z. n (ap (λ (y : Refusal). y .no) (sym w) ∙ z)) ∙ ap Judged.Refused w
 
   by-tests : (s : List ℕ) (a : Bool) (k : Known) (c : Bool) → profile (d .fields) .setType ≡ k
-      → ((kind : SetType) → k ≡ Of kind → secondWalk s kind at (size all) (length all) ≡ cond c (orElse P Q) (refusal noSum at 0))
+      → ((settype : SetType) → k ≡ Of settype → secondWalk s settype at (size all) (length all) ≡ cond c (orElse P Q) (refusal noSum at 0))
       → firstOf (inSet all) xs ≡ orElse (firstOf (inSet all) (starts a (isKnown k) c)) (orElse P Q)
       → cond a (typedBy s k at (size all) (length all)) (Judged.Refused (refusal noStart 0 0)) ≡ judged (verdict (inSet all) xs d)
   by-tests s false k c e x q = sym (bad (refusal noStart 0 0) (λ z. omega arith) (q ∙ or-bad (refusal noStart 0 0) (orElse P Q) (λ z. omega arith)))
   by-tests s true Nothing c e x q = sym (bad (refusal unknownSet 0 0) (λ z. omega arith) (q ∙ or-bad (refusal unknownSet 0 0) (orElse P Q) (λ z. omega arith)))
-  by-tests s true (Of kind) c e x q =
-      ap (λ (r : Refusal). asJudged r kind (size all) (length all)) (x kind refl ∙ (behind c ∙ sym q))
-      ∙ (ap (λ (fs : List Field). asJudged (firstOf (inSet all) xs) kind (size fs) (length fs)) (sym same)
-      ∙ sym (verdict-is (inSet all) xs d kind e real))
+  by-tests s true (Of settype) c e x q =
+      ap (λ (r : Refusal). asJudged r settype (size all) (length all)) (x settype refl ∙ (behind c ∙ sym q))
+      ∙ (ap (λ (fs : List Field). asJudged (firstOf (inSet all) xs) settype (size fs) (length fs)) (sym same)
+      ∙ sym (verdict-is (inSet all) xs d settype e real))
     where
       behind : (c : Bool) → cond c (orElse P Q) (refusal noSum at 0) ≡ orElse (firstOf (inSet all) (ask c (atLine noSum 1 0))) (orElse P Q)
       behind true = sym (or-none (orElse P Q))
@@ -169,7 +169,7 @@ two-lines s f g fs t h w =
     let Q : Refusal = firstOf (inSet all) (ask (eqb (number (g .content)) (size all)) (atLine badSum 1 0)) in
     first-is s f (g ∷ fs) t (size all) (length all) (h .0) w
     ∙ by-tests all (parsed all t) refl (setFaults all) (real-set all a (isKnown k) c refl) (lineSize f) (place-one f (g ∷ fs)) (firstOf (inSet all) (middle (profile all) all)) Q s a k c refl
-    (λ kind e. second-is s kind (size all) f g fs t h w (place-one f (g ∷ fs))
+    (λ settype e. second-is s settype (size all) f g fs t h w (place-one f (g ∷ fs))
     ∙ ap (λ (x : Known). cond c (orElse (firstOf (inSet all) (middle (record { setType = x }) all)) Q) (refusal noSum (lineSize f) 0)) (sym e))
     (set-found all a (isKnown k) c refl)
 
@@ -182,7 +182,7 @@ one-line s f t h w =
     let k : Known = typeNamed (f .content) in
     first-is s f [] t (size all) (length all) (h .0) w
     ∙ by-tests all (parsed all t) refl (setFaults all) (real-set all a (isKnown k) false refl) (lineSize f) (place-one f []) (firstOf (inSet all) (middle (profile all) all)) (firstOf (inSet all) (sumFaults all)) s a k false refl
-    (λ kind e. refl) (set-found all a (isKnown k) false refl)
+    (λ settype e. refl) (set-found all a (isKnown k) false refl)
 
 lines-are : (s : List ℕ) (f : Field) (fs : List Field) (t : List ℕ) → Every Sound (f ∷ fs) → s ≡ render (f ∷ fs) t
     → linesWalk s (size (f ∷ fs)) (length (f ∷ fs)) ≡ judged (verdict (inSet (f ∷ fs)) (setFaults (f ∷ fs)) (parsed (f ∷ fs) t))

@@ -17,20 +17,20 @@ use Rattle.meaning.specs.Limits.{maxLines, typeNumber}
 use Rattle.meaning.specs.Refusals.{refusal, empty, noStart, unknownSet, noSum}
 use Rattle.meaning.specs.Lines.{lengthDigits, labelDigits}
 use Rattle.meaning.specs.Rules.{typeNamed}
-use Rattle.meaning.specs.Answers.{noRefusal}
+use Rattle.meaning.specs.Answers.{noRefusal, orElse}
 use Rattle.line_read.specs.declared.Number.the-variants.{Is, None}
 use Rattle.line_read.specs.declared.Line.{Line}
 use Rattle.line_read.specs.declared.Line.the-variants.{Read, Refused}
 use Rattle.line_read.specs.Number.{numberAt}
-use Rattle.line_read.specs.Line.{lineAt}
+use Rattle.line_read.specs.Line.{lineAt, contentOf}
 use Rattle.line_read.proofs.Bridge.{read-back}
 use Rattle.line_scan.specs.declared.Scan.{Scan}
 use Rattle.line_scan.specs.declared.Scan.the-variants.{Done}
 use Rattle.line_scan.specs.Scan.{endsAt, scanFrom, scanSet}
 use Rattle.line_scan.proofs.Laws.{scan-bad, scan-further}
-use Rattle.judge_missing.specs.Lacks.{orElse, begin}
+use Rattle.judge_missing.specs.Lacks.{begin}
 use Rattle.judge_start.specs.Sum.{sumWalk}
-use Rattle.judge_lines.specs.Pass.{afterLine, contentOf, passFrom, firstUnread, doneUnless, Stops, passed}
+use Rattle.judge_lines.specs.Pass.{afterLine, passFrom, firstUnread, doneUnless, Stops, passed}
 use Rattle.judge_lines.proofs.OnceLaws.{Counts, scan-counts, label-read, ends-label, stops-unread, scan-first}
 use Rattle.judge.specs.Walks.{ruledWalk, secondBy, secondWalk, asJudged, typedBy, firstBy, linesWalk, judgedScan, judgeWalk}
 
@@ -47,84 +47,84 @@ scan-same (Scan.Refused q) f g h = refl
 
 -- ---- 11 to 17
 
-module _ (s : List ℕ) (kind : SetType) (at : ℕ) where
+module _ (s : List ℕ) (settype : SetType) (at : ℕ) where
   -- 17 behind the pass
-  pub summed-is : (x : Scan) → judgedScan (passed s kind x) (λ total lines. asJudged (sumWalk s at total) kind total lines)
-      ≡ judgedScan x (λ total lines. asJudged (ruledWalk s kind at total lines) kind total lines)
+  pub summed-is : (x : Scan) → judgedScan (passed s settype x) (λ total lines. asJudged (sumWalk s at total) settype total lines)
+      ≡ judgedScan x (λ total lines. asJudged (ruledWalk s settype at total lines) settype total lines)
   unfolding doneUnless orElse asJudged
   summed-is (Scan.Refused q) = refl
   summed-is (Done total lines) = go (eqb (P .no) 0) refl
     where
       P : Refusal
-      P = passFrom s kind 0 begin noRefusal lines
+      P = passFrom s settype 0 begin noRefusal lines
 
       go : (b : Bool) → eqb (P .no) 0 ≡ b
-          → judgedScan (cond b (Done total lines) (Scan.Refused P)) (λ total lines. asJudged (sumWalk s at total) kind total lines)
-          ≡ asJudged (cond b (sumWalk s at total) P) kind total lines
+          → judgedScan (cond b (Done total lines) (Scan.Refused P)) (λ total lines. asJudged (sumWalk s at total) settype total lines)
+          ≡ asJudged (cond b (sumWalk s at total) P) settype total lines
       go true e = refl
       go false e = sym (rw e)
 
 -- the answer by a refusal that is one, and by none
-pub judged-bad : (r q : Refusal) (kind : SetType) (total lines : ℕ) → r ≡ q → (r .no ≡ 0 → ⊥) → Judged.Refused r ≡ asJudged q kind total lines
+pub judged-bad : (r q : Refusal) (settype : SetType) (total lines : ℕ) → r ≡ q → (r .no ≡ 0 → ⊥) → Judged.Refused r ≡ asJudged q settype total lines
 unfolding asJudged
-judged-bad r q kind total lines e g = rw (← e, ne-eqb (r .no) 0 g)
+judged-bad r q settype total lines e g = rw (← e, ne-eqb (r .no) 0 g)
 
-pub judged-good : (r q : Refusal) (kind : SetType) (total lines k : ℕ) → r ≡ q → r .no ≡ 0 → k ≡ typeNumber kind
-    → Accepted (record { length = total; lines = lines; kind = k }) ≡ asJudged q kind total lines
+pub judged-good : (r q : Refusal) (settype : SetType) (total lines k : ℕ) → r ≡ q → r .no ≡ 0 → k ≡ typeNumber settype
+    → Accepted (record { length = total; lines = lines; settype = k }) ≡ asJudged q settype total lines
 unfolding asJudged
-judged-good r q kind total lines k e g h = rw (← e, g, h)
+judged-good r q settype total lines k e g h = rw (← e, g, h)
 
 -- ---- 10 to 17, where line 1 ends at `at`
 
-module _ (s : List ℕ) (kind : SetType) (at : ℕ) (w : lineAt s 0 ≡ Read 8000 at) where
+module _ (s : List ℕ) (settype : SetType) (at : ℕ) (w : lineAt s 0 ≡ Read 8000 at) where
   -- where line 2 is no 8100, the scan's refusal comes first
-  no-sum : ((total lines : ℕ) → scanFrom s at 1 (maxLines - 1) ≡ Done total lines → typedBy s (Of kind) at total lines ≡ Judged.Refused (refusal noSum at 0))
-      → Judged.Refused (firstUnread (scanFrom s at 1 (maxLines - 1)) (refusal noSum at 0)) ≡ judgedScan (scanSet s) (λ total lines. typedBy s (Of kind) at total lines)
-  no-sum h = go (scanFrom s at 1 (maxLines - 1)) refl ∙ ap (λ (x : Scan). judgedScan x (λ total lines. typedBy s (Of kind) at total lines)) (sym (scan-first s w))
+  no-sum : ((total lines : ℕ) → scanFrom s at 1 (maxLines - 1) ≡ Done total lines → typedBy s (Of settype) at total lines ≡ Judged.Refused (refusal noSum at 0))
+      → Judged.Refused (firstUnread (scanFrom s at 1 (maxLines - 1)) (refusal noSum at 0)) ≡ judgedScan (scanSet s) (λ total lines. typedBy s (Of settype) at total lines)
+  no-sum h = go (scanFrom s at 1 (maxLines - 1)) refl ∙ ap (λ (x : Scan). judgedScan x (λ total lines. typedBy s (Of settype) at total lines)) (sym (scan-first s w))
     where
-      go : (x : Scan) → scanFrom s at 1 (maxLines - 1) ≡ x → Judged.Refused (firstUnread x (refusal noSum at 0)) ≡ judgedScan x (λ total lines. typedBy s (Of kind) at total lines)
+      go : (x : Scan) → scanFrom s at 1 (maxLines - 1) ≡ x → Judged.Refused (firstUnread x (refusal noSum at 0)) ≡ judgedScan x (λ total lines. typedBy s (Of settype) at total lines)
       go (Done total lines) e = sym (h total lines e)
       go (Scan.Refused q) e = refl
 
   -- no line 2
-  short : (total lines : ℕ) → lines ≡ 1 → typedBy s (Of kind) at total lines ≡ Judged.Refused (refusal noSum at 0)
+  short : (total lines : ℕ) → lines ≡ 1 → typedBy s (Of settype) at total lines ≡ Judged.Refused (refusal noSum at 0)
   unfolding secondWalk asJudged
   short total lines e = rw e
 
   -- the bytes of its label do not write 8100
   not-second : (numberAt s (at + lengthDigits) labelDigits ≡ Is 8100 → ⊥)
-      → Judged.Refused (firstUnread (scanFrom s at 1 (maxLines - 1)) (refusal noSum at 0)) ≡ judgedScan (scanSet s) (λ total lines. typedBy s (Of kind) at total lines)
+      → Judged.Refused (firstUnread (scanFrom s at 1 (maxLines - 1)) (refusal noSum at 0)) ≡ judgedScan (scanSet s) (λ total lines. typedBy s (Of settype) at total lines)
   unfolding secondWalk secondBy asJudged
   not-second h = no-sum (λ total lines e. go total lines e (lineAt s at) refl)
     where
       other : (total lines l n : ℕ) → lineAt s at ≡ Read l n → (l ≡ 8100 → ⊥) → (b : Bool)
-          → asJudged (cond b (afterLine (lineAt s at) (λ l n. secondBy s kind at total lines l)) (refusal noSum at 0)) kind total lines ≡ Judged.Refused (refusal noSum at 0)
+          → asJudged (cond b (afterLine (lineAt s at) (λ l n. secondBy s settype at total lines l)) (refusal noSum at 0)) settype total lines ≡ Judged.Refused (refusal noSum at 0)
       other total lines l n q z true = rw (q, ne-eqb l 8100 z)
       other total lines l n q z false = refl
 
-      go : (total lines : ℕ) → scanFrom s at 1 (maxLines - 1) ≡ Done total lines → (x : Line) → lineAt s at ≡ x → typedBy s (Of kind) at total lines ≡ Judged.Refused (refusal noSum at 0)
+      go : (total lines : ℕ) → scanFrom s at 1 (maxLines - 1) ≡ Done total lines → (x : Line) → lineAt s at ≡ x → typedBy s (Of settype) at total lines ≡ Judged.Refused (refusal noSum at 0)
       go total lines e (Refused r) q = short total lines (subst (Stops 1) e (stops-unread s at 1 (omega arith) q))
       go total lines e (Read l n) q = other total lines l n q (λ z. h (label-read s at q ∙ ap Is z)) (leb 2 lines)
 
   pub second-none : numberAt s (at + lengthDigits) labelDigits ≡ None
-      → Judged.Refused (firstUnread (scanFrom s at 1 (maxLines - 1)) (refusal noSum at 0)) ≡ judgedScan (scanSet s) (λ total lines. typedBy s (Of kind) at total lines)
+      → Judged.Refused (firstUnread (scanFrom s at 1 (maxLines - 1)) (refusal noSum at 0)) ≡ judgedScan (scanSet s) (λ total lines. typedBy s (Of settype) at total lines)
   second-none q = not-second (λ z. let y : _≡_ {A = ℕ} 0 1 = cc in omega arith)
 
   module _ (l : ℕ) (q : numberAt s (at + lengthDigits) labelDigits ≡ Is l) where
     pub second-other : (l ≡ 8100 → ⊥)
-        → Judged.Refused (firstUnread (scanFrom s at 1 (maxLines - 1)) (refusal noSum at 0)) ≡ judgedScan (scanSet s) (λ total lines. typedBy s (Of kind) at total lines)
+        → Judged.Refused (firstUnread (scanFrom s at 1 (maxLines - 1)) (refusal noSum at 0)) ≡ judgedScan (scanSet s) (λ total lines. typedBy s (Of settype) at total lines)
     second-other h = not-second (λ z. h cc)
 
-    pub second-summed : l ≡ 8100 → judgedScan (scanSet s) (λ total lines. asJudged (ruledWalk s kind at total lines) kind total lines)
-        ≡ judgedScan (scanSet s) (λ total lines. typedBy s (Of kind) at total lines)
+    pub second-summed : l ≡ 8100 → judgedScan (scanSet s) (λ total lines. asJudged (ruledWalk s settype at total lines) settype total lines)
+        ≡ judgedScan (scanSet s) (λ total lines. typedBy s (Of settype) at total lines)
     unfolding secondWalk secondBy
     second-summed h = subst (λ (x : Scan). judgedScan x f ≡ judgedScan x g) (sym (scan-first s w)) (by-line (lineAt s at) refl)
       where
         f : ℕ → ℕ → Judged
-        f total lines = asJudged (ruledWalk s kind at total lines) kind total lines
+        f total lines = asJudged (ruledWalk s settype at total lines) settype total lines
 
         g : ℕ → ℕ → Judged
-        g total lines = typedBy s (Of kind) at total lines
+        g total lines = typedBy s (Of settype) at total lines
 
         goes-on : endsAt s at ≡ false
         goes-on = ends-label s at q ∙ ne-eqb l 8000 (λ z. omega arith)
@@ -167,16 +167,16 @@ module _ (s : List ℕ) (l n : ℕ) (q : lineAt s 0 ≡ Read l n) where
         ≡ judgedScan (scanSet s) (λ total lines. firstBy s l n total lines)
     first-untyped z = unread-as (refusal unknownSet 0 0) (λ total lines. type-so total lines ∙ ap (λ (x : Known). typedBy s x n total lines) z)
 
-    module _ (kind : SetType) (z : k ≡ Of kind) where
+    module _ (settype : SetType) (z : k ≡ Of settype) where
       pub first-start : lineAt s 0 ≡ Read 8000 n
       first-start = q ∙ ap (λ (x : ℕ). Read x n) h
 
-      pub first-named : typeNamed (contentOf s 0 n) ≡ Of kind
+      pub first-named : typeNamed (contentOf s 0 n) ≡ Of settype
       first-named = sym named-so ∙ z
 
-      pub first-typed : judgedScan (scanSet s) (λ total lines. typedBy s (Of kind) n total lines) ≡ judgedScan (scanSet s) (λ total lines. firstBy s l n total lines)
+      pub first-typed : judgedScan (scanSet s) (λ total lines. typedBy s (Of settype) n total lines) ≡ judgedScan (scanSet s) (λ total lines. firstBy s l n total lines)
       first-typed =
-          scan-same (scanSet s) (λ total lines. typedBy s (Of kind) n total lines) (λ total lines. firstBy s l n total lines)
+          scan-same (scanSet s) (λ total lines. typedBy s (Of settype) n total lines) (λ total lines. firstBy s l n total lines)
           (λ total lines. sym (type-so total lines ∙ ap (λ (x : Known). typedBy s x n total lines) z))
 
 -- ---- 1 to 17

@@ -5,9 +5,8 @@ ghost use Rattle.meaning.specs.declared.Known.the-variants.{Of};
 ghost use Rattle.meaning.specs.Rules.{typeNamed};
 ghost use Rattle.meaning.specs.Reading as Reading;
 ghost use Rattle.line_read.specs.declared.Line.the-variants.{Read};
-ghost use Rattle.line_read.specs.Line.{lineAt};
+ghost use Rattle.line_read.specs.Line.{lineAt, contentOf};
 ghost use Rattle.line_scan.specs.Scan.{scanSet};
-ghost use Rattle.judge_lines.specs.Pass.{contentOf};
 ghost use Rattle.judge.specs.Walks.{ruledWalk, asJudged, typedBy, firstBy, judgedScan};
 use line_read::Line;
 use line_read::Number;
@@ -19,11 +18,11 @@ use meaning::SetType;
 use meaning::Shape;
 
 // 11 to 17, where line 1 names this type and ends at `at`, and line 2 is 8100.
-fn summed(s: &[u8], kind: SetType, at: usize) -> Judged
-    requires { ⌜ (lineAt (now s) 0 ≡ Read 8000 at) × (typeNamed (contentOf (now s) 0 at) ≡ Of kind) ⌝ }
-    ensures { λ r. ⌜ r ≡ judgedScan (scanSet (now (s .entry))) (λ total lines. asJudged (ruledWalk (now (s .entry)) kind at total lines) kind total lines) ⌝ }
+fn summed(s: &[u8], settype: SetType, at: usize) -> Judged
+    requires { ⌜ (lineAt (now s) 0 ≡ Read 8000 at) × (typeNamed (contentOf (now s) 0 at) ≡ Of settype) ⌝ }
+    ensures { λ r. ⌜ r ≡ judgedScan (scanSet (now (s .entry))) (λ total lines. asJudged (ruledWalk (now (s .entry)) settype at total lines) settype total lines) ⌝ }
 {
-    match judge_lines::pass(s, kind, at) {
+    match judge_lines::pass(s, settype, at) {
         Scan::Refused(r) => Judged::Refused(r),
         Scan::Done { length, lines } => {
             let r = judge_start::sum_at(s, at, length);
@@ -33,26 +32,26 @@ fn summed(s: &[u8], kind: SetType, at: usize) -> Judged
             Judged::Accepted(Shape {
                 length,
                 lines,
-                kind: kind.number(),
+                settype: settype.number(),
             })
         }
     }
 }
 
 // 10 to 17, where line 1 names this type and ends at `at`: of line 2 only the label is asked here, the pass reads it.
-fn second_line(s: &[u8], kind: SetType, at: usize) -> Judged
-    requires { ⌜ (lineAt (now s) 0 ≡ Read 8000 at) × (typeNamed (contentOf (now s) 0 at) ≡ Of kind) ⌝ }
-    ensures { λ r. ⌜ r ≡ judgedScan (scanSet (now (s .entry))) (λ total lines. typedBy (now (s .entry)) (Of kind) at total lines) ⌝ }
+fn second_line(s: &[u8], settype: SetType, at: usize) -> Judged
+    requires { ⌜ (lineAt (now s) 0 ≡ Read 8000 at) × (typeNamed (contentOf (now s) 0 at) ≡ Of settype) ⌝ }
+    ensures { λ r. ⌜ r ≡ judgedScan (scanSet (now (s .entry))) (λ total lines. typedBy (now (s .entry)) (Of settype) at total lines) ⌝ }
 {
-    let no_sum = judge_missing::refused_at(Refusal::NO_SUM, at);
-    let number = line_read::number_at(s, at + line_read::LENGTH_DIGITS, line_read::LABEL_DIGITS);
+    let no_sum = Refusal::at(Refusal::NO_SUM, at);
+    let number = line_read::number_at(s, at + meaning::LENGTH_DIGITS, meaning::LABEL_DIGITS);
     let Number::Is(label) = number else {
         return Judged::Refused(judge_lines::unless_unread(s, at, 1, no_sum));
     };
-    if label != 8100 {
+    if label != meaning::LABEL_8100 {
         return Judged::Refused(judge_lines::unless_unread(s, at, 1, no_sum));
     }
-    summed(s, kind, at)
+    summed(s, settype, at)
 }
 
 // 8 to 17, where line 1 is read.
@@ -60,25 +59,25 @@ fn first_line(s: &[u8], label: usize, size: usize) -> Judged
     requires { ⌜ lineAt (now s) 0 ≡ Read label size ⌝ }
     ensures { λ r. ⌜ r ≡ judgedScan (scanSet (now (s .entry))) (λ total lines. firstBy (now (s .entry)) label size total lines) ⌝ }
 {
-    if label != 8000 {
+    if label != meaning::LABEL_8000 {
         return Judged::Refused(judge_lines::unless_unread(
             s,
             size,
             1,
-            judge_missing::refused_at(Refusal::NO_START, 0),
+            Refusal::at(Refusal::NO_START, 0),
         ));
     }
-    let end = size - line_read::LINE_END;
-    let known = judge_start::type_of(&s[line_read::LINE_LEAD..end]);
-    let Known::Of(kind) = known else {
+    let end = size - meaning::LINE_END;
+    let known = judge_start::type_of(&s[meaning::LINE_LEAD..end]);
+    let Known::Of(settype) = known else {
         return Judged::Refused(judge_lines::unless_unread(
             s,
             size,
             1,
-            judge_missing::refused_at(Refusal::UNKNOWN_SET, 0),
+            Refusal::at(Refusal::UNKNOWN_SET, 0),
         ));
     };
-    second_line(s, kind, size)
+    second_line(s, settype, size)
 }
 
 // The set at the front of some bytes: accepted with its length, its lines and its type, or its first refusal in the paper's order.
@@ -86,7 +85,7 @@ pub fn judge(set: &[u8]) -> Judged
     ensures { λ r. ⌜ r ≡ Reading.judge (now (set .entry)) ⌝ }
 {
     if set.len() == 0 {
-        return Judged::Refused(judge_missing::refused_at(Refusal::EMPTY, 0));
+        return Judged::Refused(Refusal::at(Refusal::EMPTY, 0));
     }
     match line_read::line_at(set, 0) {
         Line::Refused(r) => Judged::Refused(r),

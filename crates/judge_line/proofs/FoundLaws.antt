@@ -12,9 +12,8 @@ use Rattle.meaning.specs.Tables.{table, setLevel}
 use Rattle.meaning.specs.Groups.{first, after}
 use Rattle.meaning.specs.Missing.{lacking, among, groupsLacking, missingFaults}
 use Rattle.meaning.specs.Rules.{Profile, rowsOf, rulesFrom}
-use Rattle.meaning.specs.Answers.{noRefusal}
-use Rattle.judge_missing.specs.Lacks.{orElse}
-use Rattle.judge_missing.proofs.FirstLaws.{firstOf, Real, first-append, real-append, or-none}
+use Rattle.meaning.specs.Answers.{noRefusal, orElse}
+use Rattle.meaning.proofs.FirstLaws.{firstOf, Real, first-append, real-append, or-none}
 use Rattle.judge_missing.proofs.LackLaws.{real-lacking, real-groups}
 use Rattle.judge_line.proofs.SameLaws.{real-rules, whole}
 
@@ -32,15 +31,15 @@ real-middle p fs = real-append (rulesFrom p first 0 fs) _ (real-rules p first 0 
 
 -- what line 1 chooses where it names this type
 abbrev pub ofType : SetType → Profile
-ofType kind = record { setType = Of kind }
+ofType settype = record { setType = Of settype }
 
 -- what the pass finds over all lines of a set
-pub whole-found : (kind : SetType) (pl : ℕ → Spot → ℕ) (fs : List Field) → whole kind pl first 0 fs noRefusal ≡ firstOf pl (middle (ofType kind) fs)
+pub whole-found : (settype : SetType) (pl : ℕ → Spot → ℕ) (fs : List Field) → whole settype pl first 0 fs noRefusal ≡ firstOf pl (middle (ofType settype) fs)
 unfolding missingFaults
-whole-found kind pl fs =
-    let p : Profile = ofType kind in
-    let tops : List Fault = lacking (table kind) setLevel 0 (among (after (table kind) first 0 (labels fs) .top)) in
-    let groups : List Fault = groupsLacking (table kind) first 0 (labels fs) in
+whole-found settype pl fs =
+    let p : Profile = ofType settype in
+    let tops : List Fault = lacking (table settype) setLevel 0 (among (after (table settype) first 0 (labels fs) .top)) in
+    let groups : List Fault = groupsLacking (table settype) first 0 (labels fs) in
     ap (λ (x : Refusal). orElse (firstOf pl (rulesFrom p first 0 fs)) (orElse (firstOf pl tops) x)) (or-none (firstOf pl groups))
-    ∙ (ap (orElse (firstOf pl (rulesFrom p first 0 fs))) (sym (first-append pl tops groups (real-lacking (table kind) setLevel 0 (among (after (table kind) first 0 (labels fs) .top)))))
+    ∙ (ap (orElse (firstOf pl (rulesFrom p first 0 fs))) (sym (first-append pl tops groups (real-lacking (table settype) setLevel 0 (among (after (table settype) first 0 (labels fs) .top)))))
     ∙ sym (first-append pl (rulesFrom p first 0 fs) (tops ++ groups) (real-rules p first 0 fs)))

@@ -21,11 +21,11 @@ use Rattle.meaning.specs.Groups as G
 use Rattle.meaning.specs.Groups.{Role, unknown, strayed, atSetLevel, member, belongs, roleOf, role, next, after, labelFaults, noHeader}
 use Rattle.meaning.specs.Missing.{lacking, among, openLacking, stays, groupsLacking}
 use Rattle.meaning.specs.Rules.{Profile, roleIn, fits, current, contentFaults, contentRules, lineRules, rulesFrom}
-use Rattle.meaning.specs.Answers.{noRefusal}
+use Rattle.meaning.specs.Answers.{noRefusal, orElse}
 use Rattle.table_find.specs.LookUp.{Found, At, Nothing, justRow, numberOf}
 use Rattle.table_find.proofs.Laws.{find-is, found-number, row-below}
-use Rattle.judge_missing.specs.Lacks.{orElse, rowCount, State, noFlags, seen, openLack, firstLack, lackAll, requiredLabels, setLack, finish}
-use Rattle.judge_missing.proofs.FirstLaws.{firstOf, Real, first-append, real-append, real-ask, or-assoc, or-none, or-bad}
+use Rattle.judge_missing.specs.Lacks.{rowCount, State, noFlags, seen, openLack, firstLack, lackAll, requiredLabels, setLack, finish}
+use Rattle.meaning.proofs.FirstLaws.{firstOf, Real, first-append, real-append, real-ask, or-assoc, or-none, or-bad}
 use Rattle.judge_missing.proofs.FlagLaws.{Flags, flags-mark, flags-none, Same}
 use Rattle.judge_missing.proofs.LackLaws.{set-lack, open-is, real-open}
 use Rattle.judge_line.specs.Steps.{rowOf, againNo, placeNo, labelNo, versionNo, contentNo, lineNo, nextState, staysIn, lackThen}
@@ -203,45 +203,45 @@ module _ (pl : ℕ → Spot → ℕ) (st : State) (ms : G.State) (s : Same pl st
       stays-so = λ z. stays-by isTop isOurs (placed no (contentNo (f .label) (f .content)) at z) ∙ ap stays (sym role-so);
     }
 
-  line-same : (kind : SetType) (found : Found) → rowOf kind (f .label) ≡ found → LineSame pl (role (find (table kind) (f .label)) (ms .header) (f .label)) p st ms k at f found
+  line-same : (settype : SetType) (found : Found) → rowOf settype (f .label) ≡ found → LineSame pl (role (find (table settype) (f .label)) (ms .header) (f .label)) p st ms k at f found
   unfolding role
-  line-same kind Nothing q =
-      let w : find (table kind) (f .label) ≡ none = find-is (table kind) (f .label) ∙ ap justRow q in
+  line-same settype Nothing q =
+      let w : find (table settype) (f .label) ≡ none = find-is (table settype) (f .label) ∙ ap justRow q in
       subst (λ (o : Option Row). LineSame pl (role o (ms .header) (f .label)) p st ms k at f Nothing) (sym w) unknown-line
-  line-same kind (At i r) q =
-      let w : find (table kind) (f .label) ≡ some r = find-is (table kind) (f .label) ∙ ap justRow q in
+  line-same settype (At i r) q =
+      let w : find (table settype) (f .label) ≡ some r = find-is (table settype) (f .label) ∙ ap justRow q in
       subst (λ (o : Option Row). LineSame pl (role o (ms .header) (f .label)) p st ms k at f (At i r)) (sym w)
-      (known-line i r (found-number (table kind) (rowLabel (f .label)) i r q) (row-below kind (rowLabel (f .label)) i r q))
+      (known-line i r (found-number (table settype) (rowLabel (f .label)) i r q) (row-below settype (rowLabel (f .label)) i r q))
 
 -- ---- one line more
 
 -- the rules over some lines, with places found by `pl`
-module _ (kind : SetType) (pl : ℕ → Spot → ℕ) where
+module _ (settype : SetType) (pl : ℕ → Spot → ℕ) where
   abbrev pub profileOf : Profile
-  profileOf = record { setType = Of kind }
+  profileOf = record { setType = Of settype }
 
   -- 11 to 15 of the lines fs, then 16: set level, then groups and pairs
   abbrev pub whole : G.State → ℕ → List Field → Refusal → Refusal
   whole ms k fs lack =
       orElse (firstOf pl (rulesFrom profileOf ms k fs))
-      (orElse (firstOf pl (lacking (table kind) setLevel 0 (among (after (table kind) ms k (labels fs) .top))))
-      (orElse lack (firstOf pl (groupsLacking (table kind) ms k (labels fs)))))
+      (orElse (firstOf pl (lacking (table settype) setLevel 0 (among (after (table settype) ms k (labels fs) .top))))
+      (orElse lack (firstOf pl (groupsLacking (table settype) ms k (labels fs)))))
 
   lack-joins : (st : State) (ms : G.State) → Same pl st ms → (lack : Refusal) (b : Bool) (m : List Fault)
-      → orElse (lackThen b kind st lack) (firstOf pl m) ≡ orElse lack (firstOf pl (cond b [] (openLacking (table kind) ms) ++ m))
+      → orElse (lackThen b settype st lack) (firstOf pl m) ≡ orElse lack (firstOf pl (cond b [] (openLacking (table settype) ms) ++ m))
   unfolding firstLack
   lack-joins st ms sm lack true m = refl
   lack-joins st ms sm lack false m =
-      sym (or-assoc lack (openLack kind (st .header) (st .place) (st .members)) (firstOf pl m))
-      ∙ ap (orElse lack) (ap (λ (x : Refusal). orElse x (firstOf pl m)) (open-is kind pl st ms sm)
-      ∙ sym (first-append pl (openLacking (table kind) ms) m (real-open (table kind) ms)))
+      sym (or-assoc lack (openLack settype (st .header) (st .place) (st .members)) (firstOf pl m))
+      ∙ ap (orElse lack) (ap (λ (x : Refusal). orElse x (firstOf pl m)) (open-is settype pl st ms sm)
+      ∙ sym (first-append pl (openLacking (table settype) ms) m (real-open (table settype) ms)))
 
   -- one line more, where the rest is known
   pass-step : (f : Field) (fs : List Field) (at k : ℕ) (st : State) (ms : G.State) (lack : Refusal) → Same pl st ms
       → (found : Found) → LineSame pl (roleIn profileOf ms f) profileOf st ms k at f found
       → (F : State → Refusal → Refusal)
       → ((st′ : State) (ms′ : G.State) (lack′ : Refusal) → Same pl st′ ms′ → F st′ lack′ ≡ whole ms′ (k + 1) fs lack′)
-      → cond (eqb (lineNo found st (f .label) (f .content)) 0) (F (nextState found st at (f .label)) (lackThen (staysIn found) kind st lack)) (refusal (lineNo found st (f .label) (f .content)) at (f .label))
+      → cond (eqb (lineNo found st (f .label) (f .content)) 0) (F (nextState found st at (f .label)) (lackThen (staysIn found) settype st lack)) (refusal (lineNo found st (f .label) (f .content)) at (f .label))
       ≡ whole ms k (f ∷ fs) lack
   unfolding rulesFrom after groupsLacking
   pass-step f fs at k st ms lack sm found ls F ih = go (eqb no 0) refl
@@ -262,26 +262,26 @@ module _ (kind : SetType) (pl : ℕ → Spot → ℕ) where
       rest = rulesFrom profileOf then (k + 1) fs
 
       tops : Refusal
-      tops = firstOf pl (lacking (table kind) setLevel 0 (among (after (table kind) then (k + 1) (labels fs) .top)))
+      tops = firstOf pl (lacking (table settype) setLevel 0 (among (after (table settype) then (k + 1) (labels fs) .top)))
 
       groups : List Fault
-      groups = cond (stays (roleIn profileOf ms f)) [] (openLacking (table kind) ms)
+      groups = cond (stays (roleIn profileOf ms f)) [] (openLacking (table settype) ms)
 
       more : List Fault
-      more = groupsLacking (table kind) then (k + 1) (labels fs)
+      more = groupsLacking (table settype) then (k + 1) (labels fs)
 
       rules : firstOf pl (lr ++ rest) ≡ orElse (numbered no at (f .label)) (firstOf pl rest)
       rules = first-append pl lr rest (real-line (roleIn profileOf ms f) profileOf ms k f) ∙ ap (λ (x : Refusal). orElse x (firstOf pl rest)) (sym (ls .number-so))
 
-      go : (b : Bool) → eqb no 0 ≡ b → cond b (F (nextState found st at (f .label)) (lackThen (staysIn found) kind st lack)) (refusal no at (f .label))
+      go : (b : Bool) → eqb no 0 ≡ b → cond b (F (nextState found st at (f .label)) (lackThen (staysIn found) settype st lack)) (refusal no at (f .label))
           ≡ orElse (firstOf pl (lr ++ rest)) (orElse tops (orElse lack (firstOf pl (groups ++ more))))
       go true q =
           let z : no ≡ 0 = eqb-true no 0 q in
           let r : firstOf pl (lr ++ rest) ≡ firstOf pl rest =
           rules ∙ (ap (λ (x : Refusal). orElse x (firstOf pl rest)) (numbered-none no at (f .label) z) ∙ or-none (firstOf pl rest)) in
-          ih (nextState found st at (f .label)) then (lackThen (staysIn found) kind st lack) (ls .state-so z)
+          ih (nextState found st at (f .label)) then (lackThen (staysIn found) settype st lack) (ls .state-so z)
           ∙ ap₂ (λ (x y : Refusal). orElse x (orElse tops y)) (sym r)
-          (ap (λ (b : Bool). orElse (lackThen b kind st lack) (firstOf pl more)) (ls .stays-so z) ∙ lack-joins st ms sm lack (stays o) more)
+          (ap (λ (b : Bool). orElse (lackThen b settype st lack) (firstOf pl more)) (ls .stays-so z) ∙ lack-joins st ms sm lack (stays o) more)
       go false q =
           let z : no ≡ 0 → ⊥ = eqb-false no 0 q in
           let r : firstOf pl (lr ++ rest) ≡ refusal no at (f .label) =
@@ -292,17 +292,17 @@ module _ (kind : SetType) (pl : ℕ → Spot → ℕ) where
   pub pass-line : (f : Field) (fs : List Field) (at k : ℕ) (st : State) (ms : G.State) (lack : Refusal) → Same pl st ms → at ≡ pl k start
       → (F : State → Refusal → Refusal)
       → ((st′ : State) (ms′ : G.State) (lack′ : Refusal) → Same pl st′ ms′ → F st′ lack′ ≡ whole ms′ (k + 1) fs lack′)
-      → cond (eqb (lineNo (rowOf kind (f .label)) st (f .label) (f .content)) 0) (F (nextState (rowOf kind (f .label)) st at (f .label)) (lackThen (staysIn (rowOf kind (f .label))) kind st lack))
-      (refusal (lineNo (rowOf kind (f .label)) st (f .label) (f .content)) at (f .label))
+      → cond (eqb (lineNo (rowOf settype (f .label)) st (f .label) (f .content)) 0) (F (nextState (rowOf settype (f .label)) st at (f .label)) (lackThen (staysIn (rowOf settype (f .label))) settype st lack))
+      (refusal (lineNo (rowOf settype (f .label)) st (f .label) (f .content)) at (f .label))
       ≡ whole ms k (f ∷ fs) lack
   pass-line f fs at k st ms lack sm e F ih =
-      pass-step f fs at k st ms lack sm (rowOf kind (f .label)) (line-same pl st ms sm k at e profileOf f kind (rowOf kind (f .label)) refl) F ih
+      pass-step f fs at k st ms lack sm (rowOf settype (f .label)) (line-same pl st ms sm k at e profileOf f settype (rowOf settype (f .label)) refl) F ih
 
   -- behind the last line
-  pub pass-finish : (k : ℕ) (st : State) (ms : G.State) (lack : Refusal) → 0 ≡ pl 0 start → Same pl st ms → finish kind st lack ≡ whole ms k [] lack
+  pub pass-finish : (k : ℕ) (st : State) (ms : G.State) (lack : Refusal) → 0 ≡ pl 0 start → Same pl st ms → finish settype st lack ≡ whole ms k [] lack
   unfolding finish setLack firstLack rulesFrom after groupsLacking
   pass-finish k st ms lack z sm =
       ap₂ orElse
-      (ap (λ (has : ℕ → Bool). lackAll has (requiredLabels kind)) (λ i l. sm .top .same l i) ∙ set-lack (among (ms .top)) pl z kind)
-      (ap (orElse lack) (open-is kind pl st ms sm))
+      (ap (λ (has : ℕ → Bool). lackAll has (requiredLabels settype)) (λ i l. sm .top .same l i) ∙ set-lack (among (ms .top)) pl z settype)
+      (ap (orElse lack) (open-is settype pl st ms sm))
       ∙ sym (or-none _)

@@ -19,7 +19,7 @@ use Rattle.meaning.specs.Groups.{namesRow}
 use Rattle.table_fields.specs.Codes.{kindNumber, kindOf, fieldCode, kindIn}
 use Rattle.meaning.proofs.RowLaws.{allRows}
 use Rattle.table_kinds.specs.Fitting.{lengthFits}
-use Rattle.table_kinds.proofs.Laws.{fits-not, fits-kind}
+use Rattle.table_kinds.proofs.FittingLaws.{fits-not, fits-kind}
 use Rattle.table_find.specs.LookUp.{Found, At, Nothing, findFrom}
 use Rattle.table_find.specs.Codes.{numberIn, underIn}
 use Rattle.table_find.proofs.Laws.{table-all, found-row, found-passes}
@@ -42,7 +42,7 @@ behind-name h l p = go (eqb h (l - 1)) refl
 -- ---- what the code of a label's row tells
 
 -- the row of a label, by the number that its code has
-pub row-at : {kind : SetType} {l c i : ℕ} (h : Coded kind l c) → i ≡ numberIn c → rowOf kind l ≡ At i (h .row)
+pub row-at : {settype : SetType} {l c i : ℕ} (h : Coded settype l c) → i ≡ numberIn c → rowOf settype l ≡ At i (h .row)
 row-at h e = h .is ∙ ap (λ (k : ℕ). At k (h .row)) (sym e)
 
 -- ---- a member's row
@@ -58,12 +58,12 @@ underName r = eqb (r .under) namesRow
 abbrev pairTest : Row → Bool
 pairTest r = cond (pairMember r) (underName r) (not (underName r))
 
-pairs-test : (kind : SetType) → allRows pairTest (table kind) ≡ true
+pairs-test : (settype : SetType) → allRows pairTest (table settype) ≡ true
 unfolding rows6300 rows6301 rows6302 rows6310 rows6311
 pairs-test = table-all (λ rs. allRows pairTest rs ≡ true) refl refl refl refl refl
 
-found-pair : (kind : SetType) (l i : ℕ) (r : Row) → findFrom (table kind) l ≡ At i r → pairMember r ≡ underName r
-found-pair kind l i r e = go (pairMember r) (underName r) (found-passes (table kind) l i r e pairTest (pairs-test kind))
+found-pair : (settype : SetType) (l i : ℕ) (r : Row) → findFrom (table settype) l ≡ At i r → pairMember r ≡ underName r
+found-pair settype l i r e = go (pairMember r) (underName r) (found-passes (table settype) l i r e pairTest (pairs-test settype))
   where
     go : (a b : Bool) → cond a b (not b) ≡ true → a ≡ b
     go true b q = sym q
@@ -80,11 +80,11 @@ pair-row l = go (isPairLabel l) refl
     go false e = e
 
 -- so a member is the odd label of a pair exactly where its row stands under 6330
-pub member-pair : {kind : SetType} {l c under : ℕ} (h : Coded kind l c) → under ≡ underIn c → (under ≡ 0 → ⊥) → isPairLabel l ≡ eqb under namesRow
-member-pair {kind} {l} {c} {under} h e n =
+pub member-pair : {settype : SetType} {l c under : ℕ} (h : Coded settype l c) → under ≡ underIn c → (under ≡ 0 → ⊥) → isPairLabel l ≡ eqb under namesRow
+member-pair {settype} {l} {c} {under} h e n =
     let u : h .row .under ≡ under = h .under-so ∙ sym e in
-    let p : pairMember (h .row) ≡ underName (h .row) = found-pair kind (rowLabel l) (numberIn c) (h .row) (h .is) in
-    let m : isPairLabel (h .row .label) ≡ isPairLabel l = ap isPairLabel (found-row (table kind) (rowLabel l) (numberIn c) (h .row) (h .is)) ∙ pair-row l in
+    let p : pairMember (h .row) ≡ underName (h .row) = found-pair settype (rowLabel l) (numberIn c) (h .row) (h .is) in
+    let m : isPairLabel (h .row .label) ≡ isPairLabel l = ap isPairLabel (found-row (table settype) (rowLabel l) (numberIn c) (h .row) (h .is)) ∙ pair-row l in
     sym m ∙ (sym (ap (λ (b : Bool). not b && isPairLabel (h .row .label)) (ne-eqb (h .row .under) 0 (λ z. n (sym u ∙ z)))) ∙ p) ∙ ap (λ (x : ℕ). eqb x namesRow) u
 
 -- ---- 14 and 15 by the field of a label
@@ -125,12 +125,12 @@ module _ (field l : ℕ) (s : List ℕ) (from end : ℕ) (h : from ≤ end) (g :
 -- ---- one line
 
 -- a line that is refused
-stopped : {o : Found} {kind : SetType} {st : State} {lack : Refusal} {at l : ℕ} {c : List ℕ} {r : Step} {members top : List Bool}
-    → r .no ≡ lineNo o st l c → (r .no ≡ 0 → ⊥) → Stepped o kind st lack at l c r members top
+stopped : {o : Found} {settype : SetType} {st : State} {lack : Refusal} {at l : ℕ} {c : List ℕ} {r : Step} {members top : List Bool}
+    → r .no ≡ lineNo o st l c → (r .no ≡ 0 → ⊥) → Stepped o settype st lack at l c r members top
 stopped e n = record { number = e; state = λ z. absurd (n z); lack-so = λ z. absurd (n z) }
 
-pub step-unknown : {o : Found} {kind : SetType} {st : State} {lack : Refusal} {at l : ℕ} {c : List ℕ} {r : Step} {members top : List Bool}
-    → o ≡ Nothing → r .no ≡ notInSet → Stepped o kind st lack at l c r members top
+pub step-unknown : {o : Found} {settype : SetType} {st : State} {lack : Refusal} {at l : ℕ} {c : List ℕ} {r : Step} {members top : List Bool}
+    → o ≡ Nothing → r .no ≡ notInSet → Stepped o settype st lack at l c r members top
 unfolding lineNo labelNo
 step-unknown {st = st} {l = l} {c = c} q e = stopped (e ∙ ap (λ (x : Found). lineNo x st l c) (sym q)) (λ z. omega (arith, e))
 
@@ -140,9 +140,9 @@ unfolding lineNo labelNo
 placed-number o st l c i row q e =
     ap (λ (x : Found). lineNo x st l c) q ∙ ap (λ (x : ℕ). cond (eqb x 0) (contentNo l c) x) e
 
-module _ {o : Found} {kind : SetType} {st : State} {lack : Refusal} {at l : ℕ} {c : List ℕ} {r : Step} {members top : List Bool} where
+module _ {o : Found} {settype : SetType} {st : State} {lack : Refusal} {at l : ℕ} {c : List ℕ} {r : Step} {members top : List Bool} where
   pub step-misplaced : (i : ℕ) (row : Row) → o ≡ At i row → (p : ℕ) → p ≡ placeNo i row (st .header) (st .members) (st .top) l → (p ≡ 0 → ⊥) → r .no ≡ p
-      → Stepped o kind st lack at l c r members top
+      → Stepped o settype st lack at l c r members top
   unfolding lineNo labelNo
   step-misplaced i row q p e n g =
       let m : placeNo i row (st .header) (st .members) (st .top) l ≡ 0 → ⊥ = λ z. n (e ∙ z) in
@@ -150,13 +150,13 @@ module _ {o : Found} {kind : SetType} {st : State} {lack : Refusal} {at l : ℕ}
       stopped (g ∙ (sym w ∙ ap (λ (x : Found). lineNo x st l c) (sym q))) (λ z. n (sym g ∙ z))
 
   pub step-unfit : (i : ℕ) (row : Row) → o ≡ At i row → (p : ℕ) → p ≡ placeNo i row (st .header) (st .members) (st .top) l → p ≡ 0
-      → (u : ℕ) → u ≡ contentNo l c → (u ≡ 0 → ⊥) → r .no ≡ u → Stepped o kind st lack at l c r members top
+      → (u : ℕ) → u ≡ contentNo l c → (u ≡ 0 → ⊥) → r .no ≡ u → Stepped o settype st lack at l c r members top
   step-unfit i row q p e z u d n g = stopped (g ∙ (d ∙ sym (placed-number o st l c i row q (sym e ∙ z)))) (λ y. n (sym g ∙ y))
 
   pub step-opened : (i : ℕ) (row : Row) → o ≡ At i row → (p : ℕ) → p ≡ placeNo i row (st .header) (st .members) (st .top) l → p ≡ 0
       → (u : ℕ) → u ≡ contentNo l c → u ≡ 0 → row .under ≡ 0 → r .no ≡ 0
-      → r .group ≡ record { header = l; place = at; lack = firstLack kind (st .header) (st .place) (st .members) lack } → members ≡ noFlags
-      → top ≡ set (st .top) i true → Stepped o kind st lack at l c r members top
+      → r .group ≡ record { header = l; place = at; lack = firstLack settype (st .header) (st .place) (st .members) lack } → members ≡ noFlags
+      → top ≡ set (st .top) i true → Stepped o settype st lack at l c r members top
   unfolding nextState staysIn
   step-opened i row q p e z u d y v g h a b = record {
     number = g ∙ (sym y ∙ (d ∙ sym (placed-number o st l c i row q (sym e ∙ z))));
@@ -166,13 +166,13 @@ module _ {o : Found} {kind : SetType} {st : State} {lack : Refusal} {at l : ℕ}
         (record { header = cond (isPairLabel l) 0 (st .header); place = st .place; members = set (st .members) i true; top = st .top })) v)
         ∙ ap (λ (x : Found). nextState x st at l) (sym q));
     lack-so = λ x.
-        ap (λ (w : Group). w .lack) h ∙ (sym (ap (λ (w : ℕ). lackThen (not (eqb w 0)) kind st lack) v) ∙ ap (λ (x : Found). lackThen (staysIn x) kind st lack) (sym q));
+        ap (λ (w : Group). w .lack) h ∙ (sym (ap (λ (w : ℕ). lackThen (not (eqb w 0)) settype st lack) v) ∙ ap (λ (x : Found). lackThen (staysIn x) settype st lack) (sym q));
   }
 
   pub step-joined : (i : ℕ) (row : Row) → o ≡ At i row → (p : ℕ) → p ≡ placeNo i row (st .header) (st .members) (st .top) l → p ≡ 0
       → (u : ℕ) → u ≡ contentNo l c → u ≡ 0 → (under : ℕ) → row .under ≡ under → (under ≡ 0 → ⊥) → isPairLabel l ≡ eqb under namesRow → r .no ≡ 0
       → r .group ≡ record { header = cond (eqb under namesRow) 0 (st .header); place = st .place; lack = lack }
-      → members ≡ set (st .members) i true → top ≡ st .top → Stepped o kind st lack at l c r members top
+      → members ≡ set (st .members) i true → top ≡ st .top → Stepped o settype st lack at l c r members top
   unfolding nextState staysIn
   step-joined i row q p e z u d y under v n pair g h a b =
       let w : eqb (row .under) 0 ≡ false = ne-eqb (row .under) 0 (λ x. n (sym v ∙ x)) in
@@ -185,13 +185,13 @@ module _ {o : Found} {kind : SetType} {st : State} {lack : Refusal} {at l : ℕ}
             (record { header = cond (isPairLabel l) 0 (st .header); place = st .place; members = set (st .members) i true; top = st .top })) w)
             ∙ ap (λ (x : Found). nextState x st at l) (sym q)));
         lack-so = λ x.
-            ap (λ (w : Group). w .lack) h ∙ (sym (ap (λ (w : Bool). lackThen (not w) kind st lack) w) ∙ ap (λ (x : Found). lackThen (staysIn x) kind st lack) (sym q));
+            ap (λ (w : Group). w .lack) h ∙ (sym (ap (λ (w : Bool). lackThen (not w) settype st lack) w) ∙ ap (λ (x : Found). lackThen (staysIn x) settype st lack) (sym q));
       }
 
 -- what is open behind a set-level line, and behind a member
-pub opened-is : (kind : SetType) (at l : ℕ) (g : Group) (members : List Bool) (lack : Refusal) → lack ≡ firstLack kind (g .header) (g .place) members (g .lack)
-    → record { header = l; place = at; lack = lack } ≡ openedGroup kind at l g members
-opened-is kind at l g members lack e = λ j. record { header = l; place = at; lack = e j }
+pub opened-is : (settype : SetType) (at l : ℕ) (g : Group) (members : List Bool) (lack : Refusal) → lack ≡ firstLack settype (g .header) (g .place) members (g .lack)
+    → record { header = l; place = at; lack = lack } ≡ openedGroup settype at l g members
+opened-is settype at l g members lack e = λ j. record { header = l; place = at; lack = e j }
 
 pub joined-is : (under header : ℕ) (g : Group) → header ≡ cond (eqb under namesRow) 0 (g .header) → record { header = header; place = g .place; lack = g .lack } ≡ joinedGroup under g
 joined-is under header g e = λ j. record { header = e j; place = g .place; lack = g .lack }

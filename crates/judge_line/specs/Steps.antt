@@ -21,7 +21,7 @@ use Rattle.judge_line.specs.declared.Step.{Step}
 
 -- the row of a label, with its number
 abbrev pub rowOf : SetType → ℕ → Found
-rowOf kind l = findFrom (table kind) (rowLabel l)
+rowOf settype l = findFrom (table settype) (rowLabel l)
 
 -- ---- 11 to 15 of one line, 0 where none of them is given
 
@@ -68,17 +68,17 @@ staysIn NoRow = false
 staysIn (At i r) = not (eqb (r .under) setLevel)
 
 abbrev pub lackThen : Bool → SetType → State → Refusal → Refusal
-lackThen stays kind st lack = cond stays lack (firstLack kind (st .header) (st .place) (st .members) lack)
+lackThen stays settype st lack = cond stays lack (firstLack settype (st .header) (st .place) (st .members) lack)
 
 -- what is open behind a set-level line, and behind a member whose row stands under a label, as the code holds it
 abbrev pub openedGroup : SetType → ℕ → ℕ → Group → List Bool → Group
-openedGroup kind at l g members = record { header = l; place = at; lack = firstLack kind (g .header) (g .place) members (g .lack) }
+openedGroup settype at l g members = record { header = l; place = at; lack = firstLack settype (g .header) (g .place) members (g .lack) }
 
 abbrev pub joinedGroup : ℕ → Group → Group
 joinedGroup under g = record { header = cond (eqb under namesRow) noHeader (g .header); place = g .place; lack = g .lack }
 
 -- what a line's step and the flags behind it say: its number, and where that is 0 the next state and the first group's lack
-pub record Stepped (o : Found) (kind : SetType) (st : State) (lack : Refusal) (at l : ℕ) (c : List ℕ) (r : Step) (members top : List Bool) : Type 0 where
+pub record Stepped (o : Found) (settype : SetType) (st : State) (lack : Refusal) (at l : ℕ) (c : List ℕ) (r : Step) (members top : List Bool) : Type 0 where
   pub number : r .no ≡ lineNo o st l c
   pub state : r .no ≡ 0 → stateOf (r .group) members top ≡ nextState o st at l
-  pub lack-so : r .no ≡ 0 → r .group .lack ≡ lackThen (staysIn o) kind st lack
+  pub lack-so : r .no ≡ 0 → r .group .lack ≡ lackThen (staysIn o) settype st lack

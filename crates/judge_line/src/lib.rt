@@ -23,9 +23,6 @@ pub struct Step {
     pub group: Group,
 }
 
-// The row under which the table puts the odd labels 6331 to 6399.
-const NAMES_ROW: usize = 6330;
-
 // ---- 11 to 15 of one line
 
 // 13, Repeated: "single label again in the set or its group".
@@ -45,7 +42,7 @@ fn again_no(many: bool, seen: bool) -> usize
 fn belongs_to(under: usize, header: usize, label: usize) -> bool
     ensures { λ b. ⌜ ((r : Row) → r .under ≡ under → b ≡ belongs r header label) ⌝ }
 {
-    if under != NAMES_ROW {
+    if under != meaning::LABEL_6330 {
         return under == header;
     }
     if label < 1 {
@@ -80,7 +77,7 @@ fn place_no(
 fn version_no(label: usize, content: &[u8]) -> usize
     ensures { λ r. ⌜ r ≡ versionNo label (now (content .entry)) ⌝ }
 {
-    if label != 9218 {
+    if label != meaning::LABEL_9218 {
         return 0;
     }
     if table_kinds::is_0210(content) {
@@ -128,7 +125,7 @@ fn refused_step(no: usize, group: Group) -> Step
 fn header_after(under: usize, header: usize) -> usize
     ensures { λ r. ⌜ r ≡ cond (eqb under namesRow) 0 header ⌝ }
 {
-    if under == NAMES_ROW {
+    if under == meaning::LABEL_6330 {
         return 0;
     }
     header
@@ -136,7 +133,7 @@ fn header_after(under: usize, header: usize) -> usize
 
 // What is open behind a set-level line with row number i: its own group, with no member yet. The group before it ends.
 fn opened(
-    kind: SetType,
+    settype: SetType,
     at: usize,
     label: usize,
     i: usize,
@@ -145,9 +142,9 @@ fn opened(
     top: &mut [bool; ROWS],
 ) -> Group
     requires { ⌜ i < rowCount ⌝ }
-    ensures { λ r. ⌜ (r ≡ openedGroup kind at label group (now (members .entry))) × (now (members .exit) ≡ noFlags) × (now (top .exit) ≡ set (now (top .entry)) i true) ⌝ }
+    ensures { λ r. ⌜ (r ≡ openedGroup settype at label group (now (members .entry))) × (now (members .exit) ≡ noFlags) × (now (top .exit) ≡ set (now (top .entry)) i true) ⌝ }
 {
-    let lack = judge_missing::first_lack(kind, group, members);
+    let lack = judge_missing::first_lack(settype, group, members);
     judge_missing::mark(top, i);
     judge_missing::clear(members);
     Group {
@@ -174,7 +171,7 @@ fn joined(under: usize, i: usize, group: Group, members: &mut [bool; ROWS]) -> G
 
 // One line with its content from one offset to another: 11, 12, 13, 14, 15; else what is then open, and the flags.
 pub fn step_at(
-    kind: SetType,
+    settype: SetType,
     at: usize,
     label: usize,
     s: &[u8],
@@ -185,9 +182,9 @@ pub fn step_at(
     top: &mut [bool; ROWS],
 ) -> Step
     requires { ⌜ (from ≤ end) × (end ≤ length (now s)) ⌝ }
-    ensures { λ r. ⌜ Stepped (rowOf kind label) kind (stateOf group (now (members .entry)) (now (top .entry))) (group .lack) at label (between (now (s .entry)) from end) r (now (members .exit)) (now (top .exit)) ⌝ }
+    ensures { λ r. ⌜ Stepped (rowOf settype label) settype (stateOf group (now (members .entry)) (now (top .entry))) (group .lack) at label (between (now (s .entry)) from end) r (now (members .exit)) (now (top .exit)) ⌝ }
 {
-    let code = table_find::find_row(kind, label);
+    let code = table_find::find_row(settype, label);
     if code == table_find::NOTHING {
         return refused_step(Refusal::NOT_IN_SET, group);
     }
@@ -203,7 +200,7 @@ pub fn step_at(
         return refused_step(unfit, group);
     }
     if under == 0 {
-        let group = opened(kind, at, label, i, group, members, top);
+        let group = opened(settype, at, label, i, group, members, top);
         return Step { no: 0, group };
     }
     let group = joined(under, i, group, members);

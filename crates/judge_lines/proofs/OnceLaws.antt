@@ -21,14 +21,14 @@ use Rattle.meaning.specs.Kinds.{isAlnum, ofKind}
 use Rattle.meaning.specs.Tables.{setLevel, single, M, row, rows6300, rows6301, rows6302, rows6310, rows6311, table, rowLabel}
 use Rattle.meaning.specs.FieldTable.{fieldTable, fieldRowIn, fieldRow, hasLength, fitsRow, fitsLabel}
 use Rattle.meaning.specs.Rules.{typeNamed, typeDigits}
-use Rattle.meaning.specs.Answers.{noRefusal}
+use Rattle.meaning.specs.Answers.{noRefusal, orElse}
 use Rattle.meaning.proofs.LineLaws.{whole}
 use Rattle.table_find.specs.LookUp.{Found, At, findFrom, numberOf, numberFrom}
 use Rattle.line_read.specs.declared.Number.the-variants.{Is}
 use Rattle.line_read.specs.declared.Line.{Line}
 use Rattle.line_read.specs.declared.Line.the-variants.{Read}
 use Rattle.line_read.specs.Number.{numberAt}
-use Rattle.line_read.specs.Line.{lineAt}
+use Rattle.line_read.specs.Line.{lineAt, contentOf}
 use Rattle.line_read.proofs.Laws.{number-within}
 use Rattle.line_read.proofs.Bridge.{asNumber, number-is, read-back}
 use Rattle.line_scan.specs.declared.Scan.{Scan}
@@ -37,10 +37,10 @@ use Rattle.line_scan.specs.Scan.{endsAt, after, scanFrom, scanSet}
 use Rattle.line_scan.proofs.Laws.{scan-done, scan-full, scan-bad, scan-further}
 use Rattle.line_scan.proofs.Bridge.{ends-is}
 use Rattle.judge_missing.specs.declared.Group.{Group}
-use Rattle.judge_missing.specs.Lacks.{orElse, State, noFlags, begin, openLack, firstLack, finish, stateOf}
+use Rattle.judge_missing.specs.Lacks.{State, noFlags, begin, openLack, firstLack, finish, stateOf}
 use Rattle.judge_line.specs.declared.Step.{Step}
 use Rattle.judge_line.specs.Steps.{rowOf, againNo, placeNo, labelNo, versionNo, contentNo, lineNo, nextState, staysIn, Stepped}
-use Rattle.judge_lines.specs.Pass.{contentOf, passFrom, firstUnread, doneUnless, Stops, NextAt, finishedScan, passed}
+use Rattle.judge_lines.specs.Pass.{passFrom, firstUnread, doneUnless, Stops, NextAt, finishedScan, passed}
 use Rattle.judge_lines.proofs.PassLaws.{pass-bad, pass-on}
 
 -- ---- the scan
@@ -140,7 +140,7 @@ scan-first s q =
     rw (ne-eqb (length s) 0 (λ z. omega (arith, r .least, r .within)), q)
 
 -- the number and the row of 8000 in every table
-start-row : (kind : SetType) → rowOf kind 8000 ≡ At 31 (row 8000 setLevel single M)
+start-row : (settype : SetType) → rowOf settype 8000 ≡ At 31 (row 8000 setLevel single M)
 unfolding table rows6300 rows6301 rows6302 rows6310 rows6311 rowLabel findFrom numberOf numberFrom fieldTable
 start-row T6300 = refl
 start-row T6301 = refl
@@ -149,11 +149,11 @@ start-row T6310 = refl
 start-row T6311 = refl
 
 -- a content that names a type fits 8000
-type-fits : (c : List ℕ) (kind : SetType) → typeNamed c ≡ Of kind → fitsLabel 8000 c ≡ true
+type-fits : (c : List ℕ) (settype : SetType) → typeNamed c ≡ Of settype → fitsLabel 8000 c ≡ true
 unfolding typeNamed fitsLabel fitsRow fieldRow fieldRowIn fieldTable rowLabel hasLength ofKind isAlnum
-type-fits c kind q = go (eqb (length c) typeDigits) refl q
+type-fits c settype q = go (eqb (length c) typeDigits) refl q
   where
-    go : (b : Bool) → eqb (length c) typeDigits ≡ b → cond (b && allDigits c) (typeOf (number c)) Nothing ≡ Of kind → (leb 4 (length c) && leb (length c) 4) && true ≡ true
+    go : (b : Bool) → eqb (length c) typeDigits ≡ b → cond (b && allDigits c) (typeOf (number c)) Nothing ≡ Of settype → (leb 4 (length c) && leb (length c) 4) && true ≡ true
     go true e z = rw (eqb-true (length c) typeDigits e)
     go false e z = let y : _≡_ {A = ℕ} 0 1 = cc in absurd (omega arith)
 
@@ -165,43 +165,43 @@ abbrev pub startTop : List Bool
 startTop = set noFlags 31 true
 
 -- the step of line 1: a line 8000 that names a type is never refused
-start-step : (kind : SetType) (c : List ℕ) → typeNamed c ≡ Of kind → Stepped (rowOf kind 8000) kind begin noRefusal 0 8000 c (record { no = 0; group = startGroup }) noFlags startTop
+start-step : (settype : SetType) (c : List ℕ) → typeNamed c ≡ Of settype → Stepped (rowOf settype 8000) settype begin noRefusal 0 8000 c (record { no = 0; group = startGroup }) noFlags startTop
 unfolding lineNo labelNo placeNo againNo contentNo versionNo nextState staysIn firstLack openLack orElse
-start-step kind c q =
-    subst (λ (o : Found). Stepped o kind begin noRefusal 0 8000 c (record { no = 0; group = startGroup }) noFlags startTop) (sym (start-row kind))
-    (record { number = rw (type-fits c kind q); state = λ z. refl; lack-so = λ z. refl })
+start-step settype c q =
+    subst (λ (o : Found). Stepped o settype begin noRefusal 0 8000 c (record { no = 0; group = startGroup }) noFlags startTop) (sym (start-row settype))
+    (record { number = rw (type-fits c settype q); state = λ z. refl; lack-so = λ z. refl })
 
 -- ---- at a line start: the scan from here on is the scan of the set, and the pass from here on is the pass over the set
 
-pub record Along (s : List ℕ) (kind : SetType) (at k : ℕ) (st : State) (lack : Refusal) : Type 0 where
+pub record Along (s : List ℕ) (settype : SetType) (at k : ℕ) (st : State) (lack : Refusal) : Type 0 where
   pub within : at ≤ length s
   pub few : k ≤ maxLines
   pub scan-so : scanFrom s at k (maxLines - k) ≡ scanSet s
-  pub pass-so : (m : ℕ) → passFrom s kind at st lack m ≡ passFrom s kind 0 begin noRefusal (k + m)
+  pub pass-so : (m : ℕ) → passFrom s settype at st lack m ≡ passFrom s settype 0 begin noRefusal (k + m)
 
 -- behind line 1
-pub along-start : (s : List ℕ) (kind : SetType) (at : ℕ) → lineAt s 0 ≡ Read 8000 at → typeNamed (contentOf s 0 at) ≡ Of kind
-    → {lack : Refusal} → lack ≡ noRefusal → {top : List Bool} → top ≡ startTop → Along s kind at 1 (stateOf startGroup noFlags top) lack
-along-start s kind at q t {lack} e {top} f = rw (e, f) (record {
+pub along-start : (s : List ℕ) (settype : SetType) (at : ℕ) → lineAt s 0 ≡ Read 8000 at → typeNamed (contentOf s 0 at) ≡ Of settype
+    → {lack : Refusal} → lack ≡ noRefusal → {top : List Bool} → top ≡ startTop → Along s settype at 1 (stateOf startGroup noFlags top) lack
+along-start s settype at q t {lack} e {top} f = rw (e, f) (record {
   within = omega (arith, read-back s 0 q .within);
   few = omega arith;
   scan-so = sym (scan-first s q);
   pass-so = λ m.
       let one : suc m ≡ 1 + m = omega arith in
-      sym (ap (passFrom s kind 0 begin noRefusal) (sym one)
-      ∙ (pass-on s kind 0 begin noRefusal 8000 at q (record { no = 0; group = startGroup }) noFlags startTop (start-step kind (contentOf s 0 at) t) refl m
-      ∙ ap (λ (x : ℕ). passFrom s kind x (stateOf startGroup noFlags startTop) noRefusal m) (zero-add at)));
+      sym (ap (passFrom s settype 0 begin noRefusal) (sym one)
+      ∙ (pass-on s settype 0 begin noRefusal 8000 at q (record { no = 0; group = startGroup }) noFlags startTop (start-step settype (contentOf s 0 at) t) refl m
+      ∙ ap (λ (x : ℕ). passFrom s settype x (stateOf startGroup noFlags startTop) noRefusal m) (zero-add at)));
 })
 
-module _ {s : List ℕ} {kind : SetType} {at k : ℕ} {st : State} {lack : Refusal} (a : Along s kind at k st lack) {l n : ℕ} (h : NextAt s at k l n) where
+module _ {s : List ℕ} {settype : SetType} {at k : ℕ} {st : State} {lack : Refusal} (a : Along s settype at k st lack) {l n : ℕ} (h : NextAt s at k l n) where
   -- no line of the set is left
-  pub along-end : l ≡ 8000 → finishedScan (finish kind st lack) (scanFrom s at k (maxLines - k)) ≡ passed s kind (scanSet s)
+  pub along-end : l ≡ 8000 → finishedScan (finish settype st lack) (scanFrom s at k (maxLines - k)) ≡ passed s settype (scanSet s)
   unfolding passFrom
-  along-end z = go (scanFrom s at k (maxLines - k)) (h .scan-stops z) ∙ ap (passed s kind) (a .scan-so)
+  along-end z = go (scanFrom s at k (maxLines - k)) (h .scan-stops z) ∙ ap (passed s settype) (a .scan-so)
     where
-      go : (x : Scan) → Stops k x → finishedScan (finish kind st lack) x ≡ passed s kind x
+      go : (x : Scan) → Stops k x → finishedScan (finish settype st lack) x ≡ passed s settype x
       go (Refused u) c = refl
-      go (Done total lines) c = ap (λ (x : Refusal). doneUnless x total lines) (a .pass-so 0 ∙ ap (passFrom s kind 0 begin noRefusal) (add-zero k ∙ sym c))
+      go (Done total lines) c = ap (λ (x : Refusal). doneUnless x total lines) (a .pass-so 0 ∙ ap (passFrom s settype 0 begin noRefusal) (add-zero k ∙ sym c))
 
   module _ (z : l ≡ 8000 → ⊥) where
     -- the line is read
@@ -221,26 +221,26 @@ module _ {s : List ℕ} {kind : SetType} {at k : ℕ} {st : State} {lack : Refus
     scan-behind : scanFrom s (at + n) (k + 1) (maxLines - (k + 1)) ≡ scanSet s
     scan-behind = sym (scan-further s at k along-few (ends-read s at line-so ∙ ne-eqb l 8000 z) line-so) ∙ a .scan-so
 
-    module _ (r : Step) (members top : List Bool) (e : Stepped (rowOf kind l) kind st lack at l (contentOf s at n) r members top) where
+    module _ (r : Step) (members top : List Bool) (e : Stepped (rowOf settype l) settype st lack at l (contentOf s at n) r members top) where
       pub along-bad : (r .no ≡ 0 → ⊥)
-          → Refused (firstUnread (scanFrom s (at + n) (k + 1) (maxLines - (k + 1))) (refusal (r .no) at l)) ≡ passed s kind (scanSet s)
+          → Refused (firstUnread (scanFrom s (at + n) (k + 1) (maxLines - (k + 1))) (refusal (r .no) at l)) ≡ passed s settype (scanSet s)
       unfolding doneUnless
-      along-bad g = go (scanFrom s (at + n) (k + 1) (maxLines - (k + 1))) (scan-counts s (maxLines - (k + 1)) (at + n) (k + 1)) ∙ ap (passed s kind) scan-behind
+      along-bad g = go (scanFrom s (at + n) (k + 1) (maxLines - (k + 1))) (scan-counts s (maxLines - (k + 1)) (at + n) (k + 1)) ∙ ap (passed s settype) scan-behind
         where
-          go : (x : Scan) → Counts (k + 1) x → Refused (firstUnread x (refusal (r .no) at l)) ≡ passed s kind x
+          go : (x : Scan) → Counts (k + 1) x → Refused (firstUnread x (refusal (r .no) at l)) ≡ passed s settype x
           go (Refused u) c = refl
           go (Done total lines) c =
               let m : k + suc (lines - (k + 1)) ≡ lines = omega arith in
-              let w : passFrom s kind 0 begin noRefusal lines ≡ refusal (r .no) at l =
-              ap (passFrom s kind 0 begin noRefusal) (sym m) ∙ (sym (a .pass-so (suc (lines - (k + 1)))) ∙ pass-bad s kind at st lack l n line-so r members top e g (lines - (k + 1))) in
+              let w : passFrom s settype 0 begin noRefusal lines ≡ refusal (r .no) at l =
+              ap (passFrom s settype 0 begin noRefusal) (sym m) ∙ (sym (a .pass-so (suc (lines - (k + 1)))) ∙ pass-bad s settype at st lack l n line-so r members top e g (lines - (k + 1))) in
               sym (rw (w, ne-eqb (r .no) 0 g))
 
-      pub along-on : r .no ≡ 0 → Along s kind (at + n) (k + 1) (stateOf (r .group) members top) (r .group .lack)
+      pub along-on : r .no ≡ 0 → Along s settype (at + n) (k + 1) (stateOf (r .group) members top) (r .group .lack)
       along-on g = record {
         within = along-within;
         few = omega (arith, along-few);
         scan-so = scan-behind;
-        pass-so = λ m. sym (pass-on s kind at st lack l n line-so r members top e g m) ∙ (a .pass-so (suc m) ∙ ap (passFrom s kind 0 begin noRefusal) (omega arith));
+        pass-so = λ m. sym (pass-on s settype at st lack l n line-so r members top e g m) ∙ (a .pass-so (suc m) ∙ ap (passFrom s settype 0 begin noRefusal) (omega arith));
       }
 
 -- ---- behind the last line

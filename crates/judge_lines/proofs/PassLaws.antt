@@ -6,49 +6,47 @@ use Prim.Native.Nat.{ℕ, zero, suc, _+_, _-_, _≤_}
 use native.Mathlib.Numerals.{add-one}
 use native.Mathlib.Omega.{arith}
 use lib.ListN.{length, drop, take}
-use lib.Seq.{drop-drop}
 use borrow.Author.Tests.{ne-eqb}
 use Rattle.meaning.specs.declared.Refusal.{Refusal}
 use Rattle.meaning.specs.declared.SetType.{SetType}
 use Rattle.meaning.specs.Field.{Field}
 use Rattle.meaning.specs.Refusals.{start, refusal}
-use Rattle.meaning.specs.Lines.{lineLead, lineSize, lineThen, size, offset, render}
-use Rattle.meaning.specs.Tables.{table}
+use Rattle.meaning.specs.Lines.{lineLead, lineSize, size, offset, render}
 use Rattle.meaning.specs.Groups as G
 use Rattle.meaning.specs.Reading.{inSet}
 use Rattle.meaning.proofs.Bools.{Every}
-use Rattle.meaning.proofs.LineLaws.{Sound, size-line, content-line, drop-line}
+use Rattle.meaning.proofs.LineLaws.{Sound}
 use Rattle.table_find.specs.LookUp.{Found}
 use Rattle.line_read.specs.declared.Line.the-variants.{Read}
-use Rattle.line_read.specs.Line.{lineAt}
-use Rattle.line_read.proofs.Bridge.{read-line, read-back}
+use Rattle.line_read.specs.Line.{lineAt, contentOf}
+use Rattle.line_read.proofs.Bridge.{read-line, read-back, reads-content, reads-on}
 use Rattle.judge_missing.specs.Lacks.{State, stateOf}
 use Rattle.judge_missing.proofs.FlagLaws.{Same}
 use Rattle.judge_line.specs.declared.Step.{Step}
 use Rattle.judge_line.specs.Steps.{rowOf, lineNo, Stepped}
 use Rattle.judge_line.proofs.SameLaws.{whole, pass-line, pass-finish}
-use Rattle.judge_lines.specs.Pass.{contentOf, passFrom}
+use Rattle.judge_lines.specs.Pass.{passFrom}
 
 -- ---- the pass: one line more
 
 -- the content of a line is the part of the set that stands there
-pub step-line : {o : Found} {kind : SetType} {st : State} {lack : Refusal} {l : ℕ} {r : Step} {members top : List Bool} (s : List ℕ) (at size : ℕ) → 10 ≤ size
-    → Stepped o kind st lack at l (take (at + size - 2 - (at + 7)) (drop (at + lineLead) s)) r members top → Stepped o kind st lack at l (contentOf s at size) r members top
-step-line {o} {kind} {st} {lack} {l} {r} {members} {top} s at size h e =
+pub step-line : {o : Found} {settype : SetType} {st : State} {lack : Refusal} {l : ℕ} {r : Step} {members top : List Bool} (s : List ℕ) (at size : ℕ) → 10 ≤ size
+    → Stepped o settype st lack at l (take (at + size - 2 - (at + 7)) (drop (at + lineLead) s)) r members top → Stepped o settype st lack at l (contentOf s at size) r members top
+step-line {o} {settype} {st} {lack} {l} {r} {members} {top} s at size h e =
     let m : at + size - 2 - (at + 7) ≡ size - 9 = omega arith in
-    subst (λ (x : ℕ). Stepped o kind st lack at l (take x (drop (at + lineLead) s)) r members top) m e
+    subst (λ (x : ℕ). Stepped o settype st lack at l (take x (drop (at + lineLead) s)) r members top) m e
 
-module _ (s : List ℕ) (kind : SetType) (at : ℕ) (st : State) (lack : Refusal) (l size : ℕ) (q : lineAt s at ≡ Read l size) (r : Step) (members top : List Bool)
-    (e : Stepped (rowOf kind l) kind st lack at l (contentOf s at size) r members top) where
-  pub pass-bad : (r .no ≡ 0 → ⊥) → (m : ℕ) → passFrom s kind at st lack (suc m) ≡ refusal (r .no) at l
+module _ (s : List ℕ) (settype : SetType) (at : ℕ) (st : State) (lack : Refusal) (l size : ℕ) (q : lineAt s at ≡ Read l size) (r : Step) (members top : List Bool)
+    (e : Stepped (rowOf settype l) settype st lack at l (contentOf s at size) r members top) where
+  pub pass-bad : (r .no ≡ 0 → ⊥) → (m : ℕ) → passFrom s settype at st lack (suc m) ≡ refusal (r .no) at l
   unfolding passFrom
   pass-bad g m = rw (q, ← (e .number), ne-eqb (r .no) 0 g)
 
-  pub pass-on : r .no ≡ 0 → (m : ℕ) → passFrom s kind at st lack (suc m) ≡ passFrom s kind (at + size) (stateOf (r .group) members top) (r .group .lack) m
+  pub pass-on : r .no ≡ 0 → (m : ℕ) → passFrom s settype at st lack (suc m) ≡ passFrom s settype (at + size) (stateOf (r .group) members top) (r .group .lack) m
   unfolding passFrom
   pass-on g m =
-      let z : lineNo (rowOf kind l) st l (contentOf s at size) ≡ 0 = sym (e .number) ∙ g in
-      rw (q, z) (ap₂ (λ (x : State) (y : Refusal). passFrom s kind (at + size) x y m) (sym (e .state g)) (sym (e .lack-so g)))
+      let z : lineNo (rowOf settype l) st l (contentOf s at size) ≡ 0 = sym (e .number) ∙ g in
+      rw (q, z) (ap₂ (λ (x : State) (y : Refusal). passFrom s settype (at + size) x y m) (sym (e .state g)) (sym (e .lack-so g)))
 
 -- ---- the pass over the fields
 
@@ -64,29 +62,19 @@ offset-next (x ∷ xs) (suc k) f fs e =
     let ih = offset-next xs k f fs e in
     (omega (arith, ih .0), ih .1)
 
--- a line that is written at an offset, as the pass reads it
-module _ (s : List ℕ) (at : ℕ) (f : Field) (u : List ℕ) (h : Sound f) (w : drop at s ≡ lineThen f u) where
-  pub reads-content : contentOf s at (lineSize f) ≡ f .content
-  reads-content =
-      ap (take (lineSize f - 9)) (sym (drop-drop 7 at s) ∙ ap (drop 7) w)
-      ∙ (ap (λ (m : ℕ). take (m - 9) (drop 7 (lineThen f u))) (sym (size-line f u h)) ∙ content-line f u h)
-
-  pub reads-on : drop (at + lineSize f) s ≡ u
-  reads-on = sym (drop-drop (lineSize f) at s) ∙ (ap (drop (lineSize f)) w ∙ (ap (λ (m : ℕ). drop m (lineThen f u)) (sym (size-line f u h)) ∙ drop-line f u h))
-
-module _ (s : List ℕ) (kind : SetType) (all : List Field) where
+module _ (s : List ℕ) (settype : SetType) (all : List Field) where
   next-place : (at k : ℕ) (f : Field) (fs : List Field) → at ≡ inSet all k start → drop k all ≡ f ∷ fs → at + lineSize f ≡ inSet all (k + 1) start
   next-place at k f fs e d = rw add-one (omega (arith, e, offset-next all k f fs d .0))
 
   pub pass-is : (fs : List Field) (t : List ℕ) (at k : ℕ) (st : State) (ms : G.State) (lack : Refusal) → Every Sound fs → drop at s ≡ render fs t → at ≤ length s
-      → at ≡ inSet all k start → drop k all ≡ fs → Same (inSet all) st ms → passFrom s kind at st lack (length fs) ≡ whole kind (inSet all) ms k fs lack
+      → at ≡ inSet all k start → drop k all ≡ fs → Same (inSet all) st ms → passFrom s settype at st lack (length fs) ≡ whole settype (inSet all) ms k fs lack
   unfolding passFrom
-  pass-is [] t at k st ms lack h w b e d sm = pass-finish kind (inSet all) k st ms lack refl sm
+  pass-is [] t at k st ms lack h w b e d sm = pass-finish settype (inSet all) k st ms lack refl sm
   pass-is (f ∷ fs) t at k st ms lack h w b e d sm =
       let rd : lineAt s at ≡ Read (f .label) (lineSize f) = read-line s at f (render fs t) w (h .0) in
       let fit : at + lineSize f ≤ length s = read-back s at rd .within in
-      let go = pass-line kind (inSet all) f fs at k st ms lack sm e
-      (λ st′ lack′. passFrom s kind (at + lineSize f) st′ lack′ (length fs))
+      let go = pass-line settype (inSet all) f fs at k st ms lack sm e
+      (λ st′ lack′. passFrom s settype (at + lineSize f) st′ lack′ (length fs))
       (λ st′ ms′ lack′ sm′. pass-is fs t (at + lineSize f) (k + 1) st′ ms′ lack′ (h .1) (reads-on s at f (render fs t) (h .0) w) fit
       (next-place at k f fs e d) (rw add-one (offset-next all k f fs d .1)) sm′) in
       rw (rd, reads-content s at f (render fs t) (h .0) w) go

@@ -3,17 +3,15 @@ use mathlib.Core.Bool.{cond}
 use mathlib.Core.Path.{_≡_}
 use mathlib.Core.List.{List}
 use Prim.Native.Nat.{ℕ, zero, suc, _+_, _-_, _<_}
-use lib.ListN.{take, drop}
 use lib.Dec.{eqb}
 use Rattle.meaning.specs.declared.Refusal.{Refusal}
 use Rattle.meaning.specs.declared.SetType.{SetType}
 use Rattle.meaning.specs.Limits.{maxLines}
 use Rattle.meaning.specs.Refusals.{refusal}
-use Rattle.meaning.specs.Lines.{lineLead, lineEnd}
 use Rattle.meaning.specs.Answers.{noRefusal}
 use Rattle.line_read.specs.declared.Line.{Line}
 use Rattle.line_read.specs.declared.Line.the-variants.{Read, Refused}
-use Rattle.line_read.specs.Line.{lineAt}
+use Rattle.line_read.specs.Line.{lineAt, contentOf}
 use Rattle.line_scan.specs.declared.Scan.{Scan}
 use Rattle.line_scan.specs.declared.Scan.the-variants.{Done}
 use Rattle.line_scan.specs.Scan.{scanFrom}
@@ -27,17 +25,13 @@ abbrev pub afterLine : Line → (ℕ → ℕ → Refusal) → Refusal
 afterLine (Read l n) f = f l n
 afterLine (Refused r) f = r
 
--- where a line of n bytes at `at` has its content
-abbrev pub contentOf : List ℕ → ℕ → ℕ → List ℕ
-contentOf s at n = take (n - (lineLead + lineEnd)) (drop (at + lineLead) s)
-
 -- the n lines from a line start on: 11 to 15 of each, and 16 behind the last
 unfoldable pub passFrom : List ℕ → SetType → ℕ → State → Refusal → ℕ → Refusal
-passFrom s kind at st lack zero = finish kind st lack
-passFrom s kind at st lack (suc n) =
+passFrom s settype at st lack zero = finish settype st lack
+passFrom s settype at st lack (suc n) =
     afterLine (lineAt s at) (λ l m.
-    let rest = passFrom s kind (at + m) (nextState (rowOf kind l) st at l) (lackThen (staysIn (rowOf kind l)) kind st lack) n in
-    cond (eqb (lineNo (rowOf kind l) st l (contentOf s at m)) 0) rest (refusal (lineNo (rowOf kind l) st l (contentOf s at m)) at l))
+    let rest = passFrom s settype (at + m) (nextState (rowOf settype l) st at l) (lackThen (staysIn (rowOf settype l)) settype st lack) n in
+    cond (eqb (lineNo (rowOf settype l) st l (contentOf s at m)) 0) rest (refusal (lineNo (rowOf settype l) st l (contentOf s at m)) at l))
 
 -- ---- the scan and the pass at once
 
@@ -67,5 +61,5 @@ finishedScan r (Scan.Refused q) = Scan.Refused q
 
 -- 1 to 7 as the scan found them, then the pass over the lines
 abbrev pub passed : List ℕ → SetType → Scan → Scan
-passed s kind (Done total lines) = doneUnless (passFrom s kind 0 begin noRefusal lines) total lines
-passed s kind (Scan.Refused r) = Scan.Refused r
+passed s settype (Done total lines) = doneUnless (passFrom s settype 0 begin noRefusal lines) total lines
+passed s settype (Scan.Refused r) = Scan.Refused r

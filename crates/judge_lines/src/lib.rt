@@ -8,11 +8,11 @@ ghost use Rattle.meaning.specs.declared.Known.the-variants.{Of};
 ghost use Rattle.meaning.specs.Limits.{maxLines};
 ghost use Rattle.meaning.specs.Rules.{typeNamed};
 ghost use Rattle.line_read.specs.declared.Line.the-variants.{Read};
-ghost use Rattle.line_read.specs.Line.{lineAt};
+ghost use Rattle.line_read.specs.Line.{lineAt, contentOf};
 ghost use Rattle.line_scan.specs.Scan.{scanFrom, scanSet};
 ghost use Rattle.judge_missing.specs.Lacks.{finish, stateOf};
 ghost use Rattle.judge_line.specs.Steps.{rowOf, Stepped};
-ghost use Rattle.judge_lines.specs.Pass.{contentOf, firstUnread, finishedScan, NextAt, passed};
+ghost use Rattle.judge_lines.specs.Pass.{firstUnread, finishedScan, NextAt, passed};
 use judge_line::Step;
 use judge_missing::Group;
 use judge_missing::ROWS;
@@ -30,7 +30,7 @@ struct Next {
 // The step of the line of `size` bytes at an offset.
 fn line_step(
     s: &[u8],
-    kind: SetType,
+    settype: SetType,
     at: usize,
     label: usize,
     size: usize,
@@ -39,11 +39,11 @@ fn line_step(
     top: &mut [bool; ROWS],
 ) -> Step
     requires { ⌜ (10 ≤ size) × (at + size ≤ length (now s)) ⌝ }
-    ensures { λ r. ⌜ Stepped (rowOf kind label) kind (stateOf group (now (members .entry)) (now (top .entry))) (group .lack) at label (contentOf (now (s .entry)) at size) r (now (members .exit)) (now (top .exit)) ⌝ }
+    ensures { λ r. ⌜ Stepped (rowOf settype label) settype (stateOf group (now (members .entry)) (now (top .entry))) (group .lack) at label (contentOf (now (s .entry)) at size) r (now (members .exit)) (now (top .exit)) ⌝ }
 {
-    let from = at + line_read::LINE_LEAD;
-    let end = at + size - line_read::LINE_END;
-    judge_line::step_at(kind, at, label, s, from, end, group, members, top)
+    let from = at + meaning::LINE_LEAD;
+    let end = at + size - meaning::LINE_END;
+    judge_line::step_at(settype, at, label, s, from, end, group, members, top)
 }
 
 // "All lines, in order, each by 7, 2, 3, 4, 5, 6; then" the rules: the first refusal of the lines from `from` on, which have `before` lines before them, else r.
@@ -66,14 +66,14 @@ fn next_line(s: &[u8], at: usize, before: usize) -> Next
 {
     if SetType::LINES <= before {
         return Next {
-            label: 8000,
+            label: meaning::LABEL_8000,
             size: 0,
         };
     }
     match line_read::usual_line(s, at) {
         Line::Read { label, size } => Next { label, size },
         Line::Refused(_) => Next {
-            label: 8000,
+            label: meaning::LABEL_8000,
             size: 0,
         },
     }
@@ -82,7 +82,7 @@ fn next_line(s: &[u8], at: usize, before: usize) -> Next
 // Behind a line that is the last to be read: the set ends there, and 16 is asked, or the first refusal by 7 and 2 to 6 is given.
 fn ended(
     s: &[u8],
-    kind: SetType,
+    settype: SetType,
     group: Group,
     members: &[bool; ROWS],
     top: &[bool; ROWS],
@@ -90,12 +90,12 @@ fn ended(
     before: usize,
 ) -> Scan
     requires { ⌜ (from ≤ length (now s)) × (before ≤ maxLines) ⌝ }
-    ensures { λ r. ⌜ r ≡ finishedScan (finish kind (stateOf group (now (members .entry)) (now (top .entry))) (group .lack)) (scanFrom (now (s .entry)) from before (maxLines - before)) ⌝ }
+    ensures { λ r. ⌜ r ≡ finishedScan (finish settype (stateOf group (now (members .entry)) (now (top .entry))) (group .lack)) (scanFrom (now (s .entry)) from before (maxLines - before)) ⌝ }
 {
     match line_scan::scan_from(s, from, before) {
         Scan::Refused(unread) => Scan::Refused(unread),
         Scan::Done { length, lines } => {
-            let r = judge_missing::finish_at(kind, group, members, top);
+            let r = judge_missing::finish_at(settype, group, members, top);
             if r.no != 0 {
                 return Scan::Refused(r);
             }
@@ -106,27 +106,36 @@ fn ended(
 
 // The lines of a set of this type, each read once: 11 to 15 of each, then 16. Line 1 ends at `start` and names the type: no rule refuses it. A refusal by 11 to 15 waits until the
 // lines behind it are read.
-pub fn pass(s: &[u8], kind: SetType, start: usize) -> Scan
-    requires { ⌜ (lineAt (now s) 0 ≡ Read 8000 start) × (typeNamed (contentOf (now s) 0 start) ≡ Of kind) ⌝ }
-    ensures { λ r. ⌜ r ≡ passed (now (s .entry)) kind (scanSet (now (s .entry))) ⌝ }
+pub fn pass(s: &[u8], settype: SetType, start: usize) -> Scan
+    requires { ⌜ (lineAt (now s) 0 ≡ Read 8000 start) × (typeNamed (contentOf (now s) 0 start) ≡ Of settype) ⌝ }
+    ensures { λ r. ⌜ r ≡ passed (now (s .entry)) settype (scanSet (now (s .entry))) ⌝ }
 {
     let mut members = [false; ROWS];
     let mut top = [false; ROWS];
     judge_missing::mark(&mut top, judge_missing::NO_8000);
     let mut group = Group {
-        header: 8000,
+        header: meaning::LABEL_8000,
         place: 0,
-        lack: judge_missing::nothing(),
+        lack: Refusal::none(),
     };
     let mut at = start;
     let mut lines: usize = 1;
     loop {
         let next = next_line(s, at, lines);
         let label = next.label;
-        if label == 8000 {
-            return ended(s, kind, group, &members, &top, at, lines);
+        if label == meaning::LABEL_8000 {
+            return ended(s, settype, group, &members, &top, at, lines);
         }
-        let step = line_step(s, kind, at, label, next.size, group, &mut members, &mut top);
+        let step = line_step(
+            s,
+            settype,
+            at,
+            label,
+            next.size,
+            group,
+            &mut members,
+            &mut top,
+        );
         let no = step.no;
         let place = at;
         at += next.size;

@@ -20,7 +20,7 @@ use Rattle.meaning.specs.Groups.{Role, role, next, noHeader}
 use Rattle.meaning.proofs.Bools.{and-left, and-right}
 use Rattle.judge_missing.specs.Lacks.{lacks, lackHere, valued, lack8437, lack8410, lack6302, lackName, lackUnder, groupLack, lackAll, requiredLabels, State, seen, openLack}
 use Rattle.judge_missing.proofs.FlagLaws.{Same}
-use Rattle.judge_missing.proofs.FirstLaws.{firstOf, Real, first-rule, real-rule, real-append}
+use Rattle.meaning.proofs.FirstLaws.{firstOf, Real, first-rule, real-rule, real-append}
 
 -- ---- every list of missing labels has numbers
 
@@ -52,7 +52,7 @@ module _ (has : ℕ → Bool) (pl : ℕ → Spot → ℕ) (z : 0 ≡ pl 0 start)
       ap₂ (λ (x y : Refusal). cond (has l) x y) (asks-are ls) (ap (λ (p : ℕ). refusal missing p l) z)
       ∙ (sym (not-not (has l) (firstOf pl (asks ls)) (refusal missing (pl 0 start) l)) ∙ sym (first-rule pl (not (not (has l))) (atLine missing 0 l) (asks ls)))
 
-  pub set-lack : (kind : SetType) → lackAll has (requiredLabels kind) ≡ firstOf pl (lacking (table kind) setLevel 0 has)
+  pub set-lack : (settype : SetType) → lackAll has (requiredLabels settype) ≡ firstOf pl (lacking (table settype) setLevel 0 has)
   unfolding table rows6300 rows6301 rows6302 rows6310 rows6311 lacking lackingOf rowsUnder insert ascending needed onCondition missingLabel rowLabel asks
   set-lack T6300 = asks-are (requiredLabels T6300)
   set-lack T6301 = asks-are (requiredLabels T6301)
@@ -200,7 +200,7 @@ module _ (has : ℕ → Bool) (pl : ℕ → Spot → ℕ) (h k place : ℕ) (e :
   unfolding lacking
   by-rows n = of-6310 n ∙ ap (λ (v : List Row). firstOf pl (lackingOf (ascending v) h k has)) (sym (rows-under rows6310 h))
 
-  pub group-lack : (kind : SetType) → (h ≡ 0 → ⊥) → groupLack kind has h place ≡ firstOf pl (lacking (table kind) h k has)
+  pub group-lack : (settype : SetType) → (h ≡ 0 → ⊥) → groupLack settype has h place ≡ firstOf pl (lacking (table settype) h k has)
   unfolding groupLack table rows6300 rows6301 rows6302 rows6311 elem
   group-lack T6300 n = nothing-under rows6300 refl n
   group-lack T6301 n = nothing-under rows6301 refl n
@@ -210,17 +210,17 @@ module _ (has : ℕ → Bool) (pl : ℕ → Spot → ℕ) (h k place : ℕ) (e :
 
 -- ---- the open group, and all groups
 
-pub open-is : (kind : SetType) (pl : ℕ → Spot → ℕ) (st : State) (ms : G.State) → Same pl st ms → openLack kind (st .header) (st .place) (st .members) ≡ firstOf pl (openLacking (table kind) ms)
+pub open-is : (settype : SetType) (pl : ℕ → Spot → ℕ) (st : State) (ms : G.State) → Same pl st ms → openLack settype (st .header) (st .place) (st .members) ≡ firstOf pl (openLacking (table settype) ms)
 unfolding openLack openLacking
-open-is kind pl st ms s =
-    ap (λ (h : ℕ). cond (eqb h noHeader) noRefusal (groupLack kind (seen (st .members)) h (st .place))) (s .header)
-    ∙ (ap (λ (has : ℕ → Bool). cond (eqb (ms .header) noHeader) noRefusal (groupLack kind has (ms .header) (st .place))) (λ i l. s .members .same l i)
+open-is settype pl st ms s =
+    ap (λ (h : ℕ). cond (eqb h noHeader) noRefusal (groupLack settype (seen (st .members)) h (st .place))) (s .header)
+    ∙ (ap (λ (has : ℕ → Bool). cond (eqb (ms .header) noHeader) noRefusal (groupLack settype has (ms .header) (st .place))) (λ i l. s .members .same l i)
     ∙ go (eqb (ms .header) noHeader) refl)
   where
     go : (b : Bool) → eqb (ms .header) noHeader ≡ b
-        → cond b noRefusal (groupLack kind (among (ms .members)) (ms .header) (st .place)) ≡ firstOf pl (cond b [] (lacking (table kind) (ms .header) (ms .line) (among (ms .members))))
+        → cond b noRefusal (groupLack settype (among (ms .members)) (ms .header) (st .place)) ≡ firstOf pl (cond b [] (lacking (table settype) (ms .header) (ms .line) (among (ms .members))))
     go true e = refl
-    go false e = group-lack (among (ms .members)) pl (ms .header) (ms .line) (st .place) (s .place) kind (eqb-false (ms .header) noHeader e)
+    go false e = group-lack (among (ms .members)) pl (ms .header) (ms .line) (st .place) (s .place) settype (eqb-false (ms .header) noHeader e)
 
 pub real-open : (rs : List Row) (ms : G.State) → Real (openLacking rs ms)
 unfolding openLacking

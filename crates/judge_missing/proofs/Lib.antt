@@ -1,5 +1,4 @@
 -- The laws that the proofs of this crate and of later ones cite.
 pub mod Laws
-pub mod FirstLaws
 pub mod FlagLaws
 pub mod LackLaws

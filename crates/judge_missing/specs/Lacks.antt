@@ -10,13 +10,9 @@ use Rattle.meaning.specs.declared.SetType.the-variants.{T6300, T6301, T6302, T6
 use Rattle.meaning.specs.Refusals.{refusal, missing}
 use Rattle.meaning.specs.Tables.{rowLabel}
 use Rattle.meaning.specs.Groups.{noHeader}
-use Rattle.meaning.specs.Answers.{noRefusal}
+use Rattle.meaning.specs.Answers.{noRefusal, orElse}
 use Rattle.table_find.specs.LookUp.{numberOf}
 use Rattle.judge_missing.specs.declared.Group.{Group}
-
--- the first of two refusals; number 0 is none
-unfoldable pub orElse : Refusal → Refusal → Refusal
-orElse r q = cond (eqb (r .no) 0) q r
 
 -- ---- what the lines so far leave behind, as `Groups.State`, with flags by row number in the place of labels and the header's place in the place of its line
 
@@ -100,19 +96,19 @@ requiredLabels T6311 = basicLabels
 
 -- the open group's lack, where one is open
 unfoldable pub openLack : SetType → ℕ → ℕ → List Bool → Refusal
-openLack kind header place members = cond (eqb header noHeader) noRefusal (groupLack kind (seen members) header place)
+openLack settype header place members = cond (eqb header noHeader) noRefusal (groupLack settype (seen members) header place)
 
 -- the first group's lack so far
 unfoldable pub firstLack : SetType → ℕ → ℕ → List Bool → Refusal → Refusal
-firstLack kind header place members lack = orElse lack (openLack kind header place members)
+firstLack settype header place members lack = orElse lack (openLack settype header place members)
 
 -- the set's lack
 unfoldable pub setLack : SetType → List Bool → Refusal
-setLack kind top = lackAll (seen top) (requiredLabels kind)
+setLack settype top = lackAll (seen top) (requiredLabels settype)
 
 -- set level first, then groups and pairs in order
 unfoldable pub finish : SetType → State → Refusal → Refusal
-finish kind st lack = orElse (setLack kind (st .top)) (firstLack kind (st .header) (st .place) (st .members) lack)
+finish settype st lack = orElse (setLack settype (st .top)) (firstLack settype (st .header) (st .place) (st .members) lack)
 
 -- the state that the code holds in parts
 abbrev pub stateOf : Group → List Bool → List Bool → State

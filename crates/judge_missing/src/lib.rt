@@ -59,28 +59,6 @@ pub struct Group {
     pub lack: Refusal,
 }
 
-// No refusal.
-pub fn nothing() -> Refusal
-    ensures { λ r. ⌜ r ≡ noRefusal ⌝ }
-{
-    Refusal {
-        no: 0,
-        place: 0,
-        label: 0,
-    }
-}
-
-// A refusal that carries no label.
-pub fn refused_at(no: usize, place: usize) -> Refusal
-    ensures { λ r. ⌜ r ≡ refusal no place 0 ⌝ }
-{
-    Refusal {
-        no,
-        place,
-        label: 0,
-    }
-}
-
 // ---- which labels were seen
 
 // The label with this number was seen.
@@ -139,7 +117,7 @@ fn lack_8410(members: &[bool; ROWS], place: usize) -> Refusal
         if has(members, NO_8421) {
             return lack_8437(members, place);
         }
-        return missing(place, 8421);
+        return missing(place, meaning::LABEL_8421);
     }
     lack_8437(members, place)
 }
@@ -149,11 +127,11 @@ fn lack_8437(members: &[bool; ROWS], place: usize) -> Refusal
 {
     if has(members, NO_8438) {
         if has(members, NO_8437) {
-            return nothing();
+            return Refusal::none();
         }
-        return missing(place, 8437);
+        return missing(place, meaning::LABEL_8437);
     }
-    nothing()
+    Refusal::none()
 }
 
 // A 6302 group: "6303, 6304 and 6305 are its members, each required once".
@@ -163,13 +141,13 @@ fn lack_6302(members: &[bool; ROWS], place: usize) -> Refusal
     if has(members, NO_6303) {
         if has(members, NO_6304) {
             if has(members, NO_6305) {
-                return nothing();
+                return Refusal::none();
             }
-            return missing(place, 6305);
+            return missing(place, meaning::LABEL_6305);
         }
-        return missing(place, 6304);
+        return missing(place, meaning::LABEL_6304);
     }
-    missing(place, 6303)
+    missing(place, meaning::LABEL_6303)
 }
 
 // A name: "the next line must be the label one higher".
@@ -178,7 +156,7 @@ fn lack_name(members: &[bool; ROWS], name: usize, place: usize) -> Refusal
     ensures { λ r. ⌜ r ≡ lackName (seen (now (members .entry))) name place ⌝ }
 {
     if has(members, NO_6331) {
-        return nothing();
+        return Refusal::none();
     }
     missing(place, name + 1)
 }
@@ -187,10 +165,10 @@ fn lack_name(members: &[bool; ROWS], name: usize, place: usize) -> Refusal
 fn lack_under(members: &[bool; ROWS], header: usize, place: usize) -> Refusal
     ensures { λ r. ⌜ r ≡ lackUnder (rowLabel header) (seen (now (members .entry))) header place ⌝ }
 {
-    if header == 8410 {
+    if header == meaning::LABEL_8410 {
         return lack_8410(members, place);
     }
-    if header == 6302 {
+    if header == meaning::LABEL_6302 {
         return lack_6302(members, place);
     }
     // "Even labels 6330 to 6398 are names"
@@ -199,34 +177,34 @@ fn lack_under(members: &[bool; ROWS], header: usize, place: usize) -> Refusal
             return lack_name(members, header, place);
         }
     }
-    nothing()
+    Refusal::none()
 }
 
 // What the group of a header lacks: only 6310 has groups.
-fn group_lack(kind: SetType, members: &[bool; ROWS], header: usize, place: usize) -> Refusal
-    ensures { λ r. ⌜ r ≡ groupLack kind (seen (now (members .entry))) header place ⌝ }
+fn group_lack(settype: SetType, members: &[bool; ROWS], header: usize, place: usize) -> Refusal
+    ensures { λ r. ⌜ r ≡ groupLack settype (seen (now (members .entry))) header place ⌝ }
 {
-    match kind {
+    match settype {
         SetType::T6310 => lack_under(members, header, place),
-        SetType::T6300 => nothing(),
-        SetType::T6301 => nothing(),
-        SetType::T6302 => nothing(),
-        SetType::T6311 => nothing(),
+        SetType::T6300 => Refusal::none(),
+        SetType::T6301 => Refusal::none(),
+        SetType::T6302 => Refusal::none(),
+        SetType::T6311 => Refusal::none(),
     }
 }
 
 // What the first group lacks that lacks something, up to the open one, which ends here.
-pub fn first_lack(kind: SetType, group: Group, members: &[bool; ROWS]) -> Refusal
-    ensures { λ r. ⌜ r ≡ firstLack kind (group .header) (group .place) (now (members .entry)) (group .lack) ⌝ }
+pub fn first_lack(settype: SetType, group: Group, members: &[bool; ROWS]) -> Refusal
+    ensures { λ r. ⌜ r ≡ firstLack settype (group .header) (group .place) (now (members .entry)) (group .lack) ⌝ }
 {
     let lack = group.lack;
     if lack.no != 0 {
         return lack;
     }
     if group.header == 0 {
-        return nothing();
+        return Refusal::none();
     }
-    group_lack(kind, members, group.header, group.place)
+    group_lack(settype, members, group.header, group.place)
 }
 
 // "Required at set level: 8000, 8100, 9218, 3000 in all".
@@ -234,18 +212,18 @@ fn lack_basic(top: &[bool; ROWS]) -> Refusal
     ensures { λ r. ⌜ r ≡ lackAll (seen (now (top .entry))) basicLabels ⌝ }
 {
     if !has(top, NO_3000) {
-        return missing(0, 3000);
+        return missing(0, meaning::LABEL_3000);
     }
     if !has(top, NO_8000) {
-        return missing(0, 8000);
+        return missing(0, meaning::LABEL_8000);
     }
     if !has(top, NO_8100) {
-        return missing(0, 8100);
+        return missing(0, meaning::LABEL_8100);
     }
     if !has(top, NO_9218) {
-        return missing(0, 9218);
+        return missing(0, meaning::LABEL_9218);
     }
-    nothing()
+    Refusal::none()
 }
 
 // "3101, 3102, 3103 also in 6301 and 6302".
@@ -253,27 +231,27 @@ fn lack_patient(top: &[bool; ROWS]) -> Refusal
     ensures { λ r. ⌜ r ≡ lackAll (seen (now (top .entry))) patientLabels ⌝ }
 {
     if !has(top, NO_3000) {
-        return missing(0, 3000);
+        return missing(0, meaning::LABEL_3000);
     }
     if !has(top, NO_3101) {
-        return missing(0, 3101);
+        return missing(0, meaning::LABEL_3101);
     }
     if !has(top, NO_3102) {
-        return missing(0, 3102);
+        return missing(0, meaning::LABEL_3102);
     }
     if !has(top, NO_3103) {
-        return missing(0, 3103);
+        return missing(0, meaning::LABEL_3103);
     }
     if !has(top, NO_8000) {
-        return missing(0, 8000);
+        return missing(0, meaning::LABEL_8000);
     }
     if !has(top, NO_8100) {
-        return missing(0, 8100);
+        return missing(0, meaning::LABEL_8100);
     }
     if !has(top, NO_9218) {
-        return missing(0, 9218);
+        return missing(0, meaning::LABEL_9218);
     }
-    nothing()
+    Refusal::none()
 }
 
 // "8402 also in 6310".
@@ -281,28 +259,28 @@ fn lack_test(top: &[bool; ROWS]) -> Refusal
     ensures { λ r. ⌜ r ≡ lackAll (seen (now (top .entry))) testLabels ⌝ }
 {
     if !has(top, NO_3000) {
-        return missing(0, 3000);
+        return missing(0, meaning::LABEL_3000);
     }
     if !has(top, NO_8000) {
-        return missing(0, 8000);
+        return missing(0, meaning::LABEL_8000);
     }
     if !has(top, NO_8100) {
-        return missing(0, 8100);
+        return missing(0, meaning::LABEL_8100);
     }
     if !has(top, NO_8402) {
-        return missing(0, 8402);
+        return missing(0, meaning::LABEL_8402);
     }
     if !has(top, NO_9218) {
-        return missing(0, 9218);
+        return missing(0, meaning::LABEL_9218);
     }
-    nothing()
+    Refusal::none()
 }
 
 // What the set lacks at set level, lowest label first.
-fn set_lack(kind: SetType, top: &[bool; ROWS]) -> Refusal
-    ensures { λ r. ⌜ r ≡ setLack kind (now (top .entry)) ⌝ }
+fn set_lack(settype: SetType, top: &[bool; ROWS]) -> Refusal
+    ensures { λ r. ⌜ r ≡ setLack settype (now (top .entry)) ⌝ }
 {
-    match kind {
+    match settype {
         SetType::T6300 => lack_basic(top),
         SetType::T6301 => lack_patient(top),
         SetType::T6302 => lack_patient(top),
@@ -312,12 +290,17 @@ fn set_lack(kind: SetType, top: &[bool; ROWS]) -> Refusal
 }
 
 // 16 behind the last line: "set level before groups and pairs in order".
-pub fn finish_at(kind: SetType, group: Group, members: &[bool; ROWS], top: &[bool; ROWS]) -> Refusal
-    ensures { λ r. ⌜ r ≡ finish kind (stateOf group (now (members .entry)) (now (top .entry))) (group .lack) ⌝ }
+pub fn finish_at(
+    settype: SetType,
+    group: Group,
+    members: &[bool; ROWS],
+    top: &[bool; ROWS],
+) -> Refusal
+    ensures { λ r. ⌜ r ≡ finish settype (stateOf group (now (members .entry)) (now (top .entry))) (group .lack) ⌝ }
 {
-    let lack = set_lack(kind, top);
+    let lack = set_lack(settype, top);
     if lack.no != 0 {
         return lack;
     }
-    first_lack(kind, group, members)
+    first_lack(settype, group, members)
 }

@@ -20,7 +20,7 @@ use Rattle.line_read.specs.declared.Number.{Number}
 use Rattle.line_read.specs.declared.Number.the-variants.{Is, None}
 use Rattle.line_read.specs.Number.{numberAt}
 use Rattle.line_read.proofs.Bridge.{asNumber, number-is}
-use Rattle.judge_missing.proofs.FirstLaws.{Real, real-ask, real-rule}
+use Rattle.meaning.proofs.FirstLaws.{Real, real-ask, real-rule}
 use Rattle.judge_start.specs.Sum.{sumWalk}
 
 -- ---- 9: the type that a content names

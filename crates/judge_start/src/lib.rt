@@ -14,10 +14,10 @@ use meaning::SetType;
 pub fn type_of(content: &[u8]) -> Known
     ensures { λ r. ⌜ r ≡ typeNamed (now (content .entry)) ⌝ }
 {
-    if content.len() != line_read::TYPE_DIGITS {
+    if content.len() != meaning::TYPE_DIGITS {
         return Known::Nothing;
     }
-    match line_read::number_at(content, 0, line_read::TYPE_DIGITS) {
+    match line_read::number_at(content, 0, meaning::TYPE_DIGITS) {
         Number::Is(number) => SetType::of(number),
         Number::None => Known::Nothing,
     }
@@ -28,13 +28,13 @@ pub fn sum_at(s: &[u8], at: usize, total: usize) -> Refusal
     requires { ⌜ at ≤ length (now s) ⌝ }
     ensures { λ r. ⌜ r ≡ sumWalk (now (s .entry)) at total ⌝ }
 {
-    match line_read::number_at(s, at + line_read::LINE_LEAD, line_read::SUM_DIGITS) {
+    match line_read::number_at(s, at + meaning::LINE_LEAD, meaning::SUM_DIGITS) {
         Number::Is(sum) => {
             if sum == total {
-                return judge_missing::nothing();
+                return Refusal::none();
             }
-            judge_missing::refused_at(Refusal::BAD_SUM, at)
+            Refusal::at(Refusal::BAD_SUM, at)
         }
-        Number::None => judge_missing::refused_at(Refusal::BAD_SUM, at),
+        Number::None => Refusal::at(Refusal::BAD_SUM, at),
     }
 }

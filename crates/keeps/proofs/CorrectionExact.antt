@@ -35,7 +35,7 @@ fixed-not l n = rw (ne-eqb l 8000 (n .0), ne-eqb l 8100 (n .1), ne-eqb l 9218 (n
 
 -- ---- the new lines
 
--- a line behind the second, of which alone the content and the sum are new
+-- line number m + 3 is given content c: its content and the sum are new, and nothing else
 module _ (f g : Field) (gs : List Field) (m : ℕ) (c : List ℕ) (there : m < length gs) where
   abbrev all : List Field
   all = f ∷ g ∷ gs
@@ -53,7 +53,7 @@ module _ (f g : Field) (gs : List Field) (m : ℕ) (c : List ℕ) (there : m < l
       stay (suc zero) a b = absurd (b refl)
       stay (suc (suc k)) a b = getD-set-other gs m k (field (labelAtLine gs m) c) noField (λ q. a (ap (λ (x : ℕ). suc (suc x)) q))
 
-  -- and no other lines are so
+  -- and only these lines are so
   one-new : (new : List Field) → NewLines all (suc (suc (suc m))) c new → new ≡ changed all (suc (suc (suc m))) c
   one-new [] x = absurd (omega (arith, x .as-many))
   one-new (y ∷ []) x = absurd (omega (arith, x .as-many))
@@ -78,7 +78,7 @@ module _ (f g : Field) (gs : List Field) (m : ℕ) (c : List ℕ) (there : m < l
               x .others-stay (suc (suc k)) (λ w. eqb-false k m q (omega arith)) (λ w. omega arith)
               ∙ sym (getD-set-other gs m k (field (labelAtLine gs m) c) noField (eqb-false k m q))
 
--- ---- the line that is corrected stands behind the second
+-- ---- the line that is corrected stands after the second
 
 data ThirdOrLater (fs : List Field) (n : ℕ) : Type 0 where
   third : (f g : Field) (gs : List Field) (m : ℕ) → m < length gs → fs ≡ f ∷ g ∷ gs → n ≡ suc (suc (suc m)) → ThirdOrLater fs n

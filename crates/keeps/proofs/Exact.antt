@@ -21,7 +21,7 @@ use Rattle.meaning.specs.Refusals.{Reply, refused, done}
 use Rattle.meaning.specs.Pieces.{Parsed, parsed}
 use Rattle.meaning.specs.Lines.{lineThen, size, offset, render, labelOk, startsSet, setOver}
 use Rattle.meaning.specs.Rules.{sumFaults}
-use Rattle.meaning.specs.Reading.{read, kindNumber, shape, judged, judge}
+use Rattle.meaning.specs.Reading.{read, knownNumber, shape, judged, judge}
 use Rattle.meaning.proofs.Bools.{and-left, and-right, and-both, or-right, nil-is, Every, every-at}
 use Rattle.meaning.proofs.DigitLaws.{number-digits, digits-number, digits-all}
 use Rattle.meaning.proofs.FaultLaws.{ask-last, done-same}
@@ -110,6 +110,7 @@ none-earlier s fs rest e well alone k p l x =
     subst (λ (b : List ℕ). StartsSet b) (ap (drop (offset fs k)) e ∙ line-start fs k rest l) x in
     later-no-start fs k p l alone (start-label (getD fs k noField) _ (well k l .four-digits) y)
 
+-- Each rule is read off what is known of an accepted set: its lines stand (SetLaws), and lines without faults keep the rules (RulesExact).
 pub accepted-keeps : (s : List ℕ) (d : Parsed) → read s ≡ done d → (t : SetType) × Keeps s t (d .fields) (d .rest)
 accepted-keeps s d e = (
   r .0,
@@ -174,11 +175,11 @@ accepted-same e = cc
 
 -- the shape of a set of type t
 abbrev shapeOf : SetType → List Field → Shape
-shapeOf t fs = record { length = size fs; lines = length fs; kind = typeNumber t }
+shapeOf t fs = record { length = size fs; lines = length fs; settype = typeNumber t }
 
 shape-typed : (t : SetType) (fs : List Field) → KeepsRules t fs → shape fs ≡ shapeOf t fs
 shape-typed t fs r =
-    ap (λ (n : ℕ). record { length = size fs; lines = length fs; kind = n }) (ap (λ p. kindNumber (p .setType)) (profile-typed t fs (r .starts .1)))
+    ap (λ (n : ℕ). record { length = size fs; lines = length fs; settype = n }) (ap (λ p. knownNumber (p .setType)) (profile-typed t fs (r .starts .1)))
 
 judged-front : (s : List ℕ) (x : Shape) → judge s ≡ Accepted x → SetAtFront s x
 unfolding judge

@@ -20,7 +20,7 @@ use Rattle.keeps.proofs.TableFacts.{Paired, inside, below, above, paire
 use Rattle.keeps.proofs.StateLaws.{roleBehind, stateAt, OpenAt, Opened, open-at, at-start, behind-odd, Behind, behind-first, behind-next, Stands, at-set-level, in-open, behind-name, role-top, role-open, role-odd}
 
 module _ (t : SetType) where
-  -- ---- a member is at set level never, no header and no label of a pair
+  -- ---- a member is never at set level, no header and no label of a pair
 
   pub member-not-top : (h l : ℕ) → MemberOf t h l → AtSetLevel t l → ⊥
   member-not-top h l m a =
@@ -56,7 +56,7 @@ module _ (t : SetType) where
   pub odd-not-top : (l : ℕ) (r : Row) → HasRow t l r → r .under ≡ setLevel → IsOdd l → ⊥
   odd-not-top l r h u o = omega (arith, row-regular t l r h .under-name (row-label t l r h ∙ odd-row-label l o))
 
-  -- a label that is alone under its row is that row's
+  -- two labels with the same row are one, if the row is no name's and no odd label's
   pub alone : (l : ℕ) (r q : Row) (m : ℕ) → HasRow t l r → HasRow t m q → q .label ≡ r .label → (r .label ≡ 6330 → ⊥) → (r .label ≡ 6331 → ⊥) → m ≡ l
   alone l r q m h x e a b = label-of m (r .label) (sym (row-label t m q x) ∙ e) a b ∙ sym (label-of l (r .label) (sym (row-label t l r h)) a b)
 
@@ -66,7 +66,7 @@ module _ (t : SetType) (fs : List Field) where
   group-header : (i k : ℕ) → InGroup t fs i k → (labelAtLine fs i ≡ 8410) ⊎ (labelAtLine fs i ≡ 6302)
   group-header i k g = g .all-members k (g .behind) (omega arith) .0
 
-  -- the line that is open behind k lines is the header of line k
+  -- the line that is open after k lines is the header of line k
   pub same-header : (i h k : ℕ) (st : State) → InGroup t fs i k → OpenAt t fs h k st → h ≡ i
   same-header i h k st g o = go (eqb h i) refl
     where
@@ -94,6 +94,7 @@ module _ (t : SetType) (fs : List Field) where
   header-is : (u : ℕ) (h : ℕ) → eqb u h ≡ true → h ≡ u
   header-is u h e = sym (eqb-true u h e)
 
+  -- By the row of the line's label, and by whether its header or name is open: every other case has a fault.
   pub stands : (k : ℕ) (st : State) → labelFaults (roleBehind t fs st k) st k (labelAtLine fs k) ≡ [] → Stands t fs k st
   unfolding labelFaults role roleOf belongs
   stands k st e = go (find (table t) (labelAtLine fs k)) refl e
@@ -152,7 +153,7 @@ module _ (t : SetType) (fs : List Field) where
 
   -- ---- a line that stands keeps its rules
 
-  -- no label fault at line k behind a state
+  -- line k has no label fault in this state
   abbrev pub LabelFine : ℕ → State → Type 0
   LabelFine k st = labelFaults (roleBehind t fs st k) st k (labelAtLine fs k) ≡ []
 
@@ -240,7 +241,7 @@ module _ (t : SetType) (fs : List Field) where
 
   -- ---- from no fault to the rules
 
-  -- behind lines without label faults
+  -- after lines without label faults
   pub behind-fine : (m : ℕ) → ((k : ℕ) → k < m → LabelFine k (stateAt t fs k)) → Behind t fs m (stateAt t fs m)
   unfolding stateAt
   behind-fine zero fine = behind-first t fs
@@ -307,7 +308,7 @@ module _ (t : SetType) (fs : List Field) where
       go (inl x) = member-not-odd t _ _ (g .all-members j x (omega arith)) o
       go (inr x) = header-odd (labelAtLine fs j) (subst (λ (y : ℕ). (labelAtLine fs y ≡ 8410) ⊎ (labelAtLine fs y ≡ 6302)) x (group-header i k g)) (omega arith) (omega arith)
 
-  -- behind its name the name is open
+  -- after a name that name is open
   pub open-name : (k : ℕ) (st : State) (j : ℕ) → k ≡ suc j → IsOdd (labelAtLine fs k) → labelAtLine fs k ≡ suc (labelAtLine fs j) → Opened t fs k st → st .header ≡ labelAtLine fs j
   open-name k st j e o q (open-at h x) = go (le-cases h j (omega (arith, x .before)))
     where
@@ -320,7 +321,7 @@ module _ (t : SetType) (fs : List Field) where
       let z : IsOdd (labelAtLine fs j) = subst (λ (w : ℕ). IsOdd (labelAtLine fs w)) same y in
       absurd (omega arith)
 
-  -- ---- what was seen before line k, where it does not repeat
+  -- ---- what was seen before line k, if it does not repeat
 
   single-no-name : (l : ℕ) (r : Row) → HasRow t l r → r .many ≡ false → r .label ≡ 6330 → ⊥
   single-no-name l r h m q = true≢false (sym (row-regular t l r h .name-repeats q) ∙ m)
@@ -331,6 +332,7 @@ module _ (t : SetType) (fs : List Field) where
       let s = b .top-seen .seen (r .label) e in
       (s .0, s .2 .0, alone t (labelAtLine fs k) r (s .1) (labelAtLine fs (s .0)) h (s .3) (s .4) (single-no-name _ r h m) (λ q. omega (arith, row-regular t _ r h .under-name q)))
 
+  -- The label was seen in the open group, so a line of that group has its row, and that row is of one label.
   pub again-member : (k : ℕ) (st : State) (r : Row) → k < length fs → Behind t fs k st → HasRow t (labelAtLine fs k) r → (r .under ≡ 8410) ⊎ (r .under ≡ 6302)
       → st .header ≡ r .under → elem (r .label) (st .members) ≡ true
       → (h : ℕ) × (i : ℕ) × (i < k) × InGroup t fs h i × InGroup t fs h k × (labelAtLine fs i ≡ labelAtLine fs k)
@@ -407,7 +409,7 @@ module _ (t : SetType) (fs : List Field) where
     pub stand-kept : (k : ℕ) → k < length fs → Stands t fs k (stateAt t fs k)
     stand-kept k l = stands-kept k (stateAt t fs k) l (behind-kept k (omega arith))
 
-    -- what was seen and does not repeat may not stand again
+    -- a label may stand if it repeats or was not seen
     may-stand : (r : Row) (ls : List ℕ) → (r .many ≡ false → elem (r .label) ls ≡ true → ⊥) → MayStand r ls
     may-stand r ls f = go (r .many) (elem (r .label) ls) refl refl
       where

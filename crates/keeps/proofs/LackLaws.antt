@@ -184,7 +184,7 @@ drop-all [] (suc i) l = refl
 drop-all (f ∷ fs) zero l = absurd (omega arith)
 drop-all (f ∷ fs) (suc i) l = drop-all fs i (omega arith)
 
--- behind the last line stands label 0
+-- after the last line stands label 0
 pub label-behind : (fs : List Field) (i : ℕ) → length fs ≤ i → labelAtLine fs i ≡ 0
 label-behind [] zero l = refl
 label-behind [] (suc i) l = refl
@@ -202,7 +202,7 @@ order-of : (i n : ℕ) → i ≤ n → (d : ℕ) × (i + d ≡ n)
 order-of i n l = (n - i, omega arith)
 
 module _ (t : SetType) (fs : List Field) where
-  -- what line k finds lacking in the group that it does not stay in
+  -- what line k finds lacking: of the open group, if the line does not stay in it
   abbrev pub lackAt : ℕ → List Fault
   lackAt k = cond (stays (roleBehind t fs (stateAt t fs k) k)) [] (openLacking (table t) (stateAt t fs k))
 
@@ -288,7 +288,7 @@ module _ (t : SetType) (fs : List Field) where
 
   -- ---- from no lack to the rules
 
-  -- no line up to line `to`, which is at set level or behind the last, finds anything lacking
+  -- no line up to line `to`, which is at set level or after the last, finds anything lacking
   pub record ClearTo (to : ℕ) : Type 0 where
     pub within : to ≤ length fs
     pub ended : (to ≡ length fs) ⊎ AtSetLevel t (labelAtLine fs to)
@@ -328,6 +328,7 @@ module _ (t : SetType) (fs : List Field) where
       unfolding stays
       nothing-at k l p r h u = rw (role-top t fs k (stateAt t fs k) r h u) at (none .at-each k l p)
 
+      -- Line by line from k on, while they are members of the group: it ends at a line at set level, or at line `to`, and nothing is lacking there.
       walk : (n h k : ℕ) → k + n ≡ to → (labelAtLine fs h ≡ 8410) ⊎ (labelAtLine fs h ≡ 6302) → OpenAt t fs h k (stateAt t fs k) → GroupEnd h
       unfolding stateAt
       walk zero h k e g o =
@@ -488,7 +489,7 @@ module _ (t : SetType) (fs : List Field) where
       unfolding find findIn rowLabel table rows6310
       has-6331 e = subst (λ (y : SetType). HasRow y 6331 row6331) (sym e) refl
 
-      -- a name behind which nothing stands lacks its odd label
+      -- a name after which nothing stands lacks its odd label
       name-lacks : (k : ℕ) → IsName (labelAtLine fs k) → (r : Row) → HasRow t (labelAtLine fs k) r → r .label ≡ 6330 → r .under ≡ setLevel
           → openLacking (table t) (stateAt t fs (suc k)) ≡ [] → ⊥
       name-lacks k n r x e u q =
@@ -499,6 +500,7 @@ module _ (t : SetType) (fs : List Field) where
           let s = o .members-seen .seen 6331 y in
           omega (arith, s .2 .0, s .2 .1)
 
+      -- The line after a name may stand at set level, in a group, or after its name. At set level the name would lack its odd label, and a name opens no group.
       pub names-have-odds : (k : ℕ) → k < to → IsName (labelAtLine fs k) → labelAtLine fs (suc k) ≡ suc (labelAtLine fs k)
       names-have-odds k l n = go (le-cases (suc k) to l)
         where

@@ -1,4 +1,4 @@
--- The laws that the proofs of this crate and of later ones cite.
+-- Facts on the tables and on the state from line to line, then that judging, writing and correcting are exact.
 pub mod TableFacts
 pub mod StateLaws
 pub mod LabelLaws

@@ -1,4 +1,4 @@
--- 8 to 16 find no fault in the lines of a set exactly where the lines keep the rules for sets of some type.
+-- 8 to 16 find no fault in the lines of a set exactly when the lines keep the rules for sets of some type.
 use mathlib.Core.Path.{_≡_, refl, sym, ap, _∙_, subst}
 use mathlib.Core.Bool.{Bool, true, false, cond, not, _&&_, _||_, true≢false}
 use mathlib.Core.List.{List, [], _∷_, _++_, cons≢nil}

@@ -1,4 +1,4 @@
--- The state behind k lines, told without a state: which line at set level is the nearest before line k, and which rows were seen since it and at set level.
+-- The state after k lines, described by the lines: which line at set level is the nearest before line k, and which rows were seen since it and at set level.
 -- `behind-next` is the step from line to line; every rule over labels is read off this description (LabelLaws, LackLaws).
 use mathlib.Core.Path.{_≡_, refl, sym, ap, _∙_, subst}
 use mathlib.Core.Bool.{Bool, true, false, _||_, true≢false}
@@ -17,7 +17,7 @@ use Rattle.keeps.specs.Keeps.{HasRow, AtSetLevel, MemberOf, IsOdd}
 use Rattle.keeps.proofs.TableFacts.{or-cases, le-cases, no-absurd, one-row, not-0, not-6330, member-no-pair, odd-row-odd, odd-is-pair}
 
 module _ (t : SetType) (fs : List Field) where
-  -- the role of line k behind a state, and the state behind k lines
+  -- the role of line k in a state, and the state after k lines
   abbrev pub roleBehind : State → ℕ → Role
   roleBehind st k = role (find (table t) (labelAtLine fs k)) (st .header) (labelAtLine fs k)
 
@@ -67,7 +67,7 @@ module _ (t : SetType) (fs : List Field) where
           let same : q ≡ r = one-row t (labelAtLine fs k) q r (subst (λ (i : ℕ). HasRow t (labelAtLine fs i) q) e y) h in
           here (eqb (q .label) (r .label)) (q .label) (eq-eqb _ _ (ap (λ (x : Row). x .label) same))
 
-  -- ---- what the state behind k lines is
+  -- ---- what the state after k lines is
 
   abbrev pub TopBefore : ℕ → ℕ → Row → Type 0
   TopBefore k j r = (j < k) × (r .under ≡ setLevel)
@@ -75,7 +75,7 @@ module _ (t : SetType) (fs : List Field) where
   abbrev pub Between : ℕ → ℕ → ℕ → Row → Type 0
   Between h k j r = (h < j) × (j < k)
 
-  -- line h is at set level, every line behind it before k is its member, and a member may follow
+  -- line h is at set level, every line after it and before k is its member, and a member may follow
   pub record OpenAt (h k : ℕ) (st : State) : Type 0 where
     pub before : h < k
     pub header-is : st .header ≡ labelAtLine fs h
@@ -84,7 +84,7 @@ module _ (t : SetType) (fs : List Field) where
     pub members-all : (j : ℕ) → h < j → j < k → MemberOf t (labelAtLine fs h) (labelAtLine fs j)
     pub members-seen : Seen (Between h k) (st .members)
 
-  -- a line is open, or none: before the first line, and behind an odd label
+  -- a line is open, or none: before the first line, and after an odd label
   pub data Opened (k : ℕ) (st : State) : Type 0 where
     open-at : (h : ℕ) → OpenAt h k st → Opened k st
     at-start : k ≡ 0 → st .header ≡ noHeader → Opened k st
@@ -97,7 +97,7 @@ module _ (t : SetType) (fs : List Field) where
   pub behind-first : Behind 0 first
   behind-first = record { top-seen = seen-none (TopBefore 0) (λ j r p. omega arith); opened-is = at-start refl refl }
 
-  -- ---- how a line stands behind a state, where it is neither unknown nor stray
+  -- ---- how a line stands in a state, if it is neither unknown nor stray
 
   pub data Stands (k : ℕ) (st : State) : Type 0 where
     at-set-level : (r : Row) → HasRow t (labelAtLine fs k) r → r .under ≡ setLevel → Stands k st
@@ -178,7 +178,7 @@ module _ (t : SetType) (fs : List Field) where
     opened-next (at-start p q) = no-absurd (eq-eqb (r .under) 0 (sym e ∙ q)) (not-0 (r .under) u)
     opened-next (behind-odd j p o q) = no-absurd (eq-eqb (r .under) 0 (sym e ∙ q)) (not-0 (r .under) u)
 
-  -- what is seen at set level behind one line more
+  -- what is seen at set level after one line more
   top-next : (k : ℕ) (st : State) → Behind k st → Stands k st → Seen (TopBefore (suc k)) (next (roleBehind st k) st k (labelAtLine fs k) .top)
   unfolding next
   top-next k st b (at-set-level r h u) = rw (role-top k st r h u) (

@@ -24,7 +24,7 @@ pub or-cases : (a b : Bool) → a || b ≡ true → (a ≡ true) ⊎ (b ≡ true
 or-cases true b e = inl refl
 or-cases false b e = inr e
 
--- at most k is below k or k
+-- what is at most k is less than k, or k
 pub le-cases : (j k : ℕ) → j ≤ k → (j < k) ⊎ (j ≡ k)
 le-cases j k h = go (eqb j k) refl
   where
@@ -59,7 +59,7 @@ no-absurd p q = absurd (true≢false (sym p ∙ q))
 
 -- ---- the label of a label's row
 
--- a label is one of 6330 to 6399, under whose rows' labels its row stands, or it is its row's label
+-- the row of a label: for 6330 to 6399 that of 6330 or of 6331, else its own
 pub data Paired (l : ℕ) : Type 0 where
   inside : 6330 ≤ l → l ≤ 6399 → isPairLabel l ≡ true → rowLabel l ≡ 6330 + l % 2 → Paired l
   below : l < 6330 → isPairLabel l ≡ false → rowLabel l ≡ l → Paired l
@@ -75,7 +75,7 @@ paired l = go (leb 6330 l) (leb l 6399) refl refl
     go false true p q = below (leb-false _ _ p) (rw p refl) (rw p refl)
     go false false p q = below (leb-false _ _ p) (rw p refl) (rw p refl)
 
--- a row that is no name's and no odd label's is that of one label
+-- a row other than 6330 and 6331 is that of one label
 pub label-of : (l n : ℕ) → rowLabel l ≡ n → (n ≡ 6330 → ⊥) → (n ≡ 6331 → ⊥) → l ≡ n
 label-of l n e a b = go (paired l)
   where
@@ -118,7 +118,7 @@ odd-row-label l h = go (paired l)
 
 -- ---- one test over the rows of a table
 
--- the members on which another depends, and those that depend
+-- the members on which another one depends, and those that depend
 abbrev pub conditional : List ℕ
 conditional = 8420 ∷ 8421 ∷ 8437 ∷ 8438 ∷ 8461 ∷ 8462 ∷ []
 
@@ -213,7 +213,7 @@ row-label t l r e = found regular (table t) (rowLabel l) r e (all-regular t) .1
 pub one-row : (t : SetType) (l : ℕ) (r q : Row) → HasRow t l r → HasRow t l q → r ≡ q
 one-row t l r q a b = some-same (sym a ∙ b)
 
--- no row is that of label 0, which stands behind the last line
+-- no row is that of label 0, which stands after the last line
 pub no-row-0 : (t : SetType) (l : ℕ) (r : Row) → HasRow t l r → l ≡ 0 → ⊥
 unfolding rowLabel
 no-row-0 t l r e q = row-regular t l r e .not-zero (row-label t l r e ∙ ap rowLabel q)
@@ -246,7 +246,7 @@ pub not-6330 : (u : ℕ) → (u ≡ 8410) ⊎ (u ≡ 6302) → eqb u 6330 ≡ fa
 not-6330 u (inl e) = ne-eqb u 6330 (λ q. omega arith)
 not-6330 u (inr e) = ne-eqb u 6330 (λ q. omega arith)
 
--- a member of a group is no label of a pair
+-- a member of a group is no label of a pair: those have the rows 6330 and 6331, which stand at set level and under 6330
 pub member-no-pair : (t : SetType) (l : ℕ) (r : Row) → HasRow t l r → (r .under ≡ 8410) ⊎ (r .under ≡ 6302) → isPairLabel l ≡ false
 member-no-pair t l r h u = go (paired l)
   where
@@ -298,7 +298,7 @@ abbrev distinct : List Row → Bool
 distinct [] = true
 distinct (r ∷ rs) = not (elem (r .label) (rowLabels rs)) && distinct rs
 
--- and has its own label for a label
+-- a row's label is printed under itself
 abbrev own : Row → Bool
 own r = eqb (rowLabel (r .label)) (r .label)
 

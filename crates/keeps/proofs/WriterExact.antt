@@ -1,5 +1,5 @@
 -- The writer is exact: a list is written exactly when its entries are right, its lines with the sum keep the rules, and there is room.
--- That a list holds bytes is a hypothesis, as of `write-only`.
+-- As in `write-only`, a list is assumed to hold bytes.
 use mathlib.Core.Path.{_≡_, refl, sym, ap, _∙_}
 use mathlib.Core.List.{List, [], _∷_}
 use mathlib.Core.Logic.{_↔_}

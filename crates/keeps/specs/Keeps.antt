@@ -2,7 +2,7 @@
 -- Stated over fields, lines as they are written, digits, rows, content tests and limits alone (tests/keeps).
 --
 -- proofs/Exact: a set is accepted exactly when it keeps them. Read `Keeps` at the end first. A line is named by how many stand before it, as in Field: line 0 is the
--- paper's line 1; behind the last line stands label 0, which no table has. `(k : ℕ) → P k` is "for every k", `(k : ℕ) × P k` is "there is a k", `×` also "and", `⊎` "or",
+-- paper's line 1; after the last line stands label 0, which no table has. `(k : ℕ) → P k` is "for every k", `(k : ℕ) × P k` is "there is a k", `×` also "and", `⊎` "or",
 -- `P → ⊥` "not P", `≢` "differs from".
 use mathlib.Core.Path.{_≡_}
 use mathlib.Core.Bool.{true}
@@ -24,8 +24,8 @@ use Rattle.meaning.specs.FieldTable.{fitsLabel}
 
 -- ---- line and set
 
--- "A line is three digits (its whole length), four digits (label), content, 0Dh 0Ah. Length = content + 9.": so `render` writes a field (Lines). It is such a line where
--- label and length have no more digits, "Content has 1 byte or more, so lengths run 010 to 999" and "Content bytes are 20h to FFh."
+-- "A line is three digits (its whole length), four digits (label), content, 0Dh 0Ah. Length = content + 9.": so `render` writes a field (Lines). It is such a line if label
+-- and length have no more digits, "Content has 1 byte or more, so lengths run 010 to 999" and "Content bytes are 20h to FFh."
 pub record WellFormed (f : Field) : Type 0 where
   pub four-digits : f .label ≤ 9999
   pub some-byte : 1 ≤ length (f .content)
@@ -84,7 +84,7 @@ IsOdd l = (6331 ≤ l) × (l ≤ 6399) × (l % 2 ≡ 1)
 
 -- ---- groups
 
--- "A group ends at the first line that is not a member of its header": line k is in the group of line h where every line behind h up to k is a member of h's label
+-- "A group ends at the first line that is not a member of its header": line k is in the group of line h if every line after h up to k is a member of h's label
 pub record InGroup (t : SetType) (fs : List Field) (h k : ℕ) : Type 0 where
   pub behind : h < k
   pub a-line : k < length fs
@@ -104,7 +104,7 @@ LabelsInTable t fs = (k : ℕ) → k < length fs → (r : Row) × HasRow t (labe
 abbrev pub MembersInGroups : SetType → List Field → Type 0
 MembersInGroups t fs = (k h : ℕ) → k < length fs → MemberOf t h (labelAtLine fs k) → (i : ℕ) × (labelAtLine fs i ≡ h) × InGroup t fs i k
 
--- "An odd label 6331 to 6399 stands nowhere else" than behind its name: the line before it has the label one lower
+-- "An odd label 6331 to 6399 stands nowhere else" than after its name: the line before it has the label one lower
 abbrev pub OddsAfterNames : List Field → Type 0
 OddsAfterNames fs = (k : ℕ) → k < length fs → IsOdd (labelAtLine fs k) → (j : ℕ) × (k ≡ suc j) × (labelAtLine fs k ≡ suc (labelAtLine fs j))
 
@@ -185,4 +185,4 @@ pub record SetAtFront (s : List ℕ) (x : Shape) : Type 0 where
   pub lines : List Field
   pub rest : List ℕ
   pub keeps : Keeps s set-type lines rest
-  pub shape-is : x ≡ record { length = size lines; lines = length lines; kind = typeNumber set-type }
+  pub shape-is : x ≡ record { length = size lines; lines = length lines; settype = typeNumber set-type }

@@ -1,30 +1,29 @@
 -- What the walks mean: over an offset they are the definitions of `meaning` over the bytes from there on. Then what a line that was read tells.
-use mathlib.Core.Path.{_≡_, refl, sym, _∙_}
+use mathlib.Core.Path.{_≡_, refl, sym, ap, _∙_}
 use mathlib.Core.Bool.{Bool, true, false, cond, _&&_}
 use mathlib.Core.List.{List, [], _∷_, _++_}
 use Prim.Native.Nat.{ℕ, zero, suc, _+_, _-_, _*_, _≤_, _<_}
 use native.Mathlib.Omega.{arith}
 use native.Mathlib.Nat.{add-zero}
 use lib.Dec.{leb}
-use lib.ListN.{length, getD, take, drop, length-drop, drop-of-length-le}
+use lib.ListN.{length, getD, take, drop, length-drop}
 use lib.Seq.{getD-drop, drop-drop}
 use borrow.Author.Tests.{leb-true, leb-false, le-leb, lt-leb}
 use Rattle.meaning.specs.Limits.{maxLineBytes}
 use Rattle.meaning.specs.Digits as D
 use Rattle.meaning.specs.Digits.{digitZero, digit, allDigits, number}
-use Rattle.meaning.specs.Field.{Field, isNil}
+use Rattle.meaning.specs.Field.{Field}
 use Rattle.meaning.specs.Refusals.{Fault, atLine, atByte, ask, behind, refusal, badLength, badByte}
 use Rattle.meaning.specs.Lines.{lengthDigits, labelDigits, lineLead, lineEnd, lineSize, lineThen, sizeAt, labelAt, minLineBytes, leastByte, lengthOk, wholeOk, endOk, labelOk, lowBytes, lineFaults}
-use Rattle.meaning.proofs.Bools.{and-right}
-use Rattle.meaning.proofs.LineLaws.{Sound, label-line, size-line, faults-line, whole, size-most, sound-back}
+use Rattle.meaning.proofs.Bools.{and-right, byte-then}
+use Rattle.meaning.proofs.LineLaws.{Sound, label-line, size-line, content-line, drop-line, faults-line, whole, size-most, sound-back}
 use Rattle.byte_low.specs.Low.{firstLow}
 use Rattle.line_read.specs.declared.Number.{Number}
 use Rattle.line_read.specs.declared.Number.the-variants.{Is, None}
 use Rattle.line_read.specs.declared.Line.{Line}
 use Rattle.line_read.specs.declared.Line.the-variants.{Read, Refused}
 use Rattle.line_read.specs.Number.{numberFrom, numberAt, mostDigits}
-use Rattle.line_read.specs.Line.{must, mustRead, labelledLine, sizedLine, lineAt}
-use Rattle.line_read.proofs.Laws.{byte-then}
+use Rattle.line_read.specs.Line.{must, mustRead, labelledLine, sizedLine, lineAt, contentOf}
 
 -- ---- numbers
 
@@ -137,16 +136,6 @@ module _ (s : List ℕ) (at : ℕ) where
       label-is _ (λ m. labelledLine s at n m) (omega arith)
       ∙ rule-is (labelOk d) (labelOk d) _ at _ _ _ refl (λ e. content-is n (labelAt d) least (omega (arith, length-drop at s)))))))
 
--- ---- where the bytes end
-
--- the bytes end before an offset where none stand from there on
-pub nil-is : (s : List ℕ) (at : ℕ) → leb (length s) at ≡ isNil (drop at s)
-nil-is s at = go (leb (length s) at) refl
-  where
-    go : (b : Bool) → leb (length s) at ≡ b → b ≡ isNil (drop at s)
-    go true e = rw (drop-of-length-le s (leb-true (length s) at e))
-    go false e = rw (byte-then s at (leb-false (length s) at e))
-
 -- ---- a line that was read, and a line that was written
 
 -- what a line that was read at an offset tells of the bytes there
@@ -184,3 +173,13 @@ read-back s at {label} {size} e = go (lineFaults (drop at s)) refl (sym (line-is
 -- A line that was written is read: its field's label and size.
 pub read-line : (s : List ℕ) (at : ℕ) (f : Field) (t : List ℕ) → drop at s ≡ lineThen f t → Sound f → lineAt s at ≡ Read (f .label) (lineSize f)
 read-line s at f t e h = line-is s at ∙ rw (e, faults-line f t h, label-line f t h, size-line f t h)
+
+-- a line that was written at an offset: its content, and what follows it
+module _ (s : List ℕ) (at : ℕ) (f : Field) (u : List ℕ) (h : Sound f) (w : drop at s ≡ lineThen f u) where
+  pub reads-content : contentOf s at (lineSize f) ≡ f .content
+  reads-content =
+      ap (take (lineSize f - 9)) (sym (drop-drop 7 at s) ∙ ap (drop 7) w)
+      ∙ (ap (λ (m : ℕ). take (m - 9) (drop 7 (lineThen f u))) (sym (size-line f u h)) ∙ content-line f u h)
+
+  pub reads-on : drop (at + lineSize f) s ≡ u
+  reads-on = sym (drop-drop (lineSize f) at s) ∙ (ap (drop (lineSize f)) w ∙ (ap (λ (m : ℕ). drop m (lineThen f u)) (sym (size-line f u h)) ∙ drop-line f u h))

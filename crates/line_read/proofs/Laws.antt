@@ -1,19 +1,17 @@
 -- The walks of specs/ step by step: one law for each way that the code takes.
 use mathlib.Core.Path.{_≡_, refl}
 use mathlib.Core.Bool.{Bool, true, false, cond, _&&_}
-use mathlib.Core.List.{List, _∷_}
+use mathlib.Core.List.{List}
 use Prim.Native.Nat.{ℕ, suc, _+_, _-_, _*_, _^_, _≤_, _<_}
 use native.Mathlib.Omega.{arith}
-use native.Mathlib.Numerals.{add-one}
 use native.Mathlib.Nat.{pow-suc, pow-le-pow-right, lt-of-lt-of-le}
 use lib.Dec.{leb, lit<}
 use lib.ListN.{length, getD, take, drop}
-use lib.Seq.{drop-cons}
 use borrow.Author.Tests.{leb-true, leb-false, le-leb, lt-leb, eq-eqb, ne-eqb}
 use Rattle.meaning.specs.Digits.{digitZero, digitNine, digit, allDigits}
 use Rattle.meaning.specs.Refusals.{refusal, badLength}
 use Rattle.meaning.specs.Lines.{minLineBytes}
-use Rattle.meaning.proofs.Bools.{and-right}
+use Rattle.meaning.proofs.Bools.{and-right, byte-then}
 use Rattle.meaning.proofs.LeftLaws.{one-more, none-left}
 use Rattle.line_read.specs.declared.Number.the-variants.{Is, None}
 use Rattle.line_read.specs.declared.Line.{Line}
@@ -23,11 +21,7 @@ use Rattle.line_read.specs.Line.{must, sizedLine}
 -- what a branch of the code knows, as the tests of the walks have it
 pub ruleset tests = (le-leb, lt-leb, eq-eqb, ne-eqb)
 
--- ---- numbers and lists, with no line in them
-
--- at an offset within the bytes stands a byte, and then the others
-pub byte-then : (s : List ℕ) (at : ℕ) → at < length s → drop at s ≡ getD s at 0 ∷ drop (at + 1) s
-byte-then s at h = rw add-one (drop-cons s at 0 h)
+-- ---- numbers, with no line in them
 
 -- a number of at most eight digits has room for one more digit
 pub digits-small : {n j : ℕ} → j ≤ 8 → n < 10 ^ j → n < 100000000

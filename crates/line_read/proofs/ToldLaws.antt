@@ -11,7 +11,7 @@ use lib.Seq.{drop-drop}
 use borrow.Author.Tests.{leb-true, leb-false, le-leb, lt-leb, eq-eqb}
 use Rattle.meaning.specs.Digits.{digitZero, digit, allDigits, number}
 use Rattle.meaning.specs.Lines.{lengthDigits, labelDigits, lineLead, lineEnd, minLineBytes, cr, lf}
-use Rattle.meaning.proofs.Bools.{and-left, and-right}
+use Rattle.meaning.proofs.Bools.{and-left, and-right, byte-then}
 use Rattle.meaning.proofs.LineLaws.{whole}
 use Rattle.byte_low.specs.Low.{firstLow}
 use Rattle.line_read.specs.declared.Number.the-variants.{Is}
@@ -19,7 +19,6 @@ use Rattle.line_read.specs.declared.Line.the-variants.{Read}
 use Rattle.line_read.specs.Number.{numberAt}
 use Rattle.line_read.specs.Line.{must, mustRead, labelledLine, sizedLine, lineAt}
 use Rattle.line_read.specs.Told.{threeBytes, threeZeros, fourBytes, fourZeros, toldLength, toldLabel}
-use Rattle.line_read.proofs.Laws.{byte-then}
 use Rattle.line_read.proofs.Bridge.{number-is, read-back}
 
 -- ---- the walks, by whether seven bytes stand at the offset

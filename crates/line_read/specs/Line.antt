@@ -3,7 +3,7 @@
 use mathlib.Core.Bool.{Bool, true, false, _&&_}
 use mathlib.Core.List.{List}
 use Prim.Native.Nat.{ℕ, _+_, _-_}
-use lib.ListN.{length, getD}
+use lib.ListN.{length, getD, take, drop}
 use lib.Dec.{leb, eqb}
 use Rattle.meaning.specs.Refusals.{refusal, badLength, cutLine, badEnd, badLabel, badByte}
 use Rattle.meaning.specs.Lines.{lengthDigits, labelDigits, lineLead, lineEnd, minLineBytes, cr, lf}
@@ -41,3 +41,7 @@ sizedLine s at size =
 -- the line at an offset: "each by .. 2, 3, 4, 5, 6"
 unfoldable pub lineAt : List ℕ → ℕ → Line
 lineAt s at = mustRead (numberAt s at lengthDigits) badLength at (λ size. sizedLine s at size)
+
+-- the content of a line of n bytes at an offset
+abbrev pub contentOf : List ℕ → ℕ → ℕ → List ℕ
+contentOf s at n = take (n - (lineLead + lineEnd)) (drop (at + lineLead) s)

@@ -11,36 +11,17 @@ ghost use Rattle.line_read.specs.declared.Line.the-variants.{Read};
 ghost use Rattle.line_read.specs.Number.{numberAt};
 ghost use Rattle.line_read.specs.Line.{labelledLine, sizedLine, lineAt};
 ghost use Rattle.line_read.specs.Told.{threeBytes, threeZeros, fourBytes, fourZeros, toldLength, toldLabel};
+use meaning::CR;
+use meaning::LABEL_DIGITS;
+use meaning::LENGTH_DIGITS;
+use meaning::LF;
+use meaning::LINE_END;
+use meaning::LINE_FRAME;
+use meaning::LINE_LEAD;
 use meaning::Refusal;
-
-// "A line is three digits (its whole length), four digits (label), content, 0Dh 0Ah."
-pub const LENGTH_DIGITS: usize = 3;
-
-pub const LABEL_DIGITS: usize = 4;
-
-pub const CR: u8 = 13;
-
-pub const LF: u8 = 10;
 
 // Both as one number, the first byte the lower.
 const CR_LF: usize = CR as usize + LF as usize * meaning::BYTE_VALUES;
-
-// The bytes before a content.
-pub const LINE_LEAD: usize = LENGTH_DIGITS + LABEL_DIGITS;
-
-// The bytes behind a content.
-pub const LINE_END: usize = 2;
-
-// "Length = content + 9."
-pub const LINE_FRAME: usize = LINE_LEAD + LINE_END;
-
-// The digits of a set type, the content of line 1.
-pub const TYPE_DIGITS: usize = 4;
-
-// "8100 has five digits", and its line so many bytes.
-pub const SUM_DIGITS: usize = 5;
-
-pub const SUM_LINE: usize = SUM_DIGITS + LINE_FRAME;
 
 // "Content has 1 byte or more, so lengths run 010 to 999."
 const MIN_LINE_BYTES: usize = LINE_FRAME + 1;
@@ -48,15 +29,10 @@ const MIN_LINE_BYTES: usize = LINE_FRAME + 1;
 // The largest byte that a content usually starts with.
 const USUAL_BYTE: u8 = 253;
 
-// "Digits" are 30h to 39h.
-const DIGIT_ZERO: u8 = b'0';
-
-const DIGIT_NINE: u8 = b'9';
-
 // What the bytes `000` and `0000` come to, each byte times the value of its digit.
-const THREE_ZEROS: usize = DIGIT_ZERO as usize * 111;
+const THREE_ZEROS: usize = meaning::DIGIT_ZERO as usize * 111;
 
-const FOUR_ZEROS: usize = DIGIT_ZERO as usize * 1111;
+const FOUR_ZEROS: usize = meaning::DIGIT_ZERO as usize * 1111;
 
 // So many digits write no number that is too large for a usize.
 const MOST_DIGITS: usize = 9;
@@ -95,13 +71,13 @@ pub fn number_at(s: &[u8], at: usize, k: usize) -> Number
     let mut number: usize = 0;
     while i < end {
         let b = s[i];
-        if b < DIGIT_ZERO {
+        if b < meaning::DIGIT_ZERO {
             return Number::None;
         }
-        if DIGIT_NINE < b {
+        if meaning::DIGIT_NINE < b {
             return Number::None;
         }
-        number = number * 10 + (b as usize - DIGIT_ZERO as usize);
+        number = number * 10 + (b as usize - meaning::DIGIT_ZERO as usize);
         i += 1;
     }
     Number::Is(number)
@@ -113,11 +89,7 @@ pub fn number_at(s: &[u8], at: usize, k: usize) -> Number
 fn refused(no: usize, place: usize) -> Line
     ensures { λ r. ⌜ r ≡ Line.Refused (refusal no place 0) ⌝ }
 {
-    Line::Refused(Refusal {
-        no,
-        place,
-        label: 0,
-    })
+    Line::Refused(Refusal::at(no, place))
 }
 
 // The line at an offset whose length and label are read.
@@ -247,7 +219,7 @@ fn usual_byte(i: usize, b: u8) -> bool
     ensures { λ r. ⌜ (r ≡ true → i < lineLead → digit b ≡ true) ⌝ }
 {
     if i < LINE_LEAD {
-        return (DIGIT_ZERO <= b) & (b <= DIGIT_NINE);
+        return (meaning::DIGIT_ZERO <= b) & (b <= meaning::DIGIT_NINE);
     }
     (byte_low::LEAST_BYTE <= b) & (b <= USUAL_BYTE)
 }

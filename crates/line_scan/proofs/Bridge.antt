@@ -16,12 +16,12 @@ use Rattle.meaning.specs.Refusals.{Fault, Reply, refused, done}
 use Rattle.meaning.specs.Pieces.{Parsed, parsed, andBefore, pieceThen, pieces}
 use Rattle.meaning.specs.Lines.{lengthDigits, labelDigits, lineLead, lineSize, size, sizeAt, labelAt, fieldAt, labelOk, lineFaults, startsSet, setOver, lineForm}
 use Rattle.meaning.specs.Reading.{scan}
-use Rattle.meaning.proofs.Bools.{and-left, and-right}
+use Rattle.meaning.proofs.Bools.{and-left, and-right, end-is}
 use Rattle.meaning.proofs.DigitLaws.{digits-number}
 use Rattle.meaning.proofs.LineLaws.{whole, size-back}
 use Rattle.line_read.specs.declared.Line.the-variants.{Read}
 use Rattle.line_read.specs.Line.{lineAt}
-use Rattle.line_read.proofs.Bridge.{judgedLine, line-is, nil-is}
+use Rattle.line_read.proofs.Bridge.{judgedLine, line-is}
 use Rattle.line_scan.specs.declared.Scan.{Scan}
 use Rattle.line_scan.specs.declared.Scan.the-variants.{Done}
 use Rattle.line_scan.specs.Scan.{reads8000, endsAt, after, scanFrom, scanSet}
@@ -72,7 +72,7 @@ starts-is d = go (leb lineLead (length d)) refl
 pub ends-is : (s : List ℕ) (at : ℕ) → endsAt s at ≡ setOver (drop at s)
 unfolding endsAt
 ends-is s at =
-    rw (nil-is s at, reads-at s (at + lengthDigits), ← drop-drop lengthDigits at s, ← length-drop at s)
+    rw (end-is s at, reads-at s (at + lengthDigits), ← drop-drop lengthDigits at s, ← length-drop at s)
     (ap (λ (b : Bool). isNil (drop at s) || b) (starts-is (drop at s)))
 
 -- ---- all lines

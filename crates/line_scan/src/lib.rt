@@ -26,10 +26,10 @@ pub fn ends_at(s: &[u8], at: usize) -> bool
     if s.len() <= at {
         return true;
     }
-    if s.len() - at < line_read::LINE_LEAD {
+    if s.len() - at < meaning::LINE_LEAD {
         return false;
     }
-    let label = at + line_read::LENGTH_DIGITS;
+    let label = at + meaning::LENGTH_DIGITS;
     if s[label] != b'8' {
         return false;
     }
@@ -58,11 +58,7 @@ pub fn scan_from(s: &[u8], start: usize, before: usize) -> Scan
         }
         // 7, TooManyLines: "a 513th line starts"
         if SetType::LINES <= lines {
-            return Scan::Refused(Refusal {
-                no: Refusal::TOO_MANY_LINES,
-                place: at,
-                label: 0,
-            });
+            return Scan::Refused(Refusal::at(Refusal::TOO_MANY_LINES, at));
         }
         match line_read::line_at(s, at) {
             Line::Refused(r) => {

@@ -26,17 +26,15 @@ use Rattle.meaning.specs.Answers.{made, bytesLeft, listCall}
 use Rattle.meaning.proofs.Bools.{Every}
 use Rattle.meaning.proofs.DigitLaws.{length-digits}
 use Rattle.meaning.proofs.LineLaws.{Sound}
-use Rattle.meaning.proofs.EntryLaws.{length-entries}
+use Rattle.meaning.proofs.EntryLaws.{length-entries, lines-over-entries}
 use Rattle.meaning.proofs.RuleLaws.{ruled, begins-of}
 use Rattle.meaning.proofs.SetLaws.{Standing, accepted, sum-back}
 use Rattle.meaning.proofs.Demands.{judge-read}
 use Rattle.line_read.specs.declared.Line.the-variants.{Read}
-use Rattle.line_read.specs.Line.{lineAt}
+use Rattle.line_read.specs.Line.{lineAt, contentOf}
 use Rattle.line_read.specs.Told.{toldLength, toldLabel}
-use Rattle.line_read.proofs.Bridge.{read-line, read-back}
+use Rattle.line_read.proofs.Bridge.{read-line, read-back, reads-content, reads-on}
 use Rattle.line_read.proofs.ToldLaws.{read-told}
-use Rattle.judge_lines.specs.Pass.{contentOf}
-use Rattle.judge_lines.proofs.PassLaws.{reads-content, reads-on}
 use Rattle.byte_put.specs.Places.{over}
 use Rattle.byte_put.proofs.LendLaws.{mid-tail, put-tail}
 use Rattle.byte_put.proofs.OverLaws.{over-none, Turned, here-fits, turned, over-lent, front-then-zeros}
@@ -128,7 +126,11 @@ module _ (s : List ℕ) (at k n : ℕ) where
   unfolding entriesFrom
   entries-on h e = rw (one-more h, e)
 
--- one turn: the entry of one line, and what is left behind it
+-- the content of a line, by the line's start and the content's length
+pub content-length : (at n : ℕ) → at + 7 + n - (at + 7) ≡ n + 9 - 9
+content-length at n = omega arith
+
+-- one turn: the entry of one line, and what is left after it
 module _ (s : List ℕ) (at k n : ℕ) (h : k < n) {l m : ℕ} (e : lineAt s at ≡ Read l m) (w : ℕ) (q : w ≡ m - 9) (out : List ℕ) (to : ℕ)
     (g : to + length (entriesFrom s at k (n - k)) ≤ length out) where
   abbrev here : List ℕ
@@ -184,11 +186,6 @@ module _ (s : List ℕ) where
       ) (ap (λ (u : List ℕ). entryThen f [] ++ u) (later-entries fs t (0 + lineSize f + lineSize g) (0 + 1 + 1) (h .1 .1) w₂ (omega arith))
       ∙ entry-then f (putAll entryForm fs []))
 
--- each line but the second loses nine bytes and gains four; the second has fourteen and no entry
-pub sizes : (fs : List Field) → size fs ≡ listSize fs + length fs * 5
-sizes [] = refl
-sizes (f ∷ fs) = omega (arith, sizes fs)
-
 at-least : (fs : List Field) → Every Sound fs → length fs * 10 ≤ size fs
 at-least [] h = omega arith
 at-least (f ∷ fs) h = omega (arith, h .0 .some-byte, at-least fs (h .1))
@@ -207,7 +204,7 @@ module _ (s : List ℕ) (d : Parsed) (e : read s ≡ done d) where
   unfolding list
   list-is es q room = rw (e, ← length-entries (withoutSum (d .fields)), q)
 
-  two-lines : (fs : List Field) → d .fields ≡ fs → Standing fs → s ≡ render fs (d .rest) → Entries s (record { length = size fs; lines = length fs; kind = 0 })
+  two-lines : (fs : List Field) → d .fields ≡ fs → Standing fs → s ≡ render fs (d .rest) → Entries s (record { length = size fs; lines = length fs; settype = 0 })
   unfolding startFaults
   two-lines [] q st w = absurd (cons≢nil (ruled [] (st .right) .0 .begins))
   two-lines (f ∷ []) q st w = let z : _≡_ {A = ℕ} 0 8100 = begins-of (f ∷ []) (ruled (f ∷ []) (st .right) .0 .begins) .second-label in absurd (omega arith)
@@ -221,7 +218,7 @@ module _ (s : List ℕ) (d : Parsed) (e : read s ≡ done d) where
         some = omega arith;
         few = st .few;
         long = omega (arith, five, at-least (f ∷ fs) (st .sound .0, st .sound .1 .1));
-        need = omega (arith, five, sizes (f ∷ fs), n, ap length a);
+        need = omega (arith, five, lines-over-entries (f ∷ fs), n, ap length a);
         listed = list-is (entriesFrom s 0 0 (length (f ∷ g ∷ fs))) (ap (λ (x : List Field). putAll entryForm (withoutSum x) []) q ∙ sym a);
       }
 

@@ -9,8 +9,7 @@ use Rattle.meaning.specs.Field.{field}
 use Rattle.meaning.specs.Entries.{entryThen}
 use Rattle.line_read.specs.declared.Line.{Line}
 use Rattle.line_read.specs.declared.Line.the-variants.{Read, Refused}
-use Rattle.line_read.specs.Line.{lineAt}
-use Rattle.judge_lines.specs.Pass.{contentOf}
+use Rattle.line_read.specs.Line.{lineAt, contentOf}
 
 -- the n lines from an offset on are all read
 unfoldable pub AllRead : List ℕ → ℕ → ℕ → Type 0

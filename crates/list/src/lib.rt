@@ -15,11 +15,8 @@ use meaning::Made;
 use meaning::Refusal;
 use meaning::Shape;
 
-// So many lines stand before that of 8100.
+// This many lines stand before that of 8100.
 const BEFORE_SUM: usize = 1;
-
-// A line of a set has so many bytes more than its entry.
-pub const LINE_LOSS: usize = line_read::LINE_FRAME - entry_read::ENTRY_LEAD;
 
 // A number in two bytes, little-endian.
 fn put_two(n: usize, out: &mut [u8])
@@ -36,8 +33,8 @@ fn put_entry(label: usize, content: &[u8], out: &mut [u8])
     ensures { λ _. ⌜ now (out .exit) ≡ entryThen (field label (now (content .entry))) (drop (length (now (content .entry)) + entryLead) (now (out .entry))) ⌝ }
 {
     put_two(content.len(), out);
-    put_two(label, &mut out[entry_read::NUMBER_BYTES..]);
-    byte_put::copy_front(&mut out[entry_read::ENTRY_LEAD..], content);
+    put_two(label, &mut out[meaning::NUMBER_BYTES..]);
+    byte_put::copy_front(&mut out[meaning::ENTRY_LEAD..], content);
 }
 
 // The entry of the line that has k lines before it, at offset `to`, and the offset behind it. "8100 has no entry."
@@ -49,7 +46,7 @@ fn put_listed(k: usize, label: usize, content: &[u8], out: &mut [u8], to: usize)
         return to;
     }
     put_entry(label, content, &mut out[to..]);
-    to + (content.len() + entry_read::ENTRY_LEAD)
+    to + (content.len() + meaning::ENTRY_LEAD)
 }
 
 // The entries of the first `lines` lines, entry after entry, nothing between. These lines are those of an accepted set.
@@ -64,9 +61,9 @@ fn put_entries(set: &[u8], lines: usize, out: &mut [u8])
     while k < lines {
         let length = line_read::told_length(set, at);
         let label = line_read::told_label(set, at);
-        let from = at + line_read::LINE_LEAD;
+        let from = at + meaning::LINE_LEAD;
         to = put_listed(k, label, &set[from..from + length], out, to);
-        at += length + line_read::LINE_FRAME;
+        at += length + meaning::LINE_FRAME;
         k += 1;
     }
 }
@@ -76,10 +73,10 @@ fn list_accepted(set: &[u8], shape: Shape, out: &mut [u8]) -> Made
     requires { ⌜ Reading.judge (now set) ≡ Accepted shape ⌝ }
     ensures { λ r. ⌜ (r ≡ listCall (now (set .entry)) (now (out .entry)) .answer) × (now (out .exit) ≡ listCall (now (set .entry)) (now (out .entry)) .buffer) ⌝ }
 {
-    let need = shape.length - line_read::SUM_LINE - (shape.lines - 1) * LINE_LOSS;
+    let need = shape.length - meaning::SUM_LINE - (shape.lines - 1) * meaning::LINE_OVER_ENTRY;
     // 22, NoRoom: "output needs more than is lent; place: the need"
     if out.len() < need {
-        return Made::Refused(judge_missing::refused_at(Refusal::NO_ROOM, need));
+        return Made::Refused(Refusal::at(Refusal::NO_ROOM, need));
     }
     put_entries(set, shape.lines, out);
     byte_put::clear(&mut out[need..]);

@@ -30,7 +30,7 @@ text (Prim.Native.String.String._∷_ c s) = code c ∷ text s
 abbrev pub line : ℕ → String → Field
 line l c = field l (text c)
 
--- the set of a list of lines, 8100 with the right sum put in behind the first
+-- the set of a list of lines, 8100 with the right sum put in after the first
 abbrev pub setOf : List Field → List ℕ
 setOf fs = render (withSum fs) []
 
@@ -47,13 +47,13 @@ before = 7
 pub data Question : Type 0 where
   -- of a set
   judging : List ℕ → Question
-  -- the header column of the index of a set, for so many entries
+  -- the header column of the index of a set, for this many entries
   indexing : List ℕ → ℕ → Question
-  -- a set, for a buffer of so many bytes
+  -- a set, for a buffer of this many bytes
   listing : List ℕ → ℕ → Question
-  -- a list, for a buffer of so many bytes
+  -- a list, for a buffer of this many bytes
   writing : List ℕ → ℕ → Question
-  -- a set at the front of a buffer with so many bytes more, its used length, a line number and a new content
+  -- a set at the front of a buffer with this many bytes more, its used length, a line number and a new content
   correcting : List ℕ → ℕ → ℕ → ℕ → List ℕ → Question
   -- a set, a sheet and a line number
   viewing : List ℕ → List ℕ → ℕ → Question
@@ -61,18 +61,18 @@ pub data Question : Type 0 where
 -- ---- what is answered
 
 pub data Answer : Type 0 where
-  accepted : (length lines kind : ℕ) → Answer
+  accepted : (length lines settype : ℕ) → Answer
   refusedBy : (number place label : ℕ) → Answer
   headers : List ℕ → Answer
   holds : (length : ℕ) → (buffer : List ℕ) → Answer
   shows : (flag : ℕ) → (content : List ℕ) → Answer
 
--- the refusal's numbers, or what else is answered where they are 0
+-- the refusal, or the other answer if there is none
 pub told : Refusal → Answer → Answer
 told r a = cond (eqb (r .no) 0) a (refusedBy (r .no) (r .place) (r .label))
 
 pub onJudged : Judged → Answer
-onJudged j = told (judgedRefusal j) (accepted (judgedShape j .length) (judgedShape j .lines) (judgedShape j .kind))
+onJudged j = told (judgedRefusal j) (accepted (judgedShape j .length) (judgedShape j .lines) (judgedShape j .settype))
 
 pub onIndex : Call Entry → Answer
 onIndex c = told (madeRefusal (c .answer)) (headers (map (λ (e : Entry). e .header) (take (madeCount (c .answer)) (c .buffer))))

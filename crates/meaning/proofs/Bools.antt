@@ -1,10 +1,14 @@
--- Facts on tests and on every element of a list that know nothing of sets.
-use mathlib.Core.Path.{_≡_, refl, sym, ap, _∙_}
-use mathlib.Core.Bool.{Bool, true, false, cond, not, _&&_, _||_, true≢false}
-use mathlib.Core.List.{List, [], _∷_, _++_}
-use Prim.Native.Nat.{ℕ, zero, suc, _<_}
+-- Facts on tests and on lists that know nothing of sets.
+use mathlib.Core.Path.{_≡_, refl, sym}
+use mathlib.Core.Bool.{Bool, true, false, not, _&&_, _||_, true≢false}
+use mathlib.Core.List.{List, [], _∷_}
+use Prim.Native.Nat.{ℕ, zero, suc, _+_, _<_}
+use native.Mathlib.Numerals.{add-one}
 use native.Mathlib.Omega.{arith}
-use lib.ListN.{length, drop, getD, set}
+use lib.Dec.{leb}
+use lib.ListN.{length, drop, getD, set, drop-of-length-le}
+use lib.Seq.{drop-cons}
+use borrow.Author.Tests.{leb-true, leb-false}
 use Rattle.meaning.specs.Field.{isNil}
 
 -- ---- tests
@@ -41,6 +45,20 @@ not-false false e = sym e
 pub nil-is : (t : List ℕ) → isNil t ≡ true → t ≡ []
 nil-is [] e = refl
 nil-is (b ∷ bs) e = absurd (true≢false (sym e))
+
+-- ---- the bytes from an offset on
+
+-- at an offset within the bytes stands a byte, and then the others
+pub byte-then : (s : List ℕ) (at : ℕ) → at < length s → drop at s ≡ getD s at 0 ∷ drop (at + 1) s
+byte-then s at h = rw add-one (drop-cons s at 0 h)
+
+-- all bytes are before an offset exactly if none stand from there on
+pub end-is : (s : List ℕ) (at : ℕ) → leb (length s) at ≡ isNil (drop at s)
+end-is s at = go (leb (length s) at) refl
+  where
+    go : (b : Bool) → leb (length s) at ≡ b → b ≡ isNil (drop at s)
+    go true e = rw (drop-of-length-le s (leb-true (length s) at e))
+    go false e = rw (byte-then s at (leb-false (length s) at e))
 
 -- ---- every element
 

@@ -1,27 +1,26 @@
 -- Corrections: exactly when one is made and what it leaves; that an accepted set stays one, with its labels and its profile; that two commute.
-use mathlib.Core.Path.{_≡_, refl, sym, ap, ap₂, _∙_, subst}
-use mathlib.Core.Bool.{Bool, true, false, cond, not, _&&_, _||_, true≢false}
+use mathlib.Core.Path.{_≡_, refl, sym, ap, _∙_}
+use mathlib.Core.Bool.{true, false, not, _&&_, true≢false}
 use mathlib.Core.List.{List, [], _∷_, _++_}
-use Prim.Native.Nat.{ℕ, zero, suc, pred, _+_, _-_, _≤_, _<_}
+use Prim.Native.Nat.{ℕ, zero, suc, pred, _+_, _-_, _≤_}
 use native.Mathlib.Omega.{arith}
-use lib.Dec.{leb, eqb}
+use lib.Dec.{leb}
 use lib.ListN.{length, take, drop, getD, set, length-append, length-set, length-replicate, replicate, List·getD-map}
 use lib.Seq.{set-comm, getD-set-other, take-at}
-use borrow.Author.Tests.{leb-true, le-leb, eqb-true, eq-eqb}
+use borrow.Author.Tests.{leb-true, le-leb, eq-eqb}
 use Rattle.meaning.specs.Limits.{maxLines, maxSetBytes}
-use Rattle.meaning.specs.Digits.{digits, number}
 use Rattle.meaning.specs.Field.{Field, field, labels, noField, labelAtLine, isNil}
-use Rattle.meaning.specs.Refusals.{Fault, atLine, ask, Reply, refused, done, thenTo, verdict, refusal, badUse, withRoom}
+use Rattle.meaning.specs.Refusals.{Fault, done, thenTo, verdict, refusal, badUse}
 use Rattle.meaning.specs.Pieces.{Parsed, parsed}
 use Rattle.meaning.specs.Lines.{lineSize, size, render, lowBytes}
-use Rattle.meaning.specs.Rules.{Profile, profile, fits, current, sumFaults, setFaults}
+use Rattle.meaning.specs.Rules.{Profile, profile, fits, sumFaults}
 use Rattle.meaning.specs.Reading.{read}
-use Rattle.meaning.specs.Lists.{withoutSum, sumField, withSum, setWithRoom}
-use Rattle.meaning.specs.Corrections.{fixed, aloneFaults, lineNumberFaults, changeFaults, inChange, recontent, resum, changed, correctLines, correct}
+use Rattle.meaning.specs.Lists.{sumField, setWithRoom}
+use Rattle.meaning.specs.Corrections.{fixed, aloneFaults, changeFaults, inChange, recontent, resum, changed, correctLines, correct}
 use Rattle.meaning.specs.Answers.{bytesLeft}
-use Rattle.meaning.proofs.Bools.{nil-is, and-left, and-right, and-both, not-true, Every, every-set, every-at}
-use Rattle.meaning.proofs.DigitLaws.{number-digits, length-digits, digits-all}
-use Rattle.meaning.proofs.FaultLaws.{ask-none, ask-last, append-none, none-both, High, lows-back, lows-none, done-same, cond-done, thenTo-done, verdict-done, withRoom-done}
+use Rattle.meaning.proofs.Bools.{nil-is, and-left, and-right, not-true, Every, every-set, every-at}
+use Rattle.meaning.proofs.DigitLaws.{number-digits}
+use Rattle.meaning.proofs.FaultLaws.{ask-none, ask-last, append-none, High, lows-back, lows-none, done-same, cond-done, thenTo-done, verdict-done, withRoom-done}
 use Rattle.meaning.proofs.LineLaws.{Sound, NoStart, length-render}
 use Rattle.meaning.proofs.FieldLaws.{fits-short, fits-sum}
 use Rattle.meaning.proofs.RuleLaws.{Fit, not-version, labels-keep, profile-keep, Ruled, ruled, unruled, ruled-keep, begins-of}
@@ -51,7 +50,7 @@ label-resum (f ∷ x ∷ fs) (suc (suc k)) h = refl
 label-set : (fs : List Field) (i j : ℕ) (g : Field) → (j ≡ i → ⊥) → labelAtLine (set fs i g) j ≡ labelAtLine fs j
 label-set fs i j g h = ap (λ (f : Field). f .label) (getD-set-other fs i j g noField h)
 
--- two contents replaced, then the sum, is each replaced with its sum
+-- the sum brought up to date after each of two new contents, or only after both: the lines are the same
 pub twice : (fs : List Field) (i j : ℕ) (c d : List ℕ) → (1 ≡ j → ⊥)
     → resum (recontent (resum (recontent fs i c)) j d) ≡ resum (recontent (recontent fs i c) j d)
 twice fs i j c d hj =
@@ -64,7 +63,7 @@ recontent-comm fs i j c d n =
     ∙ (set-comm fs i j (field (labelAtLine fs i) c) (field (labelAtLine fs j) d) n
     ∙ ap (λ (l : ℕ). set (recontent fs j d) i (field l c)) (sym (label-set fs j i (field (labelAtLine fs j) d) n)))
 
--- ---- what a correction asks for, as facts
+-- ---- a correction without faults, as facts
 
 pub record Change (fs : List Field) (n : ℕ) (c : List ℕ) : Type 0 where
   pub least : 1 ≤ n
@@ -106,7 +105,7 @@ pub record Upright (fs : List Field) : Type 0 where
 pub upright : (fs : List Field) → Standing fs → Upright fs
 upright fs st = record { sound = st .sound; alone = st .alone; few = st .few; rules = ruled fs (st .right) .0 }
 
--- what a correction is asked by: the labels, the profile and the number of lines
+-- what a correction depends on: the labels, the profile and the number of lines
 pub record Alike (fs gs : List Field) : Type 0 where
   pub labels-so : labels gs ≡ labels fs
   pub profile-so : profile gs ≡ profile fs
@@ -169,7 +168,7 @@ module _ (fs : List Field) (n : ℕ) (c : List ℕ) (up : Upright fs) (ch : Chan
 
 -- ---- the sum brought up to date
 
--- what the sum's line says: all lines but the second, and 14
+-- what line 2 must say: the bytes of all other lines, and 14 for itself
 sumOf : List Field → ℕ
 sumOf [] = 0
 sumOf (f ∷ []) = lineSize f + 14
@@ -222,7 +221,7 @@ module _ (fs : List Field) (up : Upright fs) where
     right = unruled (resum fs) (upright-resum .rules) (sum-right fs two total-resum);
   }
 
--- a correction that is asked for rightly leaves an accepted set
+-- a correction without faults leaves an accepted set
 pub still-standing : (fs : List Field) (n : ℕ) (c : List ℕ) → Standing fs → Change fs n c → Standing (changed fs n c)
 still-standing fs n c st ch = standing-resum (recontent fs (pred n) c) (upright-recontent fs n c (upright fs st) ch)
 
@@ -258,7 +257,7 @@ holds-leaves fs b st h = record {
   front = rw (take-at (render fs []) (replicate (length b - length (render fs [])) 0) (size fs) (length-render fs [] ∙ omega arith)) (read-render fs [] st refl);
 }
 
--- what a correction that was made says
+-- what is known of a correction that was made
 pub record Corrected (b : List ℕ) (used n : ℕ) (c x : List ℕ) : Type 0 where
   pub lines : List Field
   pub held : Holds b used lines
@@ -266,7 +265,7 @@ pub record Corrected (b : List ℕ) (used n : ℕ) (c x : List ℕ) : Type 0 whe
   pub room : size (changed lines n c) ≤ length b
   pub made : x ≡ render (changed lines n c) []
 
--- a correction that is asked for rightly, and has room, is made
+-- a correction without faults that has room is made
 pub correct-makes : (b : List ℕ) (used n : ℕ) (c : List ℕ) (fs : List Field) → Holds b used fs → Change fs n c → size (changed fs n c) ≤ length b
     → correct b used n c ≡ done (render (changed fs n c) [])
 unfolding correct
@@ -288,7 +287,7 @@ correct-lines room n c d x e =
     let w = withRoom-done (leb (size new) room && leb (size new) maxSetBytes) (size new) (render new []) x q in
     (nil-is (d .rest) (a .0), change fs n c (a .1), leb-true (size new) room (and-left (leb (size new) room) _ (w .0)), sym (w .1))
 
--- and one that was made was asked for rightly, and had room
+-- and one that was made has no faults, and had room
 pub correct-only : (b : List ℕ) (used n : ℕ) (c x : List ℕ) → correct b used n c ≡ done x → Corrected b used n c x
 unfolding correct
 correct-only b used n c x e =

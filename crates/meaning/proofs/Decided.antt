@@ -1,4 +1,4 @@
--- The open points that docs/DECISIONS.md decides, each with inputs that show the decision, and the order of the rules where two apply: a table and a theorem for each part.
+-- The open points that docs/DECISIONS.md decides, each with inputs that show the decision, and the order of the rules if two apply: a table and a theorem for each part.
 -- B1 to B44 are the names in docs/DECISIONS.md; contents alone (B25 to B27) are in FieldExamples, sets of 512 lines and lists of over 511 entries (B28) in LongSets, both in crate `examples`.
 use mathlib.Core.Path.{_≡_, refl}
 use mathlib.Core.List.{List, [], _∷_, _++_}
@@ -6,7 +6,7 @@ use Prim.Native.Nat.{ℕ}
 use lib.ListN.{replicate}
 use Rattle.meaning.specs.Field.{Field, field}
 use Rattle.meaning.specs.Computes.{computes}
-use Rattle.meaning.proofs.Asking.{text, line, setOf, entriesOf, Question, judging, indexing, listing, writing, correcting, viewing, Answer, accepted, refusedBy, headers, holds, shows, answer, Example, example, asked, expected}
+use Rattle.meaning.proofs.Asking.{text, line, setOf, entriesOf, judging, indexing, listing, writing, correcting, viewing, accepted, refusedBy, headers, holds, shows, answer, Example, example, asked, expected}
 
 -- ---- sets that the points are shown on
 
@@ -55,6 +55,7 @@ lines-decided = refl
 
 -- ---- "Groups"
 
+-- for each point sets that show it, each with its answer; `groups-decided` computes them all
 groups : List Example
 unfolding b
 groups =
@@ -104,7 +105,7 @@ groups-decided : asked groups ≡ expected groups
 unfolding computes answer groups b
 groups-decided = refl
 
--- ---- where two rules apply, the first in the paper's order answers
+-- ---- if two rules apply, the first in the paper's order answers
 
 orders : List Example
 unfolding p b
@@ -131,13 +132,14 @@ orders-decided = refl
 
 -- ---- list and writer
 
+-- for each point lists and sets that show it, each with its answer; `lists-decided` computes them all
 lists : List Example
 unfolding p pLines b
 lists =
-    -- a set's list, and the set of that list, with zeros behind
+    -- a set's list, and the set of that list, with zeros after them
     example (listing p 26) (holds 22 (entriesOf pLines ++ replicate 4 0))
     ∷ example (writing (entriesOf pLines) 53) (holds 51 (p ++ replicate 2 0))
-    -- B33: the needs, and room for just so much
+    -- B33: what is needed, and a buffer of just that size
     ∷ example (listing p 22) (holds 22 (entriesOf pLines))
     ∷ example (writing (entriesOf pLines) 51) (holds 51 p)
     ∷ example (listing p 21) (refusedBy 22 22 0)

@@ -1,15 +1,14 @@
 -- The three demands, on the definitions: what each public function's contract then gives to whoever calls it.
--- Assumes that bytes are under 256, where a list is asked for its numbers.
+-- A law on the writer assumes that the bytes of its list are under 256.
 use mathlib.Core.Path.{_≡_, refl, sym, ap, ap₂, _∙_, subst}
-use mathlib.Core.List.{List, [], _∷_, _++_}
-use Prim.Native.Nat.{ℕ, pred, _+_, _-_, _≤_}
+use mathlib.Core.List.{List, []}
+use Prim.Native.Nat.{ℕ, pred, _≤_}
 use native.Mathlib.Omega.{arith}
-use lib.ListN.{length, take, replicate}
+use lib.ListN.{length, take}
 use Rattle.meaning.specs.declared.Refusal.{Refusal}
 use Rattle.meaning.specs.declared.Shape.{Shape}
 use Rattle.meaning.specs.declared.Entry.{Entry}
-use Rattle.meaning.specs.declared.Judged.{Judged}
-use Rattle.meaning.specs.declared.Judged.the-variants.{Accepted, Refused}
+use Rattle.meaning.specs.declared.Judged.the-variants.{Accepted}
 use Rattle.meaning.specs.Field.{Field}
 use Rattle.meaning.specs.Refusals.{Reply, refused, done}
 use Rattle.meaning.specs.Pieces.{Parsed, parsed, putAll}
@@ -71,7 +70,7 @@ list-write s x l room room′ j e h =
     same-read : (y z : Parsed) → _≡_ {A = Reply Parsed} (done y) (done z) → y ≡ z
     same-read y z q = cc
 
--- and that list is there, where there is room for it
+-- and that list is there, if there is room for it
 pub list-there : (s : List ℕ) (x : Shape) (room : ℕ) → judge s ≡ Accepted x
     → (l : List ℕ) × (length l ≤ room → list s room ≡ done l)
 list-there s x room j =
@@ -136,6 +135,7 @@ without-resum fs = without-with (withoutSum fs)
 
 -- "Take one accepted set and two corrections to two different lines, each accepted on its own, where the set with both still fits its buffer. Either may go
 -- first: both are accepted, and both orders leave the same buffer, which holds the set the writer gives for the same field list with those two contents replaced."
+-- A correction keeps labels and profile, so the other one still has no fault; and the sum depends on the other lines alone, so both orders give the same lines.
 pub either-order : (b : List ℕ) (used n m : ℕ) (c d x y : List ℕ) (fs : List Field)
     → read (take used b) ≡ done (parsed fs []) → (n ≡ m → ⊥)
     → correct b used n c ≡ done x → correct b used m d ≡ done y

@@ -1,9 +1,9 @@
 -- Reading an entry that was written, and writing an entry that was read; the laws of the form of a list's entries.
 -- Assumes that bytes are under 256.
-use mathlib.Core.Path.{_≡_, refl, sym, ap, _∙_}
-use mathlib.Core.Bool.{Bool, true, false, _&&_}
+use mathlib.Core.Path.{_≡_, refl, sym, _∙_}
+use mathlib.Core.Bool.{true}
 use mathlib.Core.List.{List, [], _∷_, _++_}
-use Prim.Native.Nat.{ℕ, zero, suc, _+_, _-_, _*_, _/_, _%_, _≤_, _<_}
+use Prim.Native.Nat.{ℕ, zero, suc, _+_, _/_, _%_, _≤_, _<_}
 use native.Mathlib.Omega.{arith}
 use lib.Dec.{leb}
 use lib.ListN.{length, take, drop, getD, length-append, length-take, take-append-drop}
@@ -11,6 +11,7 @@ use lib.Seq.{take-at, drop-at, drop-drop}
 use borrow.Author.Tests.{leb-true, le-leb}
 use Rattle.meaning.specs.Field.{Field}
 use Rattle.meaning.specs.Pieces.{putAll}
+use Rattle.meaning.specs.Lines.{size}
 use Rattle.meaning.specs.Entries.{twoBytesAt, entryLabel, entryContent, entryField, entryWidth, entryWhole, entryOk, maxLabel, entryFaults, entryThen, entryForm, listSize}
 use Rattle.meaning.proofs.Bools.{and-left, and-right, and-both, Every}
 use Rattle.meaning.proofs.FaultLaws.{ask-none, High, lows-none, lows-back}
@@ -56,7 +57,7 @@ faults-entry f t g =
 
 -- ---- writing what was read
 
--- what "not cut" says, as facts
+-- an entry that is not cut, as facts
 pub record Entire (s : List ℕ) : Type 0 where
   pub four : 4 ≤ length s
   pub within : entryWidth s ≤ length s
@@ -90,7 +91,7 @@ byte-at (b ∷ s) (suc i) h = byte-at s i (h .1)
 pub short-back : (s : List ℕ) → Every Byte s → length (entryContent s) < 65536
 short-back s b = simp length-take (omega (arith, byte-at s 0 b, byte-at s 1 b))
 
--- what the tests of a list's entry say, as facts
+-- an entry of a list that has no fault, as facts
 record Right (s : List ℕ) : Type 0 where
   whole : Entire s
   label-most : entryLabel s ≤ maxLabel
@@ -106,7 +107,7 @@ right s e =
       high = lows-back 0 0 (entryContent s) (a .1);
     }
 
--- the bytes of an entry are bytes
+-- all numbers of an entry that was written are bytes
 every-append : (a b : List ℕ) → Every Byte a → Every Byte b → Every Byte (a ++ b)
 every-append [] b h k = k
 every-append (x ∷ a) b h k = (h .0, every-append a b (h .1) k)
@@ -129,3 +130,8 @@ entry-lawful = record {
 pub length-entries : (es : List Field) → length (putAll entryForm es []) ≡ listSize es
 length-entries [] = refl
 length-entries (f ∷ fs) = simp length-append (omega (arith, length-entries fs))
+
+-- each line has five bytes more than the entry of its field: nine in the place of four
+pub lines-over-entries : (fs : List Field) → size fs ≡ listSize fs + length fs * 5
+lines-over-entries [] = refl
+lines-over-entries (f ∷ fs) = omega (arith, lines-over-entries fs)

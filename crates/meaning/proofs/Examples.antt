@@ -4,7 +4,7 @@ use mathlib.Core.List.{List, [], _∷_, _++_}
 use Prim.Native.Nat.{ℕ}
 use lib.ListN.{replicate}
 use Rattle.meaning.specs.Computes.{computes}
-use Rattle.meaning.proofs.Asking.{text, Question, judging, indexing, correcting, Answer, accepted, refusedBy, headers, holds, answer, Example, example, asked, expected}
+use Rattle.meaning.proofs.Asking.{text, judging, indexing, correcting, accepted, refusedBy, headers, holds, answer, Example, example, asked, expected}
 
 -- the set P of the paper, 51 bytes
 p : List ℕ

@@ -1,13 +1,13 @@
 -- Lists of faults that are empty, and replies that are not refusals: what each part then is.
-use mathlib.Core.Path.{_≡_, refl, sym, ap, _∙_}
+use mathlib.Core.Path.{_≡_, refl}
 use mathlib.Core.Bool.{Bool, true, false, cond}
 use mathlib.Core.List.{List, [], _∷_, _++_, cons≢nil}
-use Prim.Native.Nat.{ℕ, zero, suc, _≤_}
+use Prim.Native.Nat.{ℕ, suc, _≤_}
 use native.Mathlib.Omega.{arith}
 use lib.Dec.{leb}
 use borrow.Author.Tests.{leb-true, le-leb}
 use Rattle.meaning.specs.declared.Refusal.{Refusal}
-use Rattle.meaning.specs.Refusals.{Spot, Fault, atByte, badByte, ask, Reply, refused, done, thenTo, verdict, withRoom, noRoom, refusal}
+use Rattle.meaning.specs.Refusals.{Spot, Fault, atByte, badByte, ask, Reply, refused, done, thenTo, verdict, withRoom}
 use Rattle.meaning.specs.Lines.{lowBytes, leastByte}
 use Rattle.meaning.proofs.Bools.{Every}
 

@@ -3,6 +3,7 @@ pub mod Bools
 pub mod LeftLaws
 pub mod DigitLaws
 pub mod FaultLaws
+pub mod FirstLaws
 pub mod PieceLaws
 pub mod LineLaws
 pub mod EntryLaws

@@ -1,17 +1,17 @@
 -- Reading a line that was written, and writing a line that was read; the laws of the form of lines.
 use mathlib.Core.Path.{_≡_, refl, sym, ap, ap₂, _∙_}
-use mathlib.Core.Bool.{Bool, true, false, _&&_, _||_, true≢false}
+use mathlib.Core.Bool.{true, false, true≢false}
 use mathlib.Core.List.{List, [], _∷_, _++_, append-assoc}
-use Prim.Native.Nat.{ℕ, zero, suc, _+_, _-_, _*_, _/_, _%_, _^_, _≤_, _<_}
+use Prim.Native.Nat.{ℕ, suc, _+_, _-_, _≤_, _<_}
 use native.Mathlib.Omega.{arith}
 use lib.Dec.{leb, eqb}
 use lib.ListN.{length, take, drop, getD, length-append, length-take, length-drop, take-append-drop}
 use lib.Seq.{take-at, drop-at, getD-drop, drop-cons, drop-drop, getD-append-add}
 use borrow.Author.Tests.{leb-true, le-leb, eqb-true, eq-eqb, ne-eqb}
 use Rattle.meaning.specs.Limits.{maxLineBytes}
-use Rattle.meaning.specs.Digits.{digits, digit, allDigits, numberFrom, number}
+use Rattle.meaning.specs.Digits.{digits, allDigits}
 use Rattle.meaning.specs.Field.{Field, isNil}
-use Rattle.meaning.specs.Lines.{lineSize, lineThen, size, render, sizeAt, labelAt, contentAt, fieldAt, lineFaults, lengthOk, wholeOk, endOk, labelOk, startsSet, setOver, minLineBytes, lineForm}
+use Rattle.meaning.specs.Lines.{lineSize, lineThen, size, render, sizeAt, labelAt, contentAt, fieldAt, lineFaults, lengthOk, wholeOk, endOk, labelOk, setOver, minLineBytes, lineForm}
 use Rattle.meaning.proofs.Bools.{and-left, and-right, and-both, and-no, or-right}
 use Rattle.meaning.proofs.DigitLaws.{number-lt, number-digits, digits-number, digits-all}
 use Rattle.meaning.proofs.FaultLaws.{ask-none, High, lows-none, lows-back}
@@ -81,7 +81,7 @@ going-on f t h n = and-no (leb 7 (length (lineThen f t))) (and-no (labelOk (line
 
 -- ---- writing what was read
 
--- what the tests of a line say, as facts
+-- a line that has no fault, as facts
 pub record Whole (s : List ℕ) : Type 0 where
   pub least : minLineBytes ≤ sizeAt s
   pub within : sizeAt s ≤ length s
@@ -161,12 +161,12 @@ no-start-back s w e l =
     let z : true ≡ false = sym y ∙ e in
     true≢false z
 
--- ---- the form of a set's lines behind the first
+-- ---- the form of a set's lines after the first
 
 abbrev pub LaterLine : Field → Type 0
 LaterLine f = Sound f × NoStart f
 
--- of the bytes of a set nothing is asked
+-- the bytes of a set may be any numbers
 abbrev pub AnyByte : ℕ → Type 0
 AnyByte b = Unit
 

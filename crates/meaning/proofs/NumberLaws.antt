@@ -5,13 +5,12 @@ use mathlib.Core.List.{List, [], _∷_, _++_}
 use Prim.Native.Nat.{ℕ, zero, suc, pred, _+_, _-_}
 use lib.Dec.{leb, eqb}
 use lib.ListN.{length, take, drop}
-use Rattle.meaning.specs.declared.Refusal.{Refusal}
 use Rattle.meaning.specs.declared.Row.{Row}
 use Rattle.meaning.specs.Limits.{maxLines, maxEntries, maxSetBytes}
 use Rattle.meaning.specs.Digits.{number}
 use Rattle.meaning.specs.Field.{Field, field, elem, isNil, labels, labelAtLine, contentAtLine}
 use Rattle.meaning.specs.Refusals.{Spot, Fault, atLine, atByte, ask, Reply, refused, done, thenTo, verdict, withRoom, empty, badLength, cutLine, badEnd, badLabel, badByte, tooManyLines, noStart, unknownSet, noSum, notInSet, stray, repeated, badContent, otherVersion, missing, badSum, badUse, noSuchLine, fixedLine, badList, noRoom}
-use Rattle.meaning.specs.Pieces.{Form, Parsed, parsed, andBefore, pieceThen, pieces, putAll}
+use Rattle.meaning.specs.Pieces.{Form, Parsed, andBefore, pieceThen, pieces, putAll}
 use Rattle.meaning.specs.Lines.{leastByte, lowBytes, contentAt, lineFaults, lineForm, lengthOk, wholeOk, endOk, labelOk, size, render}
 use Rattle.meaning.specs.Entries.{entryOk, entryWhole, entryLabel, entryContent, entryField, entryWidth, entryFaults, entryForm, listSize}
 use Rattle.meaning.specs.Groups.{State, first, Role, unknown, strayed, atSetLevel, member, role, next, after, labelFaults, noHeader}
@@ -80,7 +79,7 @@ module _ (P : ℕ → Type 0) where
   numbered-pieces F p g (suc n) at s =
       numbered-cond (F .over s) _ _ tt (numbered-piece F (F .faults s) at s (λ q t. pieces F n q t) (g s) (λ q t. numbered-pieces F p g n q t))
 
-  -- a rule, and the rules behind it
+  -- a rule, and the rules after it
   given-rule : (t : Bool) (x : Fault) (r : List Fault) → P (x .no) → Given r → Given (ask t x ++ r)
   given-rule true x r p h = h
   given-rule false x r p h = (p, h)
@@ -134,7 +133,7 @@ module _ (P : ℕ → Type 0) where
       given-rule (labelIs fs 0 8000) (atLine noStart 0 0) _ (p .n8)
       (given-rule (typeKnown fs) (atLine unknownSet 0 0) (ask (labelIs fs 1 8100) (atLine noSum 1 0)) (p .n9) (given-ask (labelIs fs 1 8100) (atLine noSum 1 0) n10))
 
-  -- where the sum was put in, 10 is not given
+  -- if the sum was put in, 10 is not given
   given-start-with : RuleNumbers → (f : Field) (fs : List Field) → Given (startFaults (withSum (f ∷ fs)))
   unfolding startFaults
   given-start-with p f fs =

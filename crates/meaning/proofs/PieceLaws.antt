@@ -2,7 +2,7 @@
 use mathlib.Core.Path.{_≡_, refl, sym, ap, _∙_, subst}
 use mathlib.Core.Bool.{Bool, true, false, cond}
 use mathlib.Core.List.{List, [], _∷_}
-use Prim.Native.Nat.{ℕ, zero, suc, _+_, _≤_, _<_}
+use Prim.Native.Nat.{ℕ, zero, suc, _+_, _≤_}
 use native.Mathlib.Omega.{arith}
 use lib.ListN.{length, drop}
 use Rattle.meaning.specs.Field.{Field}
@@ -11,7 +11,7 @@ use Rattle.meaning.specs.Pieces.{Form, Parsed, parsed, andBefore, pieceT
 use Rattle.meaning.proofs.Bools.{Every, every-drop}
 use Rattle.meaning.proofs.FaultLaws.{refused-done, done-same}
 
--- what is asked of a form, for the fields that are good in it and bytes of B: reading undoes writing, and writing reading, for one piece
+-- what a form must keep, for the fields that are good in it and bytes of B: reading undoes writing, and writing reading, for one piece
 pub record Lawful (F : Form) (Good : Field → Type 0) (B : ℕ → Type 0) : Type 0 where
   pub no-fault : (f : Field) (t : List ℕ) → Good f → F .faults (F .put f t) ≡ []
   pub same : (f : Field) (t : List ℕ) → Good f → F .piece (F .put f t) ≡ f
@@ -20,14 +20,14 @@ pub record Lawful (F : Form) (Good : Field → Type 0) (B : ℕ → Type 0) : Ty
   pub back : (s : List ℕ) → Every B s → F .faults s ≡ [] → s ≡ F .put (F .piece s) (drop (F .width s) s)
   pub good : (s : List ℕ) → Every B s → F .faults s ≡ [] → F .over s ≡ false → Good (F .piece s)
 
--- s is the pieces of at most n good fields, and then t, where the pieces end
+-- s is the pieces of at most n good fields, and then t, at which the pieces end
 pub record Parts (F : Form) (Good : Field → Type 0) (n : ℕ) (s : List ℕ) (fs : List Field) (t : List ℕ) : Type 0 where
   pub whole : s ≡ putAll F fs t
   pub few : length fs ≤ n
   pub all-good : Every Good fs
   pub at-end : F .over t ≡ true
 
--- what stands before a reply that was done
+-- a reply with a field put before it is done only if the reply was done
 pub before-done : (f : Field) (r : Reply Parsed) (fs : List Field) (t : List ℕ) → andBefore f r ≡ done (parsed fs t)
     → (gs : List Field) × (fs ≡ f ∷ gs) × (r ≡ done (parsed gs t))
 before-done f (refused x) fs t e = refused-done e

@@ -1,25 +1,24 @@
--- Places: at a line's offset stands the line, and behind its lead the content. So an index entry points at its content.
+-- Places: at a line's offset stands the line, and after its lead the content. So an index entry points at its content.
 use mathlib.Core.Path.{_≡_, refl, sym, ap, _∙_}
-use mathlib.Core.List.{List, [], _∷_, _++_}
+use mathlib.Core.List.{List, [], _∷_}
 use Prim.Native.Nat.{ℕ, zero, suc, _+_, _≤_, _<_}
 use native.Mathlib.Omega.{arith}
-use lib.ListN.{length, take, drop, getD, length-append}
+use lib.ListN.{length, take, drop, getD}
 use lib.Seq.{take-at, drop-at, drop-drop}
 use Rattle.meaning.specs.declared.Entry.{Entry}
-use Rattle.meaning.specs.declared.Row.{Row}
 use Rattle.meaning.specs.Field.{Field, noField, contentAtLine}
-use Rattle.meaning.specs.Lines.{lineSize, lineLead, lineThen, size, offset, render}
+use Rattle.meaning.specs.Lines.{lineSize, lineLead, lineThen, offset, render}
 use Rattle.meaning.specs.Groups.{State, next}
 use Rattle.meaning.specs.Rules.{Profile, roleIn}
-use Rattle.meaning.specs.Index.{headerLine, entriesFrom}
+use Rattle.meaning.specs.Index.{entriesFrom}
 use Rattle.meaning.proofs.LineLaws.{length-line, render-split}
 
--- behind a line
+-- after a line
 pub drop-lineThen : (f : Field) (t : List ℕ) → drop (lineSize f) (lineThen f t) ≡ t
 drop-lineThen f t =
     ap (drop (lineSize f)) (render-split (f ∷ []) t) ∙ drop-at (lineThen f []) t (lineSize f) (length-line f [] ∙ omega arith)
 
--- at the offset of a line stand that line and those behind it
+-- at the offset of a line stand that line and those after it
 pub drop-render : (fs : List Field) (k : ℕ) (t : List ℕ) → k ≤ length fs → drop (offset fs k) (render fs t) ≡ render (drop k fs) t
 drop-render fs zero t h = refl
 drop-render [] (suc k) t h = absurd (omega arith)
@@ -27,7 +26,7 @@ drop-render (f ∷ fs) (suc k) t h =
     sym (drop-drop (offset fs k) (lineSize f) (render (f ∷ fs) t))
     ∙ (ap (drop (offset fs k)) (drop-lineThen f (render fs t)) ∙ drop-render fs k t (omega arith))
 
--- behind the lead of a line stands its content
+-- after the lead of a line stands its content
 content-here : (f : Field) (t : List ℕ) → take (length (f .content)) (drop lineLead (lineThen f t)) ≡ f .content
 content-here f t = take-at (f .content) (13 ∷ 10 ∷ t) (length (f .content)) refl
 
@@ -37,7 +36,7 @@ head-of-drop [] k t h = absurd (omega arith)
 head-of-drop (f ∷ fs) zero t h = content-here f (render fs t)
 head-of-drop (f ∷ fs) (suc k) t h = head-of-drop fs k t (omega arith)
 
--- the content of the line that has k lines before it stands at its offset and 7
+-- the content of the line that has k lines before it stands 7 bytes after the line's offset
 pub content-at : (fs : List Field) (k : ℕ) (t : List ℕ) → k < length fs
     → take (length (contentAtLine fs k)) (drop (offset fs k + lineLead) (render fs t)) ≡ contentAtLine fs k
 content-at fs k t h =

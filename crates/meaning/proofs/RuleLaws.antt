@@ -1,13 +1,13 @@
 -- The rules under the replacement of one content: what sees labels and profile alone stays, and the new content must fit by itself.
 use mathlib.Core.Path.{_≡_, refl, sym, ap, _∙_}
-use mathlib.Core.Bool.{Bool, true, false, cond, not, _||_}
-use mathlib.Core.List.{List, [], _∷_, _++_, map, cons≢nil}
+use mathlib.Core.Bool.{true}
+use mathlib.Core.List.{List, [], _∷_, cons≢nil}
 use Prim.Native.Nat.{ℕ, zero, suc, _+_}
-use lib.ListN.{length, getD, set, List·getD-map}
+use lib.ListN.{set, List·getD-map}
 use lib.Seq.{map-set-same, getD-set-other}
 use borrow.Author.Tests.{ne-eqb, eqb-true}
 use Rattle.meaning.specs.Field.{Field, labels, noField, labelAtLine, contentAtLine}
-use Rattle.meaning.specs.Refusals.{Fault, atLine, unknownSet, noSum}
+use Rattle.meaning.specs.Refusals.{atLine, unknownSet, noSum}
 use Rattle.meaning.specs.Groups.{State, first, Role, unknown, strayed, atSetLevel, member, next, labelFaults}
 use Rattle.meaning.specs.Missing.{missingFaults}
 use Rattle.meaning.specs.Rules.{labelIs, typeKnown, Profile, profile, rowsOf, roleIn, startFaults, fits, current, contentFaults, contentRules, lineRules, rulesFrom, sumFaults, ruleFaults, setFaults}
@@ -15,7 +15,7 @@ use Rattle.meaning.proofs.FaultLaws.{append-none, none-both, ask-none, 
 
 -- ---- one line
 
--- a content that may stand for another with the same label
+-- a content that may take the place of another with the same label
 pub record Fit (p : Profile) (g : Field) : Type 0 where
   pub right : fits p g ≡ true
   pub version-right : current p g ≡ true

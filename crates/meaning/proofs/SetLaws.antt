@@ -1,16 +1,15 @@
 -- Sets: reading undoes writing and writing reading; line 2 of an accepted set is its sum, so the set is its list with the sum put in.
 use mathlib.Core.Path.{_≡_, refl, sym, ap, _∙_, subst}
-use mathlib.Core.Bool.{Bool, true, false, true≢false}
-use mathlib.Core.List.{List, [], _∷_, _++_, cons≢nil}
-use Prim.Native.Nat.{ℕ, zero, suc, _+_, _-_, _≤_, _<_}
+use mathlib.Core.Bool.{true}
+use mathlib.Core.List.{List, [], _∷_, cons≢nil}
+use Prim.Native.Nat.{ℕ, _+_, _-_, _≤_}
 use native.Mathlib.Omega.{arith}
-use lib.Dec.{eqb}
 use lib.ListN.{length, drop}
 use borrow.Author.Tests.{eqb-true}
 use Rattle.meaning.specs.Limits.{maxLines}
 use Rattle.meaning.specs.Digits.{digits, number}
-use Rattle.meaning.specs.Field.{Field, field, labelAtLine}
-use Rattle.meaning.specs.Refusals.{Fault, Reply, refused, done}
+use Rattle.meaning.specs.Field.{Field, field}
+use Rattle.meaning.specs.Refusals.{Reply, refused, done}
 use Rattle.meaning.specs.Pieces.{Parsed, parsed, andBefore, pieceThen, pieces}
 use Rattle.meaning.specs.Lines.{lineSize, lineThen, size, render, sizeAt, fieldAt, lineFaults, setOver, lineForm}
 use Rattle.meaning.specs.Groups.{State, first, next}
@@ -20,10 +19,10 @@ use Rattle.meaning.specs.Lists.{withoutSum, sumField, withSum}
 use Rattle.meaning.proofs.Bools.{Every}
 use Rattle.meaning.proofs.DigitLaws.{digits-number}
 use Rattle.meaning.proofs.FaultLaws.{append-none, ask-last, refused-done, verdict-done}
-use Rattle.meaning.proofs.PieceLaws.{Parts, piece-back, pieces-put, pieces-only}
+use Rattle.meaning.proofs.PieceLaws.{piece-back, pieces-put, pieces-only}
 use Rattle.meaning.proofs.LineLaws.{Sound, NoStart, LaterLine, AnyByte, whole, faults-line, field-line, size-line, drop-line, line-back, sound-back, line-lawful}
 use Rattle.meaning.proofs.FieldLaws.{sum-fits}
-use Rattle.meaning.proofs.RuleLaws.{line-fits, Ruled, ruled, begins-of}
+use Rattle.meaning.proofs.RuleLaws.{line-fits, ruled, begins-of}
 
 -- ---- scanning undoes writing
 

@@ -1,23 +1,22 @@
 -- How large a set that keeps the rules is: every content has 1 to 60 bytes, so a set of 512 lines has at most 35,328 and "over 99,999" never decides.
-use mathlib.Core.Path.{_≡_, refl}
+use mathlib.Core.Path.{_≡_}
 use mathlib.Core.List.{List, [], _∷_}
 use Prim.Native.Nat.{ℕ, _+_, _*_, _≤_}
 use native.Mathlib.Omega.{arith}
 use lib.ListN.{length}
 use Rattle.meaning.specs.Limits.{maxLines, maxSetBytes}
 use Rattle.meaning.specs.Field.{Field}
-use Rattle.meaning.specs.Refusals.{Fault}
 use Rattle.meaning.specs.Pieces.{Parsed}
 use Rattle.meaning.specs.Lines.{size}
 use Rattle.meaning.specs.Groups.{State, first, next}
-use Rattle.meaning.specs.Rules.{Profile, profile, roleIn, fits, lineRules, rulesFrom}
+use Rattle.meaning.specs.Rules.{Profile, profile, roleIn, lineRules, rulesFrom}
 use Rattle.meaning.specs.Reading.{read}
 use Rattle.meaning.specs.Refusals.{done}
 use Rattle.meaning.proofs.Bools.{Every}
 use Rattle.meaning.proofs.FaultLaws.{append-none}
 use Rattle.meaning.proofs.FieldLaws.{longest, Short, fits-short}
 use Rattle.meaning.proofs.RuleLaws.{line-fits, Ruled, ruled}
-use Rattle.meaning.proofs.SetLaws.{Standing, accepted}
+use Rattle.meaning.proofs.SetLaws.{accepted}
 
 -- the contents of lines without faults
 pub all-short : (p : Profile) (st : State) (k : ℕ) (fs : List Field) → rulesFrom p st k fs ≡ [] → Every (λ f. Short (f .content)) fs
@@ -35,7 +34,7 @@ size-most : (fs : List Field) → Every (λ f. Short (f .content)) fs → size f
 size-most [] h = omega arith
 size-most (f ∷ fs) h = omega (arith, h .0 .few-bytes, size-most fs (h .1))
 
--- "an accepted set has at most 512 × 69 = 35,328 bytes"
+-- 512 lines of 69 bytes
 abbrev pub mostBytes : ℕ
 mostBytes = 35328
 

@@ -1,28 +1,25 @@
 -- Views: what is shown is the last pending content for the line, else the set's; that is, the content as it would stand.
 -- Assumes that the bytes of a sheet are under 256.
-use mathlib.Core.Path.{_≡_, refl, sym, ap, ap₂, _∙_, subst}
+use mathlib.Core.Path.{_≡_, refl, sym, ap, _∙_, subst}
 use mathlib.Core.Bool.{Bool, true, false, cond}
-use mathlib.Core.List.{List, [], _∷_, _++_}
+use mathlib.Core.List.{List, [], _∷_}
 use mathlib.Core.Option.{Option, none, some}
 use Prim.Native.Nat.{ℕ, zero, suc, pred, _+_, _≤_, _<_}
 use native.Mathlib.Omega.{arith}
-use lib.Dec.{leb, eqb}
-use lib.ListN.{length, take, drop, getD, set}
+use lib.Dec.{eqb}
+use lib.ListN.{length, take, drop}
 use lib.Seq.{take-at, drop-at, drop-drop, getD-set-other, getD-set-same}
 use borrow.Author.Tests.{le-leb, eqb-true, eqb-false}
-use Rattle.meaning.specs.declared.Part.{Part}
-use Rattle.meaning.specs.declared.Viewed.{Viewed}
-use Rattle.meaning.specs.declared.Viewed.the-variants.{Sheet, Set, Refused}
-use Rattle.meaning.specs.Field.{Field, field, noField, labelAtLine, contentAtLine, isNil}
-use Rattle.meaning.specs.Refusals.{Fault, Reply, refused, done}
-use Rattle.meaning.specs.Pieces.{Parsed, parsed, pieces, putAll}
+use Rattle.meaning.specs.Field.{Field, field, noField, labelAtLine, contentAtLine}
+use Rattle.meaning.specs.Refusals.{done}
+use Rattle.meaning.specs.Pieces.{parsed, pieces, putAll}
 use Rattle.meaning.specs.Lines.{lineLead, offset, render}
-use Rattle.meaning.specs.Entries.{entryWhole, entryLabel, entryContent, entryField, entryWidth, entryThen}
+use Rattle.meaning.specs.Entries.{entryWhole, entryLabel, entryContent, entryThen}
 use Rattle.meaning.specs.Rules.{profile}
 use Rattle.meaning.specs.Reading.{read}
-use Rattle.meaning.specs.Corrections.{changeFaults, recontent, resum, changed, correct}
+use Rattle.meaning.specs.Corrections.{recontent, resum, changed, correct}
 use Rattle.meaning.specs.Views.{sheetEntryFaults, sheetForm, sheet, Pending, latest, part, shownPart, viewing, viewed, partOf, shownBytes, view}
-use Rattle.meaning.proofs.Bools.{nil-is, Every}
+use Rattle.meaning.proofs.Bools.{Every}
 use Rattle.meaning.proofs.FaultLaws.{ask-none}
 use Rattle.meaning.proofs.PieceLaws.{Lawful, pieces-put, pieces-only}
 use Rattle.meaning.proofs.EntryLaws.{Byte, content-entry, label-entry, whole-entry, rest-entry, field-entry, entire, entry-back, short-back, entry-bytes}
@@ -68,12 +65,12 @@ sheet-lawful fs = record {
 
 -- ---- what is shown
 
--- the content that line n shows under the entries, where the set has `old`: the last entry for it counts
+-- the content that line n shows under the entries: that of the last entry for it, else `old`, the set's
 pub newest : ℕ → List Field → List ℕ → List ℕ
 newest n [] old = old
 newest n (e ∷ es) old = newest n es (cond (eqb (e .label) n) (e .content) old)
 
--- what the line shows, where this is the last entry for it
+-- what the line shows if this is the last entry for it
 abbrev shownBy : List Field → List ℕ → List ℕ → ℕ → Option Pending → List ℕ
 shownBy fs s h n o = shownBytes s h (shownPart fs n o)
 

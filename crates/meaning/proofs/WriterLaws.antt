@@ -1,13 +1,13 @@
 -- The writer undoes the list and the list the writer: exactly when each is made, and what it then is.
 -- Assumes that the bytes of a list are under 256.
 use mathlib.Core.Path.{_≡_, refl, sym, ap, _∙_, subst}
-use mathlib.Core.Bool.{Bool, true, false, cond, not, _&&_, _||_, true≢false}
-use mathlib.Core.List.{List, [], _∷_, _++_, cons≢nil}
-use mathlib.Core.Option.{Option, none, some}
-use Prim.Native.Nat.{ℕ, zero, suc, pred, _+_, _-_, _≤_, _<_}
+use mathlib.Core.Bool.{true, false, _&&_, true≢false}
+use mathlib.Core.List.{List, [], _∷_, cons≢nil}
+use mathlib.Core.Option.{Option, some}
+use Prim.Native.Nat.{ℕ, _+_, _≤_}
 use native.Mathlib.Omega.{arith}
 use lib.Dec.{leb, eqb}
-use lib.ListN.{length, take, drop}
+use lib.ListN.{length}
 use borrow.Author.Tests.{leb-true, le-leb, eq-eqb}
 use Rattle.meaning.specs.declared.Row.{Row}
 use Rattle.meaning.specs.declared.Known.{Known}
@@ -15,24 +15,24 @@ use Rattle.meaning.specs.declared.Known.the-variants.{Of, Nothing}
 use Rattle.meaning.specs.declared.SetType.{SetType}
 use Rattle.meaning.specs.declared.SetType.the-variants.{T6300, T6301, T6302, T6310, T6311}
 use Rattle.meaning.specs.Limits.{maxLines, maxEntries, maxSetBytes}
-use Rattle.meaning.specs.Field.{Field, elem, isNil, labelAtLine}
-use Rattle.meaning.specs.Refusals.{Fault, Reply, refused, done, thenTo, verdict, refusal, empty, withRoom}
+use Rattle.meaning.specs.Field.{Field, elem}
+use Rattle.meaning.specs.Refusals.{done, thenTo, verdict, withRoom}
 use Rattle.meaning.specs.Pieces.{Parsed, parsed, pieces, putAll}
-use Rattle.meaning.specs.Lines.{lineSize, size, render}
-use Rattle.meaning.specs.Entries.{entryThen, entryForm, listSize}
+use Rattle.meaning.specs.Lines.{size, render}
+use Rattle.meaning.specs.Entries.{entryForm, listSize}
 use Rattle.meaning.specs.Tables.{rows6300, rows6301, rows6302, rows6310, rows6311, table, rowLabel, findIn, find}
 use Rattle.meaning.specs.Groups.{State, first, Role, unknown, strayed, atSetLevel, member, roleOf, role, next, labelFaults}
-use Rattle.meaning.specs.Rules.{Profile, profile, tableOf, rowsOf, isKnown, typeKnown, roleIn, startFaults, lineRules, rulesFrom, ruleFaults, setFaults}
+use Rattle.meaning.specs.Rules.{Profile, profile, tableOf, rowsOf, isKnown, roleIn, startFaults, lineRules, rulesFrom, ruleFaults}
 use Rattle.meaning.specs.Reading.{read}
 use Rattle.meaning.specs.Lists.{withoutSum, withSum, list, inList, setWithRoom, written, write}
-use Rattle.meaning.proofs.Bools.{nil-is, and-left, and-right, or-right, Every}
-use Rattle.meaning.proofs.FaultLaws.{append-none, refused-done, cond-done, thenTo-done, verdict-done, withRoom-done}
-use Rattle.meaning.proofs.PieceLaws.{Parts, pieces-put, pieces-only}
+use Rattle.meaning.proofs.Bools.{nil-is, and-left, or-right, Every}
+use Rattle.meaning.proofs.FaultLaws.{append-none, refused-done, thenTo-done, verdict-done, withRoom-done}
+use Rattle.meaning.proofs.PieceLaws.{pieces-put, pieces-only}
 use Rattle.meaning.proofs.LineLaws.{Sound, NoStart}
 use Rattle.meaning.proofs.EntryLaws.{Byte, Listed, entry-lawful}
 use Rattle.meaning.proofs.FieldLaws.{Short}
 use Rattle.meaning.proofs.RuleLaws.{Ruled, ruled, ruled-of, unruled, no-rule-faults, begins-of}
-use Rattle.meaning.proofs.SetLaws.{Standing, accepted, sum-back}
+use Rattle.meaning.proofs.SetLaws.{Standing, sum-back}
 use Rattle.meaning.proofs.SizeLaws.{all-short, ruled-total}
 use Rattle.meaning.proofs.CorrectionLaws.{sum-right, sum-sound}
 
@@ -174,7 +174,7 @@ ruled-stands (f ∷ fs) g l e =
       right = unruled all r (sum-right all (omega arith) (ruled-total all r n));
     }
 
--- what a list that the writer took is, and what it wrote
+-- what is known of a list that was written
 pub record Written (l : List ℕ) (room : ℕ) (x : List ℕ) : Type 0 where
   pub entries : List Field
   pub whole : l ≡ putAll entryForm entries []

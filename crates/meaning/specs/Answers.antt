@@ -1,8 +1,10 @@
--- The six calls as a caller meets them: what each answers, and what the lent buffer holds afterwards. `judge` (Reading), `viewed` and `view` (Views) lend nothing to write.
+-- The six calls as a caller sees them: what each answers, and what the lent buffer holds afterwards. `judge` (Reading), `viewed` and `view` (Views) are lent nothing to write to.
 -- They determine the answer and every lent byte or entry, refusals too.
-use mathlib.Core.List.{List, [], _∷_, _++_}
+use mathlib.Core.Bool.{cond}
+use mathlib.Core.List.{List, _++_}
 use Prim.Native.Nat.{ℕ, _-_}
 use lib.ListN.{length, drop, replicate}
+use lib.Dec.{eqb}
 use Rattle.meaning.specs.declared.Refusal.{Refusal}
 use Rattle.meaning.specs.declared.Shape.{Shape}
 use Rattle.meaning.specs.declared.Entry.{Entry}
@@ -57,9 +59,13 @@ correctCall b used n c = record { answer = made (correct b used n c); buffer = b
 
 -- ---- "Where an answer is an enum, a definition gives this paper's number and values for each of its cases."
 
--- number, place and label; 0, 0, 0 where nothing is refused
+-- number, place and label; 0, 0, 0 if nothing is refused
 abbrev pub noRefusal : Refusal
 noRefusal = refusal 0 0 0
+
+-- the first of two refusals, the second if the first is none
+unfoldable pub orElse : Refusal → Refusal → Refusal
+orElse r q = cond (eqb (r .no) 0) q r
 
 abbrev pub judgedRefusal : Judged → Refusal
 judgedRefusal (Accepted x) = noRefusal
@@ -77,14 +83,14 @@ viewedRefusal (RefusedView r) = r
 -- the set's length, its lines, its type; 0, 0, 0 for a refusal
 abbrev pub judgedShape : Judged → Shape
 judgedShape (Accepted x) = x
-judgedShape (RefusedSet r) = record { length = 0; lines = 0; kind = 0 }
+judgedShape (RefusedSet r) = record { length = 0; lines = 0; settype = 0 }
 
 -- how much was made; 0 for a refusal
 abbrev pub madeCount : Made → ℕ
 madeCount (Done n) = n
 madeCount (Refused r) = 0
 
--- the flag: 1 where the sheet's part is shown, 0 where the set's
+-- the flag: 1 if the part is of the sheet, 0 if it is of the set
 abbrev pub viewedFlag : Viewed → ℕ
 viewedFlag (Sheet q) = 1
 viewedFlag (Set q) = 0

@@ -1,13 +1,13 @@
 -- "Corrections": a new content for one line of a set in its buffer.
 use mathlib.Core.Bool.{Bool, cond, not, _&&_, _||_}
-use mathlib.Core.List.{List, [], _∷_, _++_}
-use Prim.Native.Nat.{ℕ, pred, _+_}
+use mathlib.Core.List.{List, _++_}
+use Prim.Native.Nat.{ℕ, pred}
 use lib.ListN.{length, take, set}
 use lib.Dec.{leb, eqb}
 use Rattle.meaning.specs.Field.{Field, field, labelAtLine, isNil}
-use Rattle.meaning.specs.Refusals.{Spot, start, byte, Fault, atLine, ask, Reply, refused, done, thenTo, refusal, verdict, badUse, noSuchLine, fixedLine, badContent}
+use Rattle.meaning.specs.Refusals.{Spot, start, byte, Fault, atLine, ask, Reply, refused, thenTo, refusal, verdict, badUse, noSuchLine, fixedLine, badContent}
 use Rattle.meaning.specs.Pieces.{Parsed}
-use Rattle.meaning.specs.Lines.{size, offset, lowBytes}
+use Rattle.meaning.specs.Lines.{offset, lowBytes}
 use Rattle.meaning.specs.Rules.{profile, fits}
 use Rattle.meaning.specs.Reading.{read}
 use Rattle.meaning.specs.Lists.{withoutSum, withSum, setWithRoom}
@@ -16,15 +16,15 @@ use Rattle.meaning.specs.Lists.{withoutSum, withSum, setWithRoom}
 abbrev pub fixed : ℕ → Bool
 fixed l = eqb l 8000 || (eqb l 8100 || eqb l 9218)
 
--- 18, BadUse: "another set follows (place: first set's length)", where all lines of this one stand before it
+-- 18, BadUse: "another set follows (place: first set's length)": all lines of the first set stand before that place
 abbrev pub aloneFaults : Parsed → List Fault
 aloneFaults d = ask (isNil (d .rest)) (atLine badUse (length (d .fields)) 0)
 
--- 19, NoSuchLine: "line number 0 or beyond the set; place: set length", where all lines stand before it. In a sheet the entry's first byte is told (B39).
+-- 19, NoSuchLine: "line number 0 or beyond the set; place: set length": all lines stand before that place. In a sheet the place is the entry's first byte (B39).
 abbrev pub lineNumberFaults : List Field → ℕ → List Fault
 lineNumberFaults fs n = ask (leb 1 n && leb n (length fs)) (atLine noSuchLine (length fs) 0)
 
--- "19, 20, 6 (place in the new content), 14 (empty included)": what is wrong with content c for line number n. Only the first fault is told.
+-- "19, 20, 6 (place in the new content), 14 (empty included)": what is wrong with content c for line number n. Only the first fault is given.
 unfoldable pub changeFaults : List Field → ℕ → List ℕ → List Fault
 changeFaults fs n c =
     lineNumberFaults fs n

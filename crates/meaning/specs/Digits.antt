@@ -1,5 +1,5 @@
 -- Decimal digits of a fixed width, most significant first, and the number that digits write. Bytes by name.
-use mathlib.Core.Bool.{Bool, true, false, _&&_}
+use mathlib.Core.Bool.{Bool, true, _&&_}
 use mathlib.Core.List.{List, [], _∷_, _++_}
 use Prim.Native.Nat.{ℕ, zero, suc, _+_, _-_, _*_, _/_, _%_}
 use lib.Dec.{leb}
@@ -23,7 +23,7 @@ abbrev pub allDigits : List ℕ → Bool
 allDigits [] = true
 allDigits (b ∷ bs) = digit b && allDigits bs
 
--- the number that digits write, behind those that wrote a
+-- the number that digits write after digits that wrote a
 abbrev pub numberFrom : ℕ → List ℕ → ℕ
 numberFrom a [] = a
 numberFrom a (b ∷ bs) = numberFrom (a * 10 + (b - digitZero)) bs

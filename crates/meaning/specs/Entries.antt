@@ -12,7 +12,7 @@ use Rattle.meaning.specs.Pieces.{Form}
 
 -- ---- writing
 
--- a byte has so many values
+-- a byte has this many values
 abbrev pub byteValues : ℕ
 byteValues = 256
 
@@ -62,7 +62,7 @@ maxLabel = 9999
 abbrev pub entryOk : List ℕ → Bool
 entryOk s = entryWhole s && leb (entryLabel s) maxLabel
 
--- "It checks entries in order: .. 21, 6". Only the first fault is told.
+-- "It checks entries in order: .. 21, 6". Only the first fault is given.
 unfoldable pub entryFaults : List ℕ → List Fault
 entryFaults s = ask (entryOk s) (atLine badList 0 0) ++ lowBytes 0 0 (entryContent s)
 

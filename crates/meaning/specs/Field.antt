@@ -15,7 +15,7 @@ field l c = record { label = l; content = c }
 abbrev pub labels : List Field → List ℕ
 labels fs = map (λ (f : Field). f .label) fs
 
--- what stands behind the last line
+-- what stands after the last line
 abbrev pub noField : Field
 noField = field 0 []
 

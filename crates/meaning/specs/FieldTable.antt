@@ -1,6 +1,6 @@
 -- The field table (chapter 4 of the QMS description), row by row in the order printed there, and whether a content fits its field.
 -- 6330 and 6331 stand for their ranges, as in Tables.
-use mathlib.Core.Bool.{Bool, true, false, cond, _&&_}
+use mathlib.Core.Bool.{Bool, cond, _&&_}
 use mathlib.Core.List.{List, [], _∷_}
 use Prim.Native.Nat.{ℕ}
 use lib.ListN.{length}
@@ -31,6 +31,7 @@ var = upTo 60
 abbrev pub row : ℕ → Lengths → Kind → FieldRow
 row l n k = record { label = l; least = n .least; most = n .most; kind = k }
 
+-- the rows: label, length, kind
 unfoldable pub fieldTable : List FieldRow
 fieldTable =
     row 102 (upTo 60) Alnum

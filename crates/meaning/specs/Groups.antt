@@ -1,6 +1,6 @@
 -- "Groups": what each line is in its set, by the labels before it: a line at set level, a member of the open group, or neither.
 -- One state serves 11, 12 and 13, the missing labels (Missing) and the headers of the index (Index).
-use mathlib.Core.Bool.{Bool, true, false, cond, not, _||_}
+use mathlib.Core.Bool.{Bool, cond, not, _||_}
 use mathlib.Core.List.{List, [], _∷_}
 use mathlib.Core.Option.{Option, none, some}
 use Prim.Native.Nat.{ℕ, _+_}
@@ -10,7 +10,7 @@ use Rattle.meaning.specs.Field.{elem}
 use Rattle.meaning.specs.Refusals.{Fault, atLine, ask, notInSet, stray, repeated}
 use Rattle.meaning.specs.Tables.{setLevel, isPairLabel, find}
 
--- What the lines so far leave behind:
+-- What counts of the lines so far:
 pub record State : Type 0 where
   -- the label of the last line at set level, as long as a member may follow it; else 0. Any line at set level counts, also one that has no members
   pub header : ℕ
@@ -37,7 +37,7 @@ pub data Role : Type 0 where
   strayed : Role
   -- headers and names among them
   atSetLevel : Row → Role
-  -- a member of the open group, or the odd label behind its name
+  -- a member of the open group, or the odd label after its name
   member : Row → Role
 
 -- the row under which the table puts the odd labels
@@ -56,7 +56,7 @@ unfoldable pub role : Option Row → ℕ → ℕ → Role
 role none header l = unknown
 role (some r) header l = roleOf r header l
 
--- ---- from line to line: the state behind the line with label l and k lines before it
+-- ---- from line to line: the state after the line with label l, which has k lines before it
 
 -- "every 8410 opens a group", "every 6302 opens a group", a name its pair
 abbrev pub opened : State → Row → ℕ → ℕ → State
@@ -76,7 +76,7 @@ next strayed st k l = closed st
 next (atSetLevel r) st k l = opened st r k l
 next (member r) st k l = joined st r l
 
--- the state behind all lines with these labels, the first of which has k lines before it
+-- the state after all lines with these labels, the first of which has k lines before it
 unfoldable pub after : List Row → State → ℕ → List ℕ → State
 after rs st k [] = st
 after rs st k (l ∷ ls) = after rs (next (role (find rs l) (st .header) l) st k l) (k + 1) ls

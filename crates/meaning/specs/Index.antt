@@ -1,10 +1,9 @@
 -- The index: "one entry for each line holds label, place of its content, its length, and the header's line number, or 0".
-use mathlib.Core.Bool.{Bool, cond}
+use mathlib.Core.Bool.{cond}
 use mathlib.Core.List.{List, [], _∷_}
 use Prim.Native.Nat.{ℕ, _+_}
 use lib.ListN.{length}
 use lib.Dec.{leb}
-use Rattle.meaning.specs.declared.Row.{Row}
 use Rattle.meaning.specs.declared.Entry.{Entry}
 use Rattle.meaning.specs.Field.{Field}
 use Rattle.meaning.specs.Lines.{lineSize, lineLead}

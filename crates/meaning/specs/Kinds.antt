@@ -1,4 +1,4 @@
--- "Content kinds": each kind with a test of its own. A test says what the bytes must be; how many there are the field table asks beside it (FieldTable).
+-- "Content kinds": each kind with a test of its own. A test says what the bytes must be; the field table says how many there must be (FieldTable).
 use mathlib.Core.Bool.{Bool, true, false, cond, _&&_}
 use mathlib.Core.List.{List, [], _∷_, _++_, map}
 use Prim.Native.Nat.{ℕ, _+_, _-_, _*_}
@@ -46,11 +46,11 @@ isFloat (b ∷ bs) = cond (eqb b minus) (unsigned bs) (unsigned (b ∷ bs))
 
 -- ---- dates and times
 
--- over every bound below
+-- what stands for bytes that are no digits: over every bound below
 abbrev pub noNumber : ℕ
 noNumber = 100
 
--- the number that bytes i and i + 1 write, where they are two digits
+-- the number that bytes i and i + 1 write, if both are digits
 unfoldable pub twoAt : List ℕ → ℕ → ℕ
 twoAt c i = cond (digit (getD c i 0) && digit (getD c (i + 1) 0)) ((getD c i 0 - digitZero) * 10 + (getD c (i + 1) 0 - digitZero)) noNumber
 

@@ -1,6 +1,6 @@
 -- "Limits of a set are named once, with the set's own type", and its five types by number.
 -- `SetType::limits`, `SetType::of` and `SetType::number` are proved to say the same as these definitions.
-use mathlib.Core.Bool.{Bool, cond}
+use mathlib.Core.Bool.{cond}
 use Prim.Native.Nat.{ℕ, _-_}
 use lib.Dec.{eqb}
 use Rattle.meaning.specs.declared.Limits.{Limits}
@@ -13,7 +13,7 @@ use Rattle.meaning.specs.declared.SetType.the-variants.{T6300, T6301, T6
 abbrev pub maxLines : ℕ
 maxLines = 512
 
--- "999 bytes a line": the largest number that three digits write, so that no rule has to ask it (`size-most` in proofs/LineLaws)
+-- "999 bytes a line": the largest number that three digits write, so no rule has to test it (`size-most` in proofs/LineLaws)
 abbrev pub maxLineBytes : ℕ
 maxLineBytes = 999
 

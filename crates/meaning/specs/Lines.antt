@@ -1,5 +1,5 @@
 -- "Line and set": how a line is written, what is wrong with the line at the front of some bytes (2 to 6), where a set ends.
-use mathlib.Core.Bool.{Bool, true, false, _&&_, _||_}
+use mathlib.Core.Bool.{Bool, _&&_, _||_}
 use mathlib.Core.List.{List, [], _∷_, _++_}
 use Prim.Native.Nat.{ℕ, suc, _+_, _-_}
 use lib.ListN.{length, take, drop, getD}
@@ -24,7 +24,7 @@ cr = 13
 abbrev pub lf : ℕ
 lf = 10
 
--- the bytes before the content, and those behind it
+-- the bytes before the content, and those after it
 abbrev pub lineLead : ℕ
 lineLead = lengthDigits + labelDigits
 
@@ -86,13 +86,12 @@ labelOk s = allDigits (take labelDigits (drop lengthDigits s))
 abbrev pub leastByte : ℕ
 leastByte = 32
 
--- 6, BadByte: "content byte under 20h; place is that byte": one fault for each such byte of a part of a content that i bytes of it stand before, in a line that k
--- lines stand before
+-- 6, BadByte: "content byte under 20h; place is that byte": a fault for each such byte of a content from its byte i on, in the line that has k lines before it
 abbrev pub lowBytes : ℕ → ℕ → List ℕ → List Fault
 lowBytes k i [] = []
 lowBytes k i (b ∷ bs) = ask (leb leastByte b) (atByte badByte k i) ++ lowBytes k (suc i) bs
 
--- what is wrong with the line at the front: "each by .. 2, 3, 4, 5, 6". A test may rely on those before it; only the first fault is told.
+-- what is wrong with the line at the front: "each by .. 2, 3, 4, 5, 6". A test may rely on those before it; only the first fault is given.
 unfoldable pub lineFaults : List ℕ → List Fault
 lineFaults s =
     ask (lengthOk s) (atLine badLength 0 0)
@@ -111,7 +110,7 @@ startsSet s = leb lineLead (length s) && (labelOk s && eqb (labelAt s) 8000)
 abbrev pub setOver : List ℕ → Bool
 setOver s = isNil s || startsSet s
 
--- the form of a set's lines; whether the set is over is asked before each line but the first
+-- the form of a set's lines; before each line but the first the scan asks whether the set is over
 abbrev pub lineForm : Form
 lineForm = record { faults = lineFaults; piece = fieldAt; width = sizeAt; over = setOver; lead = lineLead; put = lineThen }
 

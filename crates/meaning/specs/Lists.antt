@@ -1,14 +1,14 @@
 -- "Field list": turning a set into a list, and writing a set from a list.
-use mathlib.Core.Bool.{Bool, cond, _&&_}
+use mathlib.Core.Bool.{cond, _&&_}
 use mathlib.Core.List.{List, [], _∷_}
 use Prim.Native.Nat.{ℕ, pred, _+_}
-use lib.ListN.{length, take}
+use lib.ListN.{take}
 use lib.Dec.{leb}
 use Rattle.meaning.specs.Limits.{maxEntries, maxSetBytes}
 use Rattle.meaning.specs.Digits.{digits}
 use Rattle.meaning.specs.Field.{Field, field, isNil}
-use Rattle.meaning.specs.Refusals.{Spot, behind, Reply, refused, done, thenTo, refusal, verdict, withRoom, empty}
-use Rattle.meaning.specs.Pieces.{Parsed, pieces, putAll}
+use Rattle.meaning.specs.Refusals.{Spot, behind, Reply, refused, thenTo, refusal, verdict, withRoom, empty}
+use Rattle.meaning.specs.Pieces.{pieces, putAll}
 use Rattle.meaning.specs.Lines.{lineLead, lineEnd, lineSize, size, render}
 use Rattle.meaning.specs.Entries.{entryForm, entryLead, listSize}
 use Rattle.meaning.specs.Rules.{ruleFaults}
@@ -45,8 +45,8 @@ abbrev pub withSum : List Field → List Field
 withSum [] = []
 withSum (f ∷ fs) = f ∷ sumField (lineSize f + (sumLine + size fs)) ∷ fs
 
--- "Places are offsets in the list, of the entry's first byte, for 6 of the byte; the place for a missing set field is 0": the line that has k lines before it is the entry
--- that has one fewer before it, since line 2 has none; line 1 is the first entry
+-- "Places are offsets in the list, of the entry's first byte, for 6 of the byte; the place for a missing set field is 0": line 2 has no entry, so the line that has k lines
+-- before it is the entry that has one fewer before it; line 1 is the first entry
 abbrev pub inList : List Field → ℕ → Spot → ℕ
 inList es k spot = listSize (take (pred k) es) + behind entryLead spot
 
@@ -54,7 +54,7 @@ inList es k spot = listSize (take (pred k) es) + behind entryLead spot
 abbrev pub setWithRoom : List Field → ℕ → Reply (List ℕ)
 setWithRoom fs room = withRoom (leb (size fs) room && leb (size fs) maxSetBytes) (size fs) (render fs [])
 
--- "then 8, 9, and 11 to 16 as above; then 22": line 2 is put in before, so that 10 is never given, and "8100, or 8000 after the first entry, is Repeated"
+-- "then 8, 9, and 11 to 16 as above; then 22": line 2 is put in first, so 10 is never given, and "8100, or 8000 after the first entry, is Repeated"
 abbrev pub written : ℕ → List Field → Reply (List ℕ)
 written room es = thenTo (verdict (inList es) (ruleFaults (withSum es)) (withSum es)) (λ fs. setWithRoom fs room)
 

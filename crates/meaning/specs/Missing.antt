@@ -1,5 +1,5 @@
--- 16, Missing: "required label absent", at set level, in groups, behind names, and on a condition.
--- `has` says which labels stand at set level, or in the group that is asked.
+-- 16, Missing: "required label absent", at set level, in groups, after names, and on a condition.
+-- `has` says which labels stand at set level, or in the group in question.
 use mathlib.Core.Bool.{Bool, true, false, cond, not, _&&_, _||_}
 use mathlib.Core.List.{List, [], _∷_, _++_}
 use Prim.Native.Nat.{ℕ, _+_}
@@ -12,8 +12,8 @@ use Rattle.meaning.specs.Groups.{State, first, noHeader, Role, unknown, 
 
 -- ---- which labels are required
 
--- "8437 is required in a group that has 8438, and any other member marked m with a condition is required likewise": 8421 where any of 8420, 8461 and 8462 stands,
--- whatever their contents are (B12, B13)
+-- "8437 is required in a group that has 8438, and any other member marked m with a condition is required likewise": 8421 if the group has 8420, 8461 or 8462, whatever
+-- their contents are (B12, B13)
 unfoldable pub onCondition : ℕ → (ℕ → Bool) → Bool
 onCondition l has = cond (eqb l 8421) (has 8420 || (has 8461 || has 8462)) (cond (eqb l 8437) (has 8438) false)
 
@@ -36,11 +36,11 @@ ascending (r ∷ rs) = insert r (ascending rs)
 
 -- ---- which of them are missing
 
--- "for 16 that is the missing one": behind a name the label one higher (B19)
+-- "for 16 that is the missing one": after a name the label one higher (B19)
 unfoldable pub missingLabel : ℕ → ℕ → ℕ
 missingLabel h l = cond (isPairLabel h) (h + 1) l
 
--- of these rows under h, whose line has k lines before it, those that are needed and not there
+-- which of these rows are needed and not there. The rows stand under h, whose line has k lines before it.
 unfoldable pub lackingOf : List Row → ℕ → ℕ → (ℕ → Bool) → List Fault
 lackingOf [] h k has = []
 lackingOf (r ∷ rs) h k has = ask (not (needed r has && not (has (r .label)))) (atLine missing k (missingLabel h (r .label))) ++ lackingOf rs h k has
@@ -63,7 +63,7 @@ stays strayed = false
 stays (atSetLevel r) = false
 stays (member r) = true
 
--- "groups and pairs in order": what each lacks, where it ends, so by the line of the header or name (B20)
+-- "groups and pairs in order": what each lacks is found where it ends, so they come in the order of their headers and names (B20)
 unfoldable pub groupsLacking : List Row → State → ℕ → List ℕ → List Fault
 groupsLacking rs st k [] = openLacking rs st
 groupsLacking rs st k (l ∷ ls) =

@@ -1,4 +1,4 @@
--- One scanner for all that stands piece behind piece: the lines of a set, the entries of a list, the entries of a sheet.
+-- One scanner for all that stands piece after piece: the lines of a set, the entries of a list, the entries of a sheet.
 use mathlib.Core.Bool.{Bool, cond}
 use mathlib.Core.List.{List, [], _∷_}
 use Prim.Native.Nat.{ℕ, zero, suc, _+_}
@@ -8,7 +8,7 @@ use Rattle.meaning.specs.Refusals.{Fault, behind, Reply, refused, done, 
 
 -- How one kind of piece is read off the front of some bytes, and written.
 pub record Form : Type 0 where
-  -- what is wrong with the piece at the front, in the paper's order; only the first is told
+  -- what is wrong with the piece at the front, in the paper's order; only the first fault is given
   pub faults : List ℕ → List Fault
   -- its field, and how many bytes it has
   pub piece : List ℕ → Field
@@ -20,7 +20,7 @@ pub record Form : Type 0 where
   -- the piece of a field, and then other bytes
   pub put : Field → List ℕ → List ℕ
 
--- What was read: the fields, and the bytes behind them.
+-- What was read: the fields, and the bytes after them.
 pub record Parsed : Type 0 where
   pub fields : List Field
   pub rest : List ℕ
@@ -28,17 +28,17 @@ pub record Parsed : Type 0 where
 abbrev pub parsed : List Field → List ℕ → Parsed
 parsed fs t = record { fields = fs; rest = t }
 
--- the field of a piece before those that were read behind it
+-- the field of a piece, put before the fields that were read after it
 abbrev pub andBefore : Field → Reply Parsed → Reply Parsed
 andBefore f (refused r) = refused r
 andBefore f (done d) = done (parsed (f ∷ d .fields) (d .rest))
 
--- the piece at the front, which stands at offset `at` and has these faults, and then what `k` reads behind it
+-- the piece at the front, which stands at offset `at` and has these faults, and then what `k` reads after it
 abbrev pub pieceThen : Form → List Fault → ℕ → List ℕ → (ℕ → List ℕ → Reply Parsed) → Reply Parsed
 pieceThen F [] at s k = andBefore (F .piece s) (k (at + F .width s) (drop (F .width s) s))
 pieceThen F (x ∷ xs) at s k = refused (refusal (x .no) (at + behind (F .lead) (x .spot)) (x .label))
 
--- the pieces from offset `at` on, in order; 7, TooManyLines, where one more than n starts, also where that one is faulty (B2, B28)
+-- the pieces from offset `at` on, in order; 7, TooManyLines, if one more than n starts, even if that one is faulty (B2, B28)
 unfoldable pub pieces : Form → ℕ → ℕ → List ℕ → Reply Parsed
 pieces F zero at s = cond (F .over s) (done (parsed [] s)) (refused (refusal tooManyLines at 0))
 pieces F (suc n) at s = cond (F .over s) (done (parsed [] s)) (pieceThen F (F .faults s) at s (λ p t. pieces F n p t))

@@ -1,9 +1,8 @@
 -- Judging a set: "first 1; then all lines, in order, each by 7, 2, 3, 4, 5, 6; then" the rules (Rules). "Bytes after the set are not judged; a read answers the set's length."
-use mathlib.Core.Bool.{Bool, cond}
-use mathlib.Core.List.{List, [], _∷_}
+use mathlib.Core.Bool.{cond}
+use mathlib.Core.List.{List}
 use Prim.Native.Nat.{ℕ, _+_, _-_}
 use lib.ListN.{length}
-use Rattle.meaning.specs.declared.Refusal.{Refusal}
 use Rattle.meaning.specs.declared.Shape.{Shape}
 use Rattle.meaning.specs.declared.Judged.{Judged}
 use Rattle.meaning.specs.declared.Judged.the-variants.{Accepted, Refused}
@@ -12,7 +11,7 @@ use Rattle.meaning.specs.declared.Known.the-variants.{Of, Nothing}
 use Rattle.meaning.specs.Limits.{maxLines, typeNumber}
 use Rattle.meaning.specs.Field.{Field, isNil}
 use Rattle.meaning.specs.Refusals.{Spot, behind, Reply, refused, done, refusal, verdict, empty}
-use Rattle.meaning.specs.Pieces.{Parsed, parsed, pieceThen, pieces}
+use Rattle.meaning.specs.Pieces.{Parsed, pieceThen, pieces}
 use Rattle.meaning.specs.Lines.{lineForm, lineFaults, lineLead, size, offset}
 use Rattle.meaning.specs.Rules.{profile, setFaults}
 
@@ -29,20 +28,20 @@ abbrev pub byRules : Reply Parsed → Reply Parsed
 byRules (refused r) = refused r
 byRules (done d) = verdict (inSet (d .fields)) (setFaults (d .fields)) d
 
--- the lines of the set at the front of s and the bytes behind it, or the refusal
+-- the lines of the set at the front of s and the bytes after it, or the refusal
 unfoldable pub read : List ℕ → Reply Parsed
 read s = byRules (scan s)
 
 -- ---- what judging answers
 
 -- the number of a set type, 0 for none
-abbrev pub kindNumber : Known → ℕ
-kindNumber (Of t) = typeNumber t
-kindNumber Nothing = 0
+abbrev pub knownNumber : Known → ℕ
+knownNumber (Of t) = typeNumber t
+knownNumber Nothing = 0
 
 -- "a read answers the set's length", and its lines and type
 abbrev pub shape : List Field → Shape
-shape fs = record { length = size fs; lines = length fs; kind = kindNumber (profile fs .setType) }
+shape fs = record { length = size fs; lines = length fs; settype = knownNumber (profile fs .setType) }
 
 abbrev pub judged : Reply Parsed → Judged
 judged (refused r) = Refused r

@@ -103,12 +103,12 @@ atLine n k l = record { no = n; line = k; spot = start; label = l }
 abbrev pub atByte : ℕ → ℕ → ℕ → Fault
 atByte n k i = record { no = n; line = k; spot = byte i; label = 0 }
 
--- a rule: no fault where its test holds, else this one
+-- a rule: no fault if its test holds, else this one
 abbrev pub ask : Bool → Fault → List Fault
 ask true f = []
 ask false f = f ∷ []
 
--- how far behind the line's first byte a spot is, where `lead` bytes stand before the content
+-- how many bytes after the line's first byte a spot is; `lead` bytes stand before the content
 abbrev pub behind : ℕ → Spot → ℕ
 behind lead start = 0
 behind lead (byte i) = lead + i
@@ -125,13 +125,13 @@ abbrev pub thenTo : {A B : Type 0} → Reply A → (A → Reply B) → Reply B
 thenTo (refused r) k = refused r
 thenTo (done a) k = k a
 
--- "So the first fault in this order is the answer, and a refusal is given only for it": `place` turns lines before and spot into the place. A test that comes
--- later in a list may rely on those before it; only the first fault of a list is told.
+-- "So the first fault in this order is the answer, and a refusal is given only for it": `place` turns lines before and spot into the place.
+-- A test may rely on those that come before it in the list.
 abbrev pub verdict : {A : Type 0} → (ℕ → Spot → ℕ) → List Fault → A → Reply A
 verdict place [] a = done a
 verdict place (x ∷ xs) a = refused (refusal (x .no) (place (x .line) (x .spot)) (x .label))
 
--- 22, NoRoom: "output needs more than is lent; place: the need": done where the test says that there is room
+-- 22, NoRoom: "output needs more than is lent; place: the need": done if the test says that there is room
 abbrev pub withRoom : {A : Type 0} → Bool → ℕ → A → Reply A
 withRoom true need a = done a
 withRoom false need a = refused (refusal noRoom need 0)

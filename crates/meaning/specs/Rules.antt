@@ -28,14 +28,14 @@ typeDigits = 4
 unfoldable pub typeNamed : List ℕ → Known
 typeNamed c = cond (eqb (length c) typeDigits && allDigits c) (typeOf (number c)) Nothing
 
--- now the set type alone
+-- so far the set type alone
 pub record Profile : Type 0 where
   pub setType : Known
 
 unfoldable pub profile : List Field → Profile
 profile fs = record { setType = typeNamed (contentAtLine fs 0) }
 
--- the rows that a set of this profile is judged by; none where 9 is given
+-- the rows that a set of this profile is judged by; none if 9 is given
 abbrev pub tableOf : Known → List Row
 tableOf (Of t) = table t
 tableOf Nothing = []
@@ -88,7 +88,7 @@ contentRules (member r) p k f = contentFaults p k f
 unfoldable pub lineRules : Role → Profile → State → ℕ → Field → List Fault
 lineRules o p st k f = labelFaults o st k (f .label) ++ contentRules o p k f
 
--- the role of a field's line behind a state
+-- the role of a field's line, by the state before it
 abbrev pub roleIn : Profile → State → Field → Role
 roleIn p st f = role (find (rowsOf p) (f .label)) (st .header) (f .label)
 
@@ -104,13 +104,13 @@ sumFaults fs = ask (eqb (number (contentAtLine fs 1)) (size fs)) (atLine badSum 
 
 -- ---- all of them, in order
 
--- "then 8, 9, 10; then all lines, in order, each by 11, 12, 13, 14, 15; then 16": what reader and writer go by
+-- "then 8, 9, 10; then all lines, in order, each by 11, 12, 13, 14, 15; then 16": the rules that reader and writer share
 unfoldable pub ruleFaults : List Field → List Fault
 ruleFaults fs =
     startFaults fs
     ++ (rulesFrom (profile fs) first 0 fs
     ++ missingFaults (rowsOf (profile fs)) (labels fs))
 
--- "then 17": the reader's alone, since the writer computes the sum
+-- "then 17": in the reader alone, since the writer computes the sum
 unfoldable pub setFaults : List Field → List Fault
 setFaults fs = ruleFaults fs ++ sumFaults fs

@@ -1,18 +1,16 @@
 -- The five set tables (chapter 3 of the QMS description), row by row in the order printed there, and the row of a label.
 -- 6330 stands for the names 6330 to 6398, 6331 for the odd labels 6331 to 6399.
 --
--- Document 002 decides. It has lost the page of 6310 with the rows 6200 to 8421, which are document 000's, and the level columns of the rows behind them, which the
--- rules paper gives ("8411 to 8480" are members of 8410, "deeper levels are not kept apart"); 8990 then stands at set level (B16). A label that is printed m, required
--- on a condition, is written so: 6303 to 6305 and the odd labels are M under their header or name ("each required once"); 8421 and 8437 are K here and required
--- by Missing; 8410 is K, since a member without it is Stray (B14). 8431 is printed 1 in one column and n in another: "as for 8431 and 8438" it repeats.
+-- Document 002 decides. It has lost the page of 6310 with the rows 6200 to 8421, which are document 000's, and the level columns of the rows after them, which the rules
+-- paper gives ("8411 to 8480" are members of 8410, "deeper levels are not kept apart"); 8990 then stands at set level (B16). A label that is printed m, required on a
+-- condition, is written so: 6303 to 6305 and the odd labels are M under their header or name ("each required once"); 8421 and 8437 are K here and required by Missing; 8410
+-- is K, since a member without it is Stray (B14). 8431 is printed 1 in one column and n in another: "as for 8431 and 8438" it repeats.
 use mathlib.Core.Bool.{Bool, true, false, cond, _&&_}
 use mathlib.Core.List.{List, [], _∷_}
 use mathlib.Core.Option.{Option, none, some}
 use Prim.Native.Nat.{ℕ, _+_, _%_}
 use lib.Dec.{leb, eqb}
 use Rattle.meaning.specs.declared.Row.{Row}
-use Rattle.meaning.specs.declared.Known.{Known}
-use Rattle.meaning.specs.declared.Known.the-variants.{Of, Nothing}
 use Rattle.meaning.specs.declared.SetType.{SetType}
 use Rattle.meaning.specs.declared.SetType.the-variants.{T6300, T6301, T6302, T6310, T6311}
 

@@ -1,12 +1,11 @@
 -- "A view shows a content as it would stand": a set, a sheet of pending corrections, and the number of a line.
 -- "entries as above, kind is the line number, the last for a line counts".
-use mathlib.Core.Bool.{Bool, cond}
+use mathlib.Core.Bool.{cond}
 use mathlib.Core.List.{List, [], _∷_, _++_}
 use mathlib.Core.Option.{Option, none, some}
 use Prim.Native.Nat.{ℕ, pred, _+_}
 use lib.ListN.{length, take, drop}
 use lib.Dec.{eqb}
-use Rattle.meaning.specs.declared.Refusal.{Refusal}
 use Rattle.meaning.specs.declared.Part.{Part}
 use Rattle.meaning.specs.declared.Viewed.{Viewed}
 use Rattle.meaning.specs.declared.Viewed.the-variants.{Sheet, Set, Refused}
@@ -28,7 +27,7 @@ sheetEntryFaults fs s = ask (entryWhole s) (atLine badList 0 0) ++ changeFaults 
 abbrev pub sheetForm : List Field → Form
 sheetForm fs = record { faults = sheetEntryFaults fs; piece = entryField; width = entryWidth; over = isNil; lead = entryLead; put = entryThen }
 
--- a sheet has no limit of its own, and never more entries than bytes; "a sheet may be empty"; every entry is judged, also one that a later one overrides (B40)
+-- a sheet has no limit of its own, and never more entries than bytes; "a sheet may be empty"; every entry is judged, even if a later one for its line counts (B40)
 abbrev pub sheet : List Field → List ℕ → Reply Parsed
 sheet fs h = pieces (sheetForm fs) (length h) 0 h
 
@@ -39,7 +38,7 @@ pub record Pending : Type 0 where
   pub place : ℕ
   pub content : List ℕ
 
--- "the last for a line counts": of the entries from offset `at` of the sheet on the last for line n, else `found`
+-- "the last for a line counts": the last entry for line n from offset `at` of the sheet on, else `found`
 unfoldable pub latest : ℕ → ℕ → List Field → Option Pending → Option Pending
 latest n at [] found = found
 latest n at (e ∷ es) found =

@@ -2,10 +2,97 @@
 // Each function here says in its contract which definition of specs/ it equals.
 ghost use mathlib.Core.Path.{_≡_};
 ghost use Rattle.meaning.specs.Limits.{limits, typeOf, typeNumber};
-ghost use Rattle.meaning.specs.Refusals.{numbers};
+ghost use Rattle.meaning.specs.Refusals.{numbers, refusal};
+ghost use Rattle.meaning.specs.Answers.{noRefusal};
 
-// A byte has so many values.
+// A byte has this many values.
 pub const BYTE_VALUES: usize = 256;
+
+// Digits are 30h to 39h: the first and the last.
+pub const DIGIT_ZERO: u8 = b'0';
+
+pub const DIGIT_NINE: u8 = b'9';
+
+// ---- how a line and an entry are laid out
+
+// "A line is three digits (its whole length), four digits (label), content, 0Dh 0Ah."
+pub const LENGTH_DIGITS: usize = 3;
+
+pub const LABEL_DIGITS: usize = 4;
+
+pub const CR: u8 = 13;
+
+pub const LF: u8 = 10;
+
+// The bytes of a line before its content.
+pub const LINE_LEAD: usize = LENGTH_DIGITS + LABEL_DIGITS;
+
+// The bytes of a line after its content.
+pub const LINE_END: usize = 2;
+
+// "Length = content + 9."
+pub const LINE_FRAME: usize = LINE_LEAD + LINE_END;
+
+// The digits of a set type, the content of line 1.
+pub const TYPE_DIGITS: usize = 4;
+
+// "8100 has five digits", and its line this many bytes.
+pub const SUM_DIGITS: usize = 5;
+
+pub const SUM_LINE: usize = SUM_DIGITS + LINE_FRAME;
+
+// "Content length in two bytes", label (in a sheet a line number) in two bytes.
+pub const NUMBER_BYTES: usize = 2;
+
+// The bytes of an entry before its content.
+pub const ENTRY_LEAD: usize = NUMBER_BYTES + NUMBER_BYTES;
+
+// A line has this many bytes more than the entry of the same field.
+pub const LINE_OVER_ENTRY: usize = LINE_FRAME - ENTRY_LEAD;
+
+// ---- the labels that a rule names
+
+// Line 1 of a set, which names its type, and line 2, which has its length.
+pub const LABEL_8000: usize = 8000;
+
+pub const LABEL_8100: usize = 8100;
+
+// The version.
+pub const LABEL_9218: usize = 9218;
+
+// Required in every set; in sets about a patient; in a set of a test's results.
+pub const LABEL_3000: usize = 3000;
+
+pub const LABEL_3101: usize = 3101;
+
+pub const LABEL_3102: usize = 3102;
+
+pub const LABEL_3103: usize = 3103;
+
+pub const LABEL_8402: usize = 8402;
+
+// A file that is added: the header of a group, and its three members.
+pub const LABEL_6302: usize = 6302;
+
+pub const LABEL_6303: usize = 6303;
+
+pub const LABEL_6304: usize = 6304;
+
+pub const LABEL_6305: usize = 6305;
+
+// "Even labels 6330 to 6398 are names", the odd labels 6331 to 6399 their contents: the first of them all, and the last.
+pub const LABEL_6330: usize = 6330;
+
+pub const LABEL_6399: usize = 6399;
+
+// A test: the header of a group, the two members that are required on a condition, and the last member.
+pub const LABEL_8410: usize = 8410;
+
+pub const LABEL_8421: usize = 8421;
+
+pub const LABEL_8437: usize = 8437;
+
+pub const LABEL_8480: usize = 8480;
 
 // The five set types of GDT 2.1 that are read and written.
 pub enum SetType {
@@ -39,7 +126,7 @@ impl SetType {
     // A set that is written or corrected has at most this many bytes.
     pub const SET_BYTES: usize = 99_999;
 
-    // The constants are those that specs/ cite.
+    // Called by nobody: its proof says that the constants are those of specs/.
     pub fn limits() -> Limits
         ensures { λ r. ⌜ r ≡ limits ⌝ }
     {
@@ -130,7 +217,7 @@ impl Refusal {
 
     pub const NO_ROOM: usize = 22;
 
-    // The numbers are those that specs/ cite, in the paper's order.
+    // Called by nobody: its proof says that the numbers are those of specs/, in the paper's order.
     pub fn numbers() -> [usize; 22]
         ensures { λ r. ⌜ r ≡ numbers ⌝ }
     {
@@ -158,6 +245,24 @@ impl Refusal {
             Refusal::BAD_LIST,
             Refusal::NO_ROOM,
         ]
+    }
+
+    // No refusal.
+    pub fn none() -> Refusal
+        ensures { λ r. ⌜ r ≡ noRefusal ⌝ }
+    {
+        Refusal::at(0, 0)
+    }
+
+    // A refusal that carries no label.
+    pub fn at(no: usize, place: usize) -> Refusal
+        ensures { λ r. ⌜ r ≡ refusal no place 0 ⌝ }
+    {
+        Refusal {
+            no,
+            place,
+            label: 0,
+        }
     }
 }
 
@@ -205,12 +310,12 @@ pub struct FieldRow {
 pub struct Shape {
     pub length: usize,
     pub lines: usize,
-    pub kind: usize,
+    pub settype: usize,
 }
 
 // What judging a set answers.
 pub enum Judged {
-    // The set at the front keeps every rule; bytes behind it were not judged.
+    // The set at the front keeps every rule; bytes after it were not judged.
     Accepted(Shape),
     // The first fault in the paper's order.
     Refused(Refusal),
@@ -218,7 +323,7 @@ pub enum Judged {
 
 // What index, list, writer and correction answer.
 pub enum Made {
-    // What was asked for stands in the lent buffer: so many entries, or so many bytes.
+    // What was asked for stands in the lent buffer: this many entries, or this many bytes.
     Done(usize),
     // Nothing was changed.
     Refused(Refusal),

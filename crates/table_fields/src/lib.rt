@@ -5,11 +5,6 @@ ghost use Rattle.meaning.specs.Tables.{isPairLabel, rowLabel};
 ghost use Rattle.meaning.specs.FieldTable.{fieldTable, fieldRowIn, fieldRow};
 ghost use Rattle.table_fields.specs.Codes.{fieldCode, leastIn, mostIn, kindIn};
 
-// "Even labels 6330 to 6398 are names", the odd labels 6331 to 6399 their contents: the first of them all, and the last.
-const FIRST_PAIR: usize = 6330;
-
-const LAST_PAIR: usize = 6399;
-
 // ---- a row's code: the least length, which is below 16, 16 times the most, which is below 64, and 1,024 times the number of the kind
 
 const LEASTS: u16 = 16;
@@ -287,10 +282,10 @@ const OF_NONE: u16 = FROM_ONE + ALNUM * KIND;
 pub fn is_pair(label: usize) -> bool
     ensures { λ r. ⌜ r ≡ isPairLabel label ⌝ }
 {
-    if label < FIRST_PAIR {
+    if label < meaning::LABEL_6330 {
         return false;
     }
-    label <= LAST_PAIR
+    label <= meaning::LABEL_6399
 }
 
 // The label that a label's row is printed under: 6330 for the names, 6331 for the odd labels behind them.
@@ -298,7 +293,7 @@ pub fn row_label(label: usize) -> usize
     ensures { λ r. ⌜ r ≡ rowLabel label ⌝ }
 {
     if is_pair(label) {
-        return FIRST_PAIR + label % 2;
+        return meaning::LABEL_6330 + label % 2;
     }
     label
 }

@@ -52,22 +52,22 @@ none-coded Nothing e = refl
 none-coded (At i r) e = absurd (omega (arith, code-some _ (row-small (r .label))))
 
 -- what a code that is not 0 tells of a label's row
-pub record Coded (kind : SetType) (l c : ℕ) : Type 0 where
+pub record Coded (settype : SetType) (l c : ℕ) : Type 0 where
   pub row : Row
-  pub is : findFrom (table kind) (rowLabel l) ≡ At (numberIn c) row
+  pub is : findFrom (table settype) (rowLabel l) ≡ At (numberIn c) row
   pub under-so : row .under ≡ underIn c
   pub many-so : row .many ≡ manyIn c
   pub field-so : fieldIn c ≡ fieldCode (fieldRow l)
   pub below : numberIn c < 57
 
-module _ (kind : SetType) (l c : ℕ) (e : c ≡ code (findFrom (table kind) (rowLabel l))) where
-  pub code-nothing : c ≡ 0 → findFrom (table kind) (rowLabel l) ≡ Nothing
-  code-nothing z = none-coded (findFrom (table kind) (rowLabel l)) (sym e ∙ z)
+module _ (settype : SetType) (l c : ℕ) (e : c ≡ code (findFrom (table settype) (rowLabel l))) where
+  pub code-nothing : c ≡ 0 → findFrom (table settype) (rowLabel l) ≡ Nothing
+  code-nothing z = none-coded (findFrom (table settype) (rowLabel l)) (sym e ∙ z)
 
-  row-coded : (i : ℕ) (r : Row) → findFrom (table kind) (rowLabel l) ≡ At i r → Coded kind l c
+  row-coded : (i : ℕ) (r : Row) → findFrom (table settype) (rowLabel l) ≡ At i r → Coded settype l c
   unfolding code fieldRow
   row-coded i r q =
-      let below : i < 57 = row-below kind (rowLabel l) i r q in
+      let below : i < 57 = row-below settype (rowLabel l) i r q in
       let few : i < numbers = omega arith in
       let small : fieldCode (fieldRowIn fieldTable (r .label)) < fields = code-fits _ (row-small (r .label)) in
       let w : c ≡ rowCode i (r .under) (occurrence (r .many)) (fieldCode (fieldRowIn fieldTable (r .label))) = e ∙ ap code q in
@@ -78,14 +78,14 @@ module _ (kind : SetType) (l c : ℕ) (e : c ≡ code (findFrom (table kind) (ro
         under-so = sym (rw w (row-under i (r .under) (r .many) _ few small));
         many-so = sym (rw w (row-many i (r .under) (r .many) _ few small));
         field-so =
-            rw w (row-field i (r .under) (r .many) _ few small) ∙ ap (λ (k : ℕ). fieldCode (fieldRowIn fieldTable k)) (found-row (table kind) (rowLabel l) i r q);
+            rw w (row-field i (r .under) (r .many) _ few small) ∙ ap (λ (k : ℕ). fieldCode (fieldRowIn fieldTable k)) (found-row (table settype) (rowLabel l) i r q);
         below = omega arith;
       }
 
-  pub coded : (c ≡ 0 → ⊥) → Coded kind l c
+  pub coded : (c ≡ 0 → ⊥) → Coded settype l c
   unfolding code
-  coded n = go (findFrom (table kind) (rowLabel l)) refl
+  coded n = go (findFrom (table settype) (rowLabel l)) refl
     where
-      go : (o : Found) → findFrom (table kind) (rowLabel l) ≡ o → Coded kind l c
+      go : (o : Found) → findFrom (table settype) (rowLabel l) ≡ o → Coded settype l c
       go Nothing q = absurd (n (e ∙ ap code q))
       go (At i r) q = row-coded i r q

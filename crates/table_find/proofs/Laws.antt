@@ -153,7 +153,7 @@ module _ (rs : List Row) (l i : ℕ) (r : Row) (e : findFrom rs l ≡ At i r) wh
 -- ---- the five tables
 
 -- what holds of the five holds of the table of every set type
-pub table-all : (P : List Row → Type 0) → P rows6300 → P rows6301 → P rows6302 → P rows6310 → P rows6311 → (kind : SetType) → P (table kind)
+pub table-all : (P : List Row → Type 0) → P rows6300 → P rows6301 → P rows6302 → P rows6310 → P rows6311 → (settype : SetType) → P (table settype)
 unfolding table
 table-all P a b c d e T6300 = a
 table-all P a b c d e T6301 = b
@@ -165,12 +165,12 @@ table-all P a b c d e T6311 = e
 abbrev hasNumber : Row → Bool
 hasNumber r = leb (suc (numberOf (r .label))) 57
 
-numbers-test : (kind : SetType) → allRows hasNumber (table kind) ≡ true
+numbers-test : (settype : SetType) → allRows hasNumber (table settype) ≡ true
 unfolding rows6300 rows6301 rows6302 rows6310 rows6311 numberOf numberFrom fieldTable
 numbers-test = table-all (λ rs. allRows hasNumber rs ≡ true) refl refl refl refl refl
 
 -- so a found number is below 57, whatever the set type
-pub row-below : (kind : SetType) (l i : ℕ) (r : Row) → findFrom (table kind) l ≡ At i r → i < 57
-row-below kind l i r e =
-    let h : suc (numberOf (r .label)) ≤ 57 = leb-true _ 57 (found-passes (table kind) l i r e hasNumber (numbers-test kind)) in
-    omega (arith, found-number (table kind) l i r e)
+pub row-below : (settype : SetType) (l i : ℕ) (r : Row) → findFrom (table settype) l ≡ At i r → i < 57
+row-below settype l i r e =
+    let h : suc (numberOf (r .label)) ≤ 57 = leb-true _ 57 (found-passes (table settype) l i r e hasNumber (numbers-test settype)) in
+    omega (arith, found-number (table settype) l i r e)

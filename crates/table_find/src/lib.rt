@@ -221,10 +221,10 @@ fn find_6311(label: usize) -> usize
 }
 
 // The code of a label's row in the table of a set type.
-pub fn find_row(kind: SetType, label: usize) -> usize
-    ensures { λ r. ⌜ r ≡ code (findFrom (table kind) (rowLabel label)) ⌝ }
+pub fn find_row(settype: SetType, label: usize) -> usize
+    ensures { λ r. ⌜ r ≡ code (findFrom (table settype) (rowLabel label)) ⌝ }
 {
-    match kind {
+    match settype {
         SetType::T6300 => find_6300(label),
         SetType::T6301 => find_6301(label),
         SetType::T6302 => find_6302(label),

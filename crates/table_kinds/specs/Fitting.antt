@@ -1,5 +1,5 @@
 -- The lengths that a row of the field table allows, by the row's code.
--- What they say of a label and its content is told by `fits-code` in proofs/Laws.
+-- What they say of a label and its content is told by `fits-code` in proofs/FittingLaws.
 use mathlib.Core.Bool.{Bool, _&&_}
 use Prim.Native.Nat.{ℕ}
 use lib.Dec.{leb}

@@ -10,14 +10,14 @@ ghost use Rattle.table_kinds.specs.Fitting.{lengthFits};
 pub fn is_num(c: &[u8]) -> bool
     ensures { λ r. ⌜ r ≡ isNum (now (c .entry)) ⌝ }
 {
-    table_floats::all_digits(c, 0)
+    byte_digits::all_digits(c, 0)
 }
 
 // "Rule 112 (3110): 1 or 2."
 pub fn is_rule112(c: &[u8]) -> bool
     ensures { λ r. ⌜ r ≡ isRule112 (now (c .entry)) ⌝ }
 {
-    match table_floats::byte_at(c, 0) {
+    match byte_digits::byte_at(c, 0) {
         b'1' => true,
         b'2' => true,
         _ => false,
@@ -28,7 +28,7 @@ pub fn is_rule112(c: &[u8]) -> bool
 pub fn is_rule116(c: &[u8]) -> bool
     ensures { λ r. ⌜ r ≡ isRule116 (now (c .entry)) ⌝ }
 {
-    match table_floats::byte_at(c, 0) {
+    match byte_digits::byte_at(c, 0) {
         b'1' => true,
         b'3' => true,
         b'5' => true,
@@ -40,7 +40,7 @@ pub fn is_rule116(c: &[u8]) -> bool
 pub fn is_charset(c: &[u8]) -> bool
     ensures { λ r. ⌜ r ≡ isCharset (now (c .entry)) ⌝ }
 {
-    match table_floats::byte_at(c, 0) {
+    match byte_digits::byte_at(c, 0) {
         b'1' => true,
         b'2' => true,
         b'3' => true,
@@ -52,11 +52,11 @@ pub fn is_charset(c: &[u8]) -> bool
 pub fn is_version(c: &[u8]) -> bool
     ensures { λ r. ⌜ r ≡ isVersion (now (c .entry)) ⌝ }
 {
-    if 99 < table_dates::two_at(c, 0) {
+    if 99 < byte_digits::two_at(c, 0) {
         return false;
     }
-    if table_floats::byte_at(c, 2) == table_floats::POINT {
-        return table_dates::two_at(c, 3) <= 99;
+    if byte_digits::byte_at(c, 2) == byte_digits::POINT {
+        return byte_digits::two_at(c, 3) <= 99;
     }
     false
 }

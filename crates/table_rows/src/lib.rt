@@ -1,4 +1,6 @@
-// The five set tables as arrays of rows by value, in the printed order.
+// The five set tables as arrays of rows by value, in the printed order: "The five set tables are rows of small fixed arrays, one per set type."
+// No function of the library calls these. They are here to be read: a reader may hold each row against the documents, and each array is proved to be its table in
+// specs/ of `meaning`. The program finds a line's row by the `match` of crate `table_find`, which is proved equal to a search of the same rows.
 // No function here asks anything of its caller.
 ghost use mathlib.Core.Path.{_≡_};
 ghost use Rattle.meaning.specs.Tables.{rows6300, rows6301, rows6302, rows6310, rows6311};

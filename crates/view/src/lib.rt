@@ -15,11 +15,7 @@ use meaning::Viewed;
 fn refused(no: usize, place: usize) -> Viewed
     ensures { λ r. ⌜ r ≡ Viewed.Refused (refusal no place 0) ⌝ }
 {
-    Viewed::Refused(Refusal {
-        no,
-        place,
-        label: 0,
-    })
+    Viewed::Refused(Refusal::at(no, place))
 }
 
 // A view of an accepted set: "the set alone must fill its slice (18). Order: set, 18, the asked line (19), then each sheet entry".

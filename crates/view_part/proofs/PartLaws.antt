@@ -3,7 +3,7 @@ use mathlib.Core.Path.{_≡_, subst}
 use mathlib.Core.Bool.{Bool, true, false, cond}
 use mathlib.Core.List.{List}
 use Prim.Native.Nat.{ℕ, _+_, _-_, _≤_}
-use native.Mathlib.Omega.{arith}
+use native.Mathlib.Nat.{add-sub-cancel-left}
 use borrow.Author.Tests.{eq-eqb, ne-eqb}
 use lib.Dec.{eqb}
 use lib.ListN.{length, take, drop}
@@ -33,10 +33,6 @@ newer-within s h v p k n g w = go (eqb k n)
 
 -- ---- the part itself
 
--- the length of a part from a on
-pub part-length : (a n : ℕ) → (a + n) - a ≡ n
-part-length a n = omega arith
-
 module _ (s h : List ℕ) (v : Viewed) (q : Part) where
   module _ (e : v ≡ Sheet q) where
     pub sheet-ends : Within s h v → q .place + q .length ≤ length h
@@ -44,7 +40,7 @@ module _ (s h : List ℕ) (v : Viewed) (q : Part) where
     sheet-ends w = subst (λ (u : Viewed). Within s h u) e w
 
     pub bytes-sheet : take ((q .place + q .length) - q .place) (drop (q .place) h) ≡ shownBytes s h v
-    bytes-sheet = rw (e, part-length (q .place) (q .length))
+    bytes-sheet = rw (e, add-sub-cancel-left (q .place) (q .length))
 
   module _ (e : v ≡ Set q) where
     pub set-ends : Within s h v → q .place + q .length ≤ length s
@@ -52,4 +48,4 @@ module _ (s h : List ℕ) (v : Viewed) (q : Part) where
     set-ends w = subst (λ (u : Viewed). Within s h u) e w
 
     pub bytes-set : take ((q .place + q .length) - q .place) (drop (q .place) s) ≡ shownBytes s h v
-    bytes-set = rw (e, part-length (q .place) (q .length))
+    bytes-set = rw (e, add-sub-cancel-left (q .place) (q .length))

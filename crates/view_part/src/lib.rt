@@ -7,10 +7,10 @@ use meaning::Part;
 use meaning::Viewed;
 
 // "The last for a line counts": the part of the sheet where the entry is for the line asked for, else what was shown before.
-pub fn newer_part(shown: Viewed, part: Part, kind: usize, line: usize) -> Viewed
-    ensures { λ r. ⌜ r ≡ newer shown part kind line ⌝ }
+pub fn newer_part(shown: Viewed, part: Part, named: usize, line: usize) -> Viewed
+    ensures { λ r. ⌜ r ≡ newer shown part named line ⌝ }
 {
-    if kind == line {
+    if named == line {
         return Viewed::Sheet(part);
     }
     shown

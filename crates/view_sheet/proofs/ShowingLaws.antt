@@ -22,8 +22,8 @@ use Rattle.meaning.specs.Entries.{twoBytesAt, entryLead, entryLabel, entryConte
 use Rattle.meaning.specs.Reading.{shape, read, judge}
 use Rattle.meaning.specs.Corrections.{changeFaults}
 use Rattle.meaning.specs.Views.{sheetEntryFaults, sheetForm, sheet, Pending, latest, part, shownPart, viewAnswer}
+use Rattle.meaning.proofs.Bools.{end-is}
 use Rattle.meaning.proofs.EntryLaws.{entire}
-use Rattle.line_read.proofs.Bridge.{nil-is}
 use Rattle.entry_read.proofs.HeadLaws.{headOf, entry-is}
 use Rattle.correct_offer.specs.declared.Offer.{Offer}
 use Rattle.correct_offer.specs.Offered.{offered, offerLine, offerSpot, offerFaults}
@@ -136,9 +136,9 @@ module _ (s h : List ℕ) (d : Parsed) (r : read s ≡ done d) (n : ℕ) where
   -- The walk over the sheet shows what the entries that were read show: by induction on how many may be left.
   sheet-is : (m : ℕ) → Shows m
   unfolding pieces shownFrom
-  sheet-is zero at found = rw (nil-is h at) (ends-or (isNil (drop at h)) at found (drop at h) (refused (refusal tooManyLines at 0)) (Refused (refusal tooManyLines at 0)) refl)
+  sheet-is zero at found = rw (end-is h at) (ends-or (isNil (drop at h)) at found (drop at h) (refused (refusal tooManyLines at 0)) (Refused (refusal tooManyLines at 0)) refl)
   sheet-is (suc m) at found =
-      rw (nil-is h at) (ends-or (isNil (drop at h)) at found (drop at h) (pieceThen F (sheetEntryFaults fs (drop at h)) at (drop at h) (λ p t. pieces F m p t))
+      rw (end-is h at) (ends-or (isNil (drop at h)) at found (drop at h) (pieceThen F (sheetEntryFaults fs (drop at h)) at (drop at h) (λ p t. pieces F m p t))
       (checkedThen (checkedAt s (shape fs) h at) (goOn m at found)) (entry-then m (λ p o. sheet-is m p o) at found))
 
   -- ---- the set

@@ -4,7 +4,7 @@ use mathlib.Core.Bool.{Bool, true, false, cond}
 use mathlib.Core.List.{List}
 use Prim.Native.Nat.{ℕ, zero, suc, pred, _+_, _-_, _≤_, _<_}
 use native.Mathlib.Omega.{arith}
-use native.Mathlib.Nat.{add-zero}
+use native.Mathlib.Nat.{add-zero, add-sub-cancel-left}
 use borrow.Author.Tests.{le-leb, lt-leb, eq-eqb, ne-eqb}
 use lib.Dec.{leb, eqb}
 use lib.ListN.{length, take, drop, length-take}
@@ -29,7 +29,6 @@ use Rattle.correct_offer.specs.declared.OneLine.{OneLine}
 use Rattle.correct_offer.specs.Offered.{lineAfter, offered, offerSpot}
 use Rattle.correct_offer.proofs.OfferLaws.{line-stands, offer-byte}
 use Rattle.view_part.specs.Parts.{newer}
-use Rattle.view_part.proofs.PartLaws.{part-length}
 use Rattle.view_sheet.specs.declared.Checked.{Checked}
 use Rattle.view_sheet.specs.declared.Checked.the-variants.{Good}
 use Rattle.view_sheet.specs.Showing.{byOffer, byHead, checkedAt, setPart, checkedThen, shownFrom, shownBySheet, shownUnder}
@@ -40,7 +39,7 @@ use Rattle.view_sheet.specs.Showing.{byOffer, byHead, checkedAt, setPart
 pub byte-within : (s : List ℕ) (x : Shape) (h : List ℕ) (a k n : ℕ) (o : Offer) → o ≡ offered s x k (take ((a + n) - a) (drop a h)) → o .byte ≤ n
 byte-within s x h a k n o e =
     let c : List ℕ = take ((a + n) - a) (drop a h) in
-    rw e (omega (arith, offer-byte s x k c, length-take ((a + n) - a) (drop a h), part-length a n))
+    rw e (omega (arith, offer-byte s x k c, length-take ((a + n) - a) (drop a h), add-sub-cancel-left a n))
 
 module _ (s : List ℕ) (x : Shape) (h : List ℕ) (at : ℕ) where
   pub check-cut : entryAt h at ≡ Cut → Checked.Refused (refusal badList at 0) ≡ checkedAt s x h at

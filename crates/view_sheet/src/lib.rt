@@ -16,7 +16,7 @@ use meaning::Viewed;
 // What judging one entry of a sheet finds.
 pub enum Checked {
     // The entry keeps 21, 19, 20, 6, 14: the number of its line, and the length of its content.
-    Good { kind: usize, length: usize },
+    Good { named: usize, length: usize },
     // The first of them that it breaks.
     Refused(Refusal),
 }
@@ -34,12 +34,15 @@ fn check_entry(set: &[u8], shape: Shape, sheet: &[u8], at: usize) -> Checked
 {
     match entry_read::entry_at(sheet, at) {
         Head::Cut => bad_entry(Refusal::BAD_LIST, at, 0),
-        Head::Whole { kind, length } => {
-            let content = at + entry_read::ENTRY_LEAD;
+        Head::Whole {
+            label: named,
+            length,
+        } => {
+            let content = at + meaning::ENTRY_LEAD;
             let end = content + length;
-            let offer = correct_offer::judge_offer(set, shape, kind, &sheet[content..end]);
+            let offer = correct_offer::judge_offer(set, shape, named, &sheet[content..end]);
             if offer.no == 0 {
-                return Checked::Good { kind, length };
+                return Checked::Good { named, length };
             }
             if offer.no == Refusal::BAD_BYTE {
                 return bad_entry(offer.no, content + offer.byte, offer.label);
@@ -57,8 +60,8 @@ fn part_of_set(set: &[u8], shape: Shape, line: usize) -> Part
 {
     let x = correct_offer::line_after(set, line - 1);
     Part {
-        place: x.at + line_read::LINE_LEAD,
-        length: x.size - line_read::LINE_FRAME,
+        place: x.at + meaning::LINE_LEAD,
+        length: x.size - meaning::LINE_FRAME,
     }
 }
 
@@ -76,9 +79,9 @@ fn shown_by_sheet(set: &[u8], shape: Shape, sheet: &[u8], line: usize) -> Viewed
             Checked::Refused(r) => {
                 return Viewed::Refused(r);
             }
-            Checked::Good { kind, length } => {
-                let place = at + entry_read::ENTRY_LEAD;
-                shown = view_part::newer_part(shown, Part { place, length }, kind, line);
+            Checked::Good { named, length } => {
+                let place = at + meaning::ENTRY_LEAD;
+                shown = view_part::newer_part(shown, Part { place, length }, named, line);
                 at = place + length;
             }
         }

@@ -24,11 +24,12 @@ use Rattle.meaning.specs.Lists.{sumDigits, withSum, inList, setWithRoom, write}
 use Rattle.meaning.specs.Answers.{made, bytesLeft, writeCall}
 use Rattle.meaning.proofs.DigitLaws.{length-digits}
 use Rattle.meaning.proofs.FieldLaws.{fits-sum}
+use Rattle.meaning.proofs.EntryLaws.{lines-over-entries}
 use Rattle.meaning.proofs.LineLaws.{length-render, render-split}
 use Rattle.entry_read.specs.declared.Head.{Head}
 use Rattle.entry_read.specs.declared.Head.the-variants.{Whole, Cut}
 use Rattle.entry_read.specs.Head.{entryAt}
-use Rattle.judge_missing.proofs.FirstLaws.{firstOf, Real}
+use Rattle.meaning.proofs.FirstLaws.{firstOf, Real}
 use Rattle.byte_put.specs.Places.{over}
 use Rattle.byte_put.proofs.OverLaws.{Turned, here-fits, turned, front-then-zeros}
 use Rattle.write_judge.specs.declared.Checked.{Checked}
@@ -40,7 +41,6 @@ use Rattle.write_lines.specs.EntryLines.{entryLines}
 use Rattle.write_lines.proofs.LinePutLaws.{later-only, first-both}
 use Rattle.write.specs.Writing.{linesFrom, linesLeft}
 use Rattle.meaning.proofs.LeftLaws.{one-more}
-use Rattle.list.proofs.ListLaws.{sizes}
 
 -- ---- one line
 
@@ -172,7 +172,7 @@ module _ (l : List ℕ) (n : ℕ) (some : 0 < length l) where
       let es : List Field = f ∷ fs in
       let sum : List ℕ = sumOf l n in
       let all : List Field = f ∷ field 8100 sum ∷ fs in
-      let total : lineSize f + (14 + size fs) ≡ totalOf l n = omega (arith, sizes es, w, c) in
+      let total : lineSize f + (14 + size fs) ≡ totalOf l n = omega (arith, lines-over-entries es, w, c) in
       let put-in : withSum es ≡ all = ap (λ (x : ℕ). f ∷ field 8100 (digits 5 x) ∷ fs) total in
       let sized : size all ≡ totalOf l n = omega (arith, total, length-digits 5 (totalOf l n)) in
       let lines : linesLeft l sum 0 ≡ render all [] = all-lines l sum f fs (length l - 0) rd w (omega (arith, few-entries es, w)) in

@@ -30,10 +30,10 @@ fn put_set(list: &[u8], total: usize, out: &mut [u8])
             Head::Cut => {
                 return;
             }
-            Head::Whole { kind, length } => {
-                let from = at + entry_read::ENTRY_LEAD;
+            Head::Whole { label, length } => {
+                let from = at + meaning::ENTRY_LEAD;
                 let end = from + length;
-                to = write_lines::put_lines(at, kind, &list[from..end], total, out, to);
+                to = write_lines::put_lines(at, label, &list[from..end], total, out, to);
                 at = end;
             }
         }
@@ -48,12 +48,12 @@ fn write_entries(list: &[u8], n: usize, out: &mut [u8]) -> Made
     ensures { λ r. ⌜ (r ≡ writeCall (now (list .entry)) (now (out .entry)) .answer) × (now (out .exit) ≡ writeCall (now (list .entry)) (now (out .entry)) .buffer) ⌝ }
 {
     // 22, NoRoom: "the new total is over the buffer or over 99,999"; "place: the need"
-    let total = list.len() + n * list::LINE_LOSS + line_read::SUM_LINE;
+    let total = list.len() + n * meaning::LINE_OVER_ENTRY + meaning::SUM_LINE;
     if out.len() < total {
-        return Made::Refused(judge_missing::refused_at(Refusal::NO_ROOM, total));
+        return Made::Refused(Refusal::at(Refusal::NO_ROOM, total));
     }
     if SetType::SET_BYTES < total {
-        return Made::Refused(judge_missing::refused_at(Refusal::NO_ROOM, total));
+        return Made::Refused(Refusal::at(Refusal::NO_ROOM, total));
     }
     put_set(list, total, out);
     byte_put::clear(&mut out[total..]);
@@ -66,7 +66,7 @@ pub fn write(list: &[u8], out: &mut [u8]) -> Made
 {
     // 1, Empty: "a set or list of no bytes"
     if list.len() == 0 {
-        return Made::Refused(judge_missing::refused_at(Refusal::EMPTY, 0));
+        return Made::Refused(Refusal::at(Refusal::EMPTY, 0));
     }
     match write_judge::judge_list(list) {
         Checked::Refused(r) => Made::Refused(r),

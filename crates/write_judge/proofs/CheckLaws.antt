@@ -17,12 +17,11 @@ use Rattle.meaning.specs.Refusals.{Fault, atLine, atByte, ask, behind, Reply, r
 use Rattle.meaning.specs.Pieces.{Parsed, parsed, andBefore, pieceThen, pieces}
 use Rattle.meaning.specs.Lines.{leastByte, lowBytes}
 use Rattle.meaning.specs.Entries.{entryLead, twoBytesAt, entryLabel, entryWidth, entryContent, entryField, entryWhole, maxLabel, entryFaults, entryForm, entryOk, listSize}
-use Rattle.meaning.proofs.Bools.{nil-is, and-left, and-right}
+use Rattle.meaning.proofs.Bools.{nil-is, byte-then, and-left, and-right}
 use Rattle.meaning.proofs.FaultLaws.{ask-none, High, lows-none, refused-done, done-same}
 use Rattle.meaning.proofs.LeftLaws.{one-more, none-left}
 use Rattle.meaning.proofs.PieceLaws.{piece-back}
 use Rattle.byte_low.specs.Low.{firstLow}
-use Rattle.line_read.proofs.Laws.{byte-then}
 use Rattle.entry_read.specs.declared.Head.{Head}
 use Rattle.entry_read.specs.declared.Head.the-variants.{Whole, Cut}
 use Rattle.entry_read.specs.Head.{entryAt, behindHead, headsEnd}
@@ -212,10 +211,10 @@ pub digits-kept : (l : List ℕ) (at : ℕ) {label m : ℕ} → entryAt l at ≡
 unfolding entryFaults
 digits-kept l at {label} {m} e h q =
     let w = whole-back l at e in
-    let k : leb (entryLabel (drop at l)) maxLabel ≡ true = le-leb (entryLabel (drop at l)) maxLabel (omega (arith, w .kind-so)) in
+    let k : leb (entryLabel (drop at l)) maxLabel ≡ true = le-leb (entryLabel (drop at l)) maxLabel (omega (arith, w .label-so)) in
     let c : lowBytes 0 0 (entryContent (drop at l)) ≡ [] = lows-none 0 0 (entryContent (drop at l)) (digits-high (entryContent (drop at l)) (ap allDigits (sym (w .content-so)) ∙ q)) in
     let n : twoBytesAt (drop at l) 0 ≡ m = omega (arith, w .width-so) in
-    check-is l at ∙ (rw (w .whole, k, c) (ap₂ Read (sym (w .kind-so)) n))
+    check-is l at ∙ (rw (w .whole, k, c) (ap₂ Read (sym (w .label-so)) n))
 
 -- what the check tells of the pieces, with n entries before them
 abbrev pub summary : ℕ → Reply Parsed → Checked

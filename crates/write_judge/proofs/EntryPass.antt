@@ -24,13 +24,13 @@ use Rattle.meaning.specs.Tables.{rows6300, rows6301, rows6302, rows6310, rows63
 use Rattle.meaning.specs.Groups as G
 use Rattle.meaning.specs.Rules.{profile, typeDigits, typeNamed, labelIs, isKnown, typeKnown, startFaults, ruleFaults}
 use Rattle.meaning.specs.Lists.{inList}
-use Rattle.meaning.specs.Answers.{noRefusal}
+use Rattle.meaning.specs.Answers.{noRefusal, orElse}
 use Rattle.meaning.proofs.Bools.{and-left, and-right}
 use Rattle.table_find.specs.LookUp.{Found, findFrom, numberOf, numberFrom}
 use Rattle.entry_read.specs.declared.Head.the-variants.{Whole}
 use Rattle.entry_read.specs.Head.{entryAt}
-use Rattle.judge_missing.specs.Lacks.{orElse, State, noFlags, begin, lackUnder, groupLack, openLack, firstLack, stateOf}
-use Rattle.judge_missing.proofs.FirstLaws.{firstOf, Real, real-append}
+use Rattle.judge_missing.specs.Lacks.{State, noFlags, begin, lackUnder, groupLack, openLack, firstLack, stateOf}
+use Rattle.meaning.proofs.FirstLaws.{firstOf, Real, real-append}
 use Rattle.judge_missing.proofs.FlagLaws.{Same, begin-same}
 use Rattle.judge_line.specs.declared.Step.{Step}
 use Rattle.judge_line.specs.Steps.{rowOf, againNo, placeNo, labelNo, versionNo, contentNo, lineNo, nextState, staysIn, Stepped}
@@ -42,37 +42,37 @@ use Rattle.write_judge.proofs.CheckLaws.{Reads}
 
 -- ---- one line, as the code takes it
 
-module _ (kind : SetType) (st : State) (lack : Refusal) (at l : ℕ) (c : List ℕ) (r : Step) (members top : List Bool)
-    (e : Stepped (rowOf kind l) kind st lack at l c r members top) (F : State → Refusal → Refusal) where
-  pub step-bad : (r .no ≡ 0 → ⊥) → stepThen kind st lack at l c F ≡ refusal (r .no) at l
+module _ (settype : SetType) (st : State) (lack : Refusal) (at l : ℕ) (c : List ℕ) (r : Step) (members top : List Bool)
+    (e : Stepped (rowOf settype l) settype st lack at l c r members top) (F : State → Refusal → Refusal) where
+  pub step-bad : (r .no ≡ 0 → ⊥) → stepThen settype st lack at l c F ≡ refusal (r .no) at l
   step-bad g = rw (← e .number, ne-eqb (r .no) 0 g)
 
-  pub step-on : r .no ≡ 0 → stepThen kind st lack at l c F ≡ F (stateOf (r .group) members top) (r .group .lack)
+  pub step-on : r .no ≡ 0 → stepThen settype st lack at l c F ≡ F (stateOf (r .group) members top) (r .group .lack)
   step-on g = rw (← e .number, g) (ap₂ F (sym (e .state g)) (sym (e .lack-so g)))
 
 -- the content as the code cuts it out
-pub step-entry : (l : List ℕ) (at m : ℕ) {o : Found} {kind : SetType} {st : State} {lack : Refusal} {label : ℕ} {r : Step} {members top : List Bool}
-    → Stepped o kind st lack at label (take (at + entryLead + m - (at + entryLead)) (drop (at + entryLead) l)) r members top → Stepped o kind st lack at label (contentOf l at m) r members top
-step-entry l at m {o} {kind} {st} {lack} {label} {r} {members} {top} e =
+pub step-entry : (l : List ℕ) (at m : ℕ) {o : Found} {settype : SetType} {st : State} {lack : Refusal} {label : ℕ} {r : Step} {members top : List Bool}
+    → Stepped o settype st lack at label (take (at + entryLead + m - (at + entryLead)) (drop (at + entryLead) l)) r members top → Stepped o settype st lack at label (contentOf l at m) r members top
+step-entry l at m {o} {settype} {st} {lack} {label} {r} {members} {top} e =
     let w : at + entryLead + m - (at + entryLead) ≡ m = omega arith in
-    subst (λ (n : ℕ). Stepped o kind st lack at label (take n (drop (at + entryLead) l)) r members top) w e
+    subst (λ (n : ℕ). Stepped o settype st lack at label (take n (drop (at + entryLead) l)) r members top) w e
 
 -- ---- an entry behind the first: it is refused, or the pass goes on
 
-module _ (l : List ℕ) (kind : SetType) (at : ℕ) (st : State) (lack : Refusal) (label m : ℕ) (q : entryAt l at ≡ Whole label m) (r : Step) (members top : List Bool)
-    (e : Stepped (rowOf kind label) kind st lack at label (contentOf l at m) r members top) where
+module _ (l : List ℕ) (settype : SetType) (at : ℕ) (st : State) (lack : Refusal) (label m : ℕ) (q : entryAt l at ≡ Whole label m) (r : Step) (members top : List Bool)
+    (e : Stepped (rowOf settype label) settype st lack at label (contentOf l at m) r members top) where
   abbrev rest : ℕ → State → Refusal → Refusal
-  rest n st′ lack′ = entriesPass l kind (at + (entryLead + m)) st′ lack′ n
+  rest n st′ lack′ = entriesPass l settype (at + (entryLead + m)) st′ lack′ n
 
-  here : (n : ℕ) → entriesPass l kind at st lack (suc n) ≡ stepThen kind st lack at label (contentOf l at m) (rest n)
+  here : (n : ℕ) → entriesPass l settype at st lack (suc n) ≡ stepThen settype st lack at label (contentOf l at m) (rest n)
   unfolding entriesPass
   here n = rw q
 
-  pub pass-bad : (r .no ≡ 0 → ⊥) → (n : ℕ) → entriesPass l kind at st lack (suc n) ≡ refusal (r .no) at label
-  pass-bad g n = here n ∙ step-bad kind st lack at label (contentOf l at m) r members top e (rest n) g
+  pub pass-bad : (r .no ≡ 0 → ⊥) → (n : ℕ) → entriesPass l settype at st lack (suc n) ≡ refusal (r .no) at label
+  pass-bad g n = here n ∙ step-bad settype st lack at label (contentOf l at m) r members top e (rest n) g
 
-  pub pass-on : r .no ≡ 0 → (n : ℕ) → entriesPass l kind at st lack (suc n) ≡ entriesPass l kind (at + (entryLead + m)) (stateOf (r .group) members top) (r .group .lack) n
-  pass-on g n = here n ∙ step-on kind st lack at label (contentOf l at m) r members top e (rest n) g
+  pub pass-on : r .no ≡ 0 → (n : ℕ) → entriesPass l settype at st lack (suc n) ≡ entriesPass l settype (at + (entryLead + m)) (stateOf (r .group) members top) (r .group .lack) n
+  pass-on g n = here n ∙ step-on settype st lack at label (contentOf l at m) r members top e (rest n) g
 
 -- ---- line 1 and line 2
 
@@ -81,11 +81,11 @@ pub record FourDigits (c : List ℕ) : Type 0 where
   pub four : length c ≡ typeDigits
   pub all-digits : allDigits c ≡ true
 
-pub type-digits : (c : List ℕ) {kind : SetType} → typeNamed c ≡ Of kind → FourDigits c
+pub type-digits : (c : List ℕ) {settype : SetType} → typeNamed c ≡ Of settype → FourDigits c
 unfolding typeNamed
-type-digits c {kind} e = go (eqb (length c) typeDigits && allDigits c) refl e
+type-digits c {settype} e = go (eqb (length c) typeDigits && allDigits c) refl e
   where
-    go : (b : Bool) → eqb (length c) typeDigits && allDigits c ≡ b → cond b (typeOf (number c)) Nothing ≡ Of kind → FourDigits c
+    go : (b : Bool) → eqb (length c) typeDigits && allDigits c ≡ b → cond b (typeOf (number c)) Nothing ≡ Of settype → FourDigits c
     go true q h = record { four = eqb-true (length c) typeDigits (and-left (eqb (length c) typeDigits) _ q); all-digits = and-right (eqb (length c) typeDigits) _ q }
     go false q h = let z : _≡_ {A = ℕ} 0 1 = cc in absurd (omega arith)
 
@@ -97,7 +97,7 @@ type-fits c e = rw e
 abbrev begun : State
 begun = record { header = 8000; place = 0; members = noFlags; top = set noFlags row8000 true }
 
-line-1 : (kind : SetType) (c : List ℕ) (F : State → Refusal → Refusal) → fitsLabel 8000 c ≡ true → stepThen kind begin noRefusal 0 8000 c F ≡ F begun noRefusal
+line-1 : (settype : SetType) (c : List ℕ) (F : State → Refusal → Refusal) → fitsLabel 8000 c ≡ true → stepThen settype begin noRefusal 0 8000 c F ≡ F begun noRefusal
 unfolding table rows6300 rows6301 rows6302 rows6310 rows6311 findFrom numberOf numberFrom fieldTable rowLabel lineNo labelNo placeNo againNo contentNo versionNo nextState staysIn orElse openLack firstLack
 line-1 T6300 c F e = rw e
 line-1 T6301 c F e = rw e
@@ -105,7 +105,7 @@ line-1 T6302 c F e = rw e
 line-1 T6310 c F e = rw e
 line-1 T6311 c F e = rw e
 
-line-2 : (kind : SetType) (c : List ℕ) (F : State → Refusal → Refusal) → fitsLabel 8100 c ≡ true → stepThen kind begun noRefusal 0 8100 c F ≡ F started noRefusal
+line-2 : (settype : SetType) (c : List ℕ) (F : State → Refusal → Refusal) → fitsLabel 8100 c ≡ true → stepThen settype begun noRefusal 0 8100 c F ≡ F started noRefusal
 unfolding table rows6300 rows6301 rows6302 rows6310 rows6311 findFrom numberOf numberFrom fieldTable rowLabel lineNo labelNo placeNo againNo contentNo versionNo nextState staysIn orElse openLack firstLack groupLack lackUnder
 line-2 T6300 c F e = rw e
 line-2 T6301 c F e = rw e
@@ -125,7 +125,7 @@ module _ (l : List ℕ) (label m n : ℕ) where
     unfolding firstEntry
     first-unknown e = rw (eq-eqb label 8000 h, e)
 
-    pub first-known : {kind : SetType} → typeNamed (contentOf l 0 m) ≡ Of kind → firstEntry l label m n ≡ entriesPass l kind (entryLead + m) started noRefusal (n - 1)
+    pub first-known : {settype : SetType} → typeNamed (contentOf l 0 m) ≡ Of settype → firstEntry l label m n ≡ entriesPass l settype (entryLead + m) started noRefusal (n - 1)
     unfolding firstEntry
     first-known e = rw (eq-eqb label 8000 h, e)
 
@@ -144,37 +144,37 @@ list-next (x ∷ es) (suc j) f fs e =
     let ih = list-next es j f fs e in
     (omega (arith, ih .0), ih .1)
 
-module _ (l : List ℕ) (kind : SetType) (es : List Field) where
+module _ (l : List ℕ) (settype : SetType) (es : List Field) where
   -- the entries fs, with j entries before them and so, with line 2, j + 1 lines: by induction on fs
   later-found : (fs : List Field) (at j : ℕ) (st : State) (ms : G.State) (lack : Refusal) → Reads l at fs → at ≡ inList es (suc j) start → drop j es ≡ fs
-      → Same (inList es) st ms → entriesPass l kind at st lack (length fs) ≡ whole kind (inList es) ms (suc j) fs lack
+      → Same (inList es) st ms → entriesPass l settype at st lack (length fs) ≡ whole settype (inList es) ms (suc j) fs lack
   unfolding entriesPass
-  later-found [] at j st ms lack rd e d sm = pass-finish kind (inList es) (suc j) st ms lack refl sm
+  later-found [] at j st ms lack rd e d sm = pass-finish settype (inList es) (suc j) st ms lack refl sm
   later-found (f ∷ fs) at j st ms lack rd e d sm =
       let nx = list-next es j f fs d in
       let p : at + (entryLead + length (f .content)) ≡ inList es (suc (suc j)) start = omega (arith, e, nx .0) in
-      rw (rd .0, rd .1) (pass-line kind (inList es) f fs at (suc j) st ms lack sm e
-      (λ st′ lack′. entriesPass l kind (at + (entryLead + length (f .content))) st′ lack′ (length fs))
+      rw (rd .0, rd .1) (pass-line settype (inList es) f fs at (suc j) st ms lack sm e
+      (λ st′ lack′. entriesPass l settype (at + (entryLead + length (f .content))) st′ lack′ (length fs))
       (λ st′ ms′ lack′ sm′. later-found fs (at + (entryLead + length (f .content))) (suc j) st′ ms′ lack′ (rd .2) p (nx .1) sm′
-      ∙ ap (λ (k : ℕ). whole kind (inList es) ms′ k fs lack′) (sym (add-one (suc j)))))
+      ∙ ap (λ (k : ℕ). whole settype (inList es) ms′ k fs lack′) (sym (add-one (suc j)))))
 
 -- all lines: line 1, line 2, and the others
-set-found : (l : List ℕ) (kind : SetType) (c : List ℕ) (fs : List Field) (sum : List ℕ) → Reads l 0 (field 8000 c ∷ fs) → fitsLabel 8000 c ≡ true → fitsLabel 8100 sum ≡ true
-    → entriesPass l kind (entryLead + length c) started noRefusal (length fs)
-    ≡ firstOf (inList (field 8000 c ∷ fs)) (middle (ofType kind) (field 8000 c ∷ field 8100 sum ∷ fs))
-set-found l kind c fs sum rd g₁ g₂ =
+set-found : (l : List ℕ) (settype : SetType) (c : List ℕ) (fs : List Field) (sum : List ℕ) → Reads l 0 (field 8000 c ∷ fs) → fitsLabel 8000 c ≡ true → fitsLabel 8100 sum ≡ true
+    → entriesPass l settype (entryLead + length c) started noRefusal (length fs)
+    ≡ firstOf (inList (field 8000 c ∷ fs)) (middle (ofType settype) (field 8000 c ∷ field 8100 sum ∷ fs))
+set-found l settype c fs sum rd g₁ g₂ =
     let es : List Field = field 8000 c ∷ fs in
     let p : entryLead + length c ≡ inList es 2 start = omega arith in
     let rd′ : Reads l (entryLead + length c) fs = subst (λ (a : ℕ). Reads l a fs) (omega arith) (rd .2) in
-    let others : State → Refusal → Refusal = λ st lack. entriesPass l kind (entryLead + length c) st lack (length fs) in
-    let both : stepThen kind begin noRefusal 0 8000 c (λ st lack. stepThen kind st lack 0 8100 sum others) ≡ others started noRefusal =
-    line-1 kind c (λ st lack. stepThen kind st lack 0 8100 sum others) g₁ ∙ line-2 kind sum others g₂ in
+    let others : State → Refusal → Refusal = λ st lack. entriesPass l settype (entryLead + length c) st lack (length fs) in
+    let both : stepThen settype begin noRefusal 0 8000 c (λ st lack. stepThen settype st lack 0 8100 sum others) ≡ others started noRefusal =
+    line-1 settype c (λ st lack. stepThen settype st lack 0 8100 sum others) g₁ ∙ line-2 settype sum others g₂ in
     sym both ∙ (
-    pass-line kind (inList es) (field 8000 c) (field 8100 sum ∷ fs) 0 0 begin G.first noRefusal (begin-same (inList es) refl) refl
-    (λ st lack. stepThen kind st lack 0 8100 sum others)
-    (λ st ms lack sm. pass-line kind (inList es) (field 8100 sum) fs 0 (0 + 1) st ms lack sm refl others
-    (λ st′ ms′ lack′ sm′. later-found l kind es fs (entryLead + length c) 1 st′ ms′ lack′ rd′ p refl sm′))
-    ∙ whole-found kind (inList es) (field 8000 c ∷ field 8100 sum ∷ fs))
+    pass-line settype (inList es) (field 8000 c) (field 8100 sum ∷ fs) 0 0 begin G.first noRefusal (begin-same (inList es) refl) refl
+    (λ st lack. stepThen settype st lack 0 8100 sum others)
+    (λ st ms lack sm. pass-line settype (inList es) (field 8100 sum) fs 0 (0 + 1) st ms lack sm refl others
+    (λ st′ ms′ lack′ sm′. later-found l settype es fs (entryLead + length c) 1 st′ ms′ lack′ rd′ p refl sm′))
+    ∙ whole-found settype (inList es) (field 8000 c ∷ field 8100 sum ∷ fs))
 
 -- "then 8, 9, and 11 to 16": the first fault of the entries, with the sum put in behind the first
 pub entries-found : (l : List ℕ) (f : Field) (fs : List Field) (sum : List ℕ) → Reads l 0 (f ∷ fs) → fitsLabel 8100 sum ≡ true
@@ -186,16 +186,16 @@ entries-found l f fs sum rd g = rw (rd .0, rd .1) (go (eqb (f .label) 8000) refl
     all = f ∷ field 8100 sum ∷ fs
 
     go : (a : Bool) → eqb (f .label) 8000 ≡ a → (k : Known) → typeNamed (f .content) ≡ k
-        → cond a (byKnown k (refusal unknownSet 0 0) (λ kind. entriesPass l kind (entryLead + length (f .content)) started noRefusal (suc (length fs) - 1))) (refusal noStart 0 0)
+        → cond a (byKnown k (refusal unknownSet 0 0) (λ settype. entriesPass l settype (entryLead + length (f .content)) started noRefusal (suc (length fs) - 1))) (refusal noStart 0 0)
         ≡ firstOf (inList (f ∷ fs)) (starts a (isKnown k) true ++ middle (record { setType = k }) all)
     go false e k q = refl
     go true e Nothing q = refl
-    go true e (Of kind) q =
+    go true e (Of settype) q =
         let x : field 8000 (f .content) ≡ f = λ i. record { label = sym (eqb-true (f .label) 8000 e) i; content = f .content } in
         let n : suc (length fs) - 1 ≡ length fs = omega arith in
-        rw n (subst (λ (y : Field). entriesPass l kind (entryLead + length (y .content)) started noRefusal (length fs)
-        ≡ firstOf (inList (y ∷ fs)) (middle (ofType kind) (y ∷ field 8100 sum ∷ fs))) x
-        (set-found l kind (f .content) fs sum (subst (λ (y : Field). Reads l 0 (y ∷ fs)) (sym x) rd) (type-fits (f .content) (type-digits (f .content) q .four)) g))
+        rw n (subst (λ (y : Field). entriesPass l settype (entryLead + length (y .content)) started noRefusal (length fs)
+        ≡ firstOf (inList (y ∷ fs)) (middle (ofType settype) (y ∷ field 8100 sum ∷ fs))) x
+        (set-found l settype (f .content) fs sum (subst (λ (y : Field). Reads l 0 (y ∷ fs)) (sym x) rd) (type-fits (f .content) (type-digits (f .content) q .four)) g))
 
 -- its number says whether there is one
 pub rules-real : (fs : List Field) → Real (ruleFaults fs)

@@ -15,12 +15,12 @@ use Rattle.meaning.specs.Limits.{maxEntries}
 use Rattle.meaning.specs.Refusals.{refusal, tooManyLines, noStart, unknownSet, badList}
 use Rattle.meaning.specs.Entries.{entryLead}
 use Rattle.meaning.specs.Rules.{typeNamed}
-use Rattle.meaning.specs.Answers.{noRefusal}
+use Rattle.meaning.specs.Answers.{noRefusal, orElse}
 use Rattle.entry_read.specs.declared.Head.the-variants.{Whole, Cut}
 use Rattle.entry_read.specs.Head.{entryAt, headsEnd}
 use Rattle.entry_read.proofs.HeadLaws.{whole-back}
-use Rattle.judge_missing.specs.Lacks.{orElse, State, finish, stateOf}
-use Rattle.judge_missing.proofs.FirstLaws.{or-zero, or-bad}
+use Rattle.judge_missing.specs.Lacks.{State, finish, stateOf}
+use Rattle.meaning.proofs.FirstLaws.{or-zero, or-bad}
 use Rattle.judge_line.specs.declared.Step.{Step}
 use Rattle.judge_line.specs.Steps.{rowOf, Stepped}
 use Rattle.write_judge.specs.declared.Item.{Item}
@@ -44,13 +44,13 @@ all-same l f g h = ruled-same (checkFrom l 0 0 maxEntries) 0 f g (check-counts l
 
 -- ---- the judging of one entry, as the code takes it
 
-module _ (kind : SetType) (at l : ℕ) (c : List ℕ) (t : Turn) (members top : List Bool) where
-  pub turn-waits : (t .late .no ≡ 0 → ⊥) → Turned kind at l c t members top t members top
+module _ (settype : SetType) (at l : ℕ) (c : List ℕ) (t : Turn) (members top : List Bool) where
+  pub turn-waits : (t .late .no ≡ 0 → ⊥) → Turned settype at l c t members top t members top
   turn-waits h = record { waits = λ z. refl; told = λ z. absurd (h z); steps = λ z. absurd (h z) }
 
   pub turn-steps : t .late .no ≡ 0 → (r : Step) (members′ top′ : List Bool)
-      → Stepped (rowOf kind l) kind (stateOf (t .group) members top) (t .group .lack) at l c r members′ top′
-      → Turned kind at l c t members top (record { late = refusal (r .no) at l; group = r .group }) members′ top′
+      → Stepped (rowOf settype l) settype (stateOf (t .group) members top) (t .group .lack) at l c r members′ top′
+      → Turned settype at l c t members top (record { late = refusal (r .no) at l; group = r .group }) members′ top′
   turn-steps z r members′ top′ e = record {
     waits = λ h. absurd (h z);
     told = λ h. refl;
@@ -75,41 +75,41 @@ module _ (late r q : Refusal) (n : ℕ) where
 
 -- ---- the loop: no entry is left, too many, an entry that breaks 21 or 6, an entry more
 
-module _ (l : List ℕ) (kind : SetType) (late : Refusal) (st : State) (lack : Refusal) (at n : ℕ) where
-  pub left-end : length l ≤ at → doneUnless (orElse late (finish kind st lack)) n ≡ entriesLeft l kind late st lack at n
+module _ (l : List ℕ) (settype : SetType) (late : Refusal) (st : State) (lack : Refusal) (at n : ℕ) where
+  pub left-end : length l ≤ at → doneUnless (orElse late (finish settype st lack)) n ≡ entriesLeft l settype late st lack at n
   unfolding entriesLeft entriesPass
   left-end h =
       let z : n - n ≡ 0 = omega arith in
       sym (rw (check-done l at n (maxEntries - n) h, z))
 
   module _ (h : at < length l) where
-    pub left-full : maxEntries ≤ n → Refused (refusal tooManyLines at 0) ≡ entriesLeft l kind late st lack at n
+    pub left-full : maxEntries ≤ n → Refused (refusal tooManyLines at 0) ≡ entriesLeft l settype late st lack at n
     unfolding entriesLeft
     left-full g = sym (rw (check-full l at n h g))
 
-    pub left-unchecked : n < maxEntries → {r : Refusal} → checkEntry l at ≡ Item.Refused r → Refused r ≡ entriesLeft l kind late st lack at n
+    pub left-unchecked : n < maxEntries → {r : Refusal} → checkEntry l at ≡ Item.Refused r → Refused r ≡ entriesLeft l settype late st lack at n
     unfolding entriesLeft
     left-unchecked g e = sym (rw (check-bad l at n h g e))
 
-module _ (l : List ℕ) (kind : SetType) (at n : ℕ) (h : at < length l) (g : n < maxEntries) (label m : ℕ) (q : checkEntry l at ≡ Read label m)
-    (t : Turn) (members top : List Bool) (r : Turn) (members′ top′ : List Bool) (e : Turned kind at label (contentOf l at m) t members top r members′ top′) where
+module _ (l : List ℕ) (settype : SetType) (at n : ℕ) (h : at < length l) (g : n < maxEntries) (label m : ℕ) (q : checkEntry l at ≡ Read label m)
+    (t : Turn) (members top : List Bool) (r : Turn) (members′ top′ : List Bool) (e : Turned settype at label (contentOf l at m) t members top r members′ top′) where
   abbrev rest : ℕ → Refusal
-  rest k = entriesPass l kind (at + (entryLead + m)) (stateOf (r .group) members′ top′) (r .group .lack) k
+  rest k = entriesPass l settype (at + (entryLead + m)) (stateOf (r .group) members′ top′) (r .group .lack) k
 
   -- one entry of the pass
-  one : (k : ℕ) → orElse (t .late) (entriesPass l kind at (stateOf (t .group) members top) (t .group .lack) (suc k)) ≡ orElse (r .late) (rest k)
+  one : (k : ℕ) → orElse (t .late) (entriesPass l settype at (stateOf (t .group) members top) (t .group .lack) (suc k)) ≡ orElse (r .late) (rest k)
   one k = waiting (eqb (t .late .no) 0) refl
     where
       here : Refusal
-      here = entriesPass l kind at (stateOf (t .group) members top) (t .group .lack) (suc k)
+      here = entriesPass l settype at (stateOf (t .group) members top) (t .group .lack) (suc k)
 
       stepped : t .late .no ≡ 0 → (b : Bool) → eqb (r .late .no) 0 ≡ b → here ≡ orElse (r .late) (rest k)
       stepped z true y =
           let x : r .late .no ≡ 0 = eqb-true (r .late .no) 0 y in
-          pass-on l kind at _ _ label m (checked-head l at q) _ members′ top′ (e .steps z) x k ∙ sym (or-zero (r .late) (rest k) x)
+          pass-on l settype at _ _ label m (checked-head l at q) _ members′ top′ (e .steps z) x k ∙ sym (or-zero (r .late) (rest k) x)
       stepped z false y =
           let x : r .late .no ≡ 0 → ⊥ = eqb-false (r .late .no) 0 y in
-          pass-bad l kind at _ _ label m (checked-head l at q) _ members′ top′ (e .steps z) x k ∙ (sym (e .told z) ∙ sym (or-bad (r .late) (rest k) x))
+          pass-bad l settype at _ _ label m (checked-head l at q) _ members′ top′ (e .steps z) x k ∙ (sym (e .told z) ∙ sym (or-bad (r .late) (rest k) x))
 
       waiting : (b : Bool) → eqb (t .late .no) 0 ≡ b → orElse (t .late) here ≡ orElse (r .late) (rest k)
       waiting true y =
@@ -120,13 +120,13 @@ module _ (l : List ℕ) (kind : SetType) (at n : ℕ) (h : at < length l) (g : n
           let w : r .late ≡ t .late = e .waits x in
           or-bad (t .late) here x ∙ (sym w ∙ sym (or-bad (r .late) (rest k) (λ z. x (ap (λ (u : Refusal). u .no) (sym w) ∙ z))))
 
-  pub left-on : entriesLeft l kind (t .late) (stateOf (t .group) members top) (t .group .lack) at n
-      ≡ entriesLeft l kind (r .late) (stateOf (r .group) members′ top′) (r .group .lack) (at + (entryLead + m)) (n + 1)
+  pub left-on : entriesLeft l settype (t .late) (stateOf (t .group) members top) (t .group .lack) at n
+      ≡ entriesLeft l settype (r .late) (stateOf (r .group) members′ top′) (r .group .lack) (at + (entryLead + m)) (n + 1)
   unfolding entriesLeft
   left-on =
       rw (check-further l at n h g q)
       (ruled-same (checkFrom l (at + (entryLead + m)) (n + 1) (maxEntries - (n + 1))) (n + 1) _ _ (check-counts l (maxEntries - (n + 1)) (at + (entryLead + m)) (n + 1))
-      (λ k z. ap (λ (j : ℕ). orElse (t .late) (entriesPass l kind at (stateOf (t .group) members top) (t .group .lack) j)) (later k z) ∙ one (k - (n + 1))))
+      (λ k z. ap (λ (j : ℕ). orElse (t .late) (entriesPass l settype at (stateOf (t .group) members top) (t .group .lack) j)) (later k z) ∙ one (k - (n + 1))))
     where
       later : (k : ℕ) → n + 1 ≤ k → k - n ≡ suc (k - (n + 1))
       later k z = omega arith
@@ -148,18 +148,18 @@ module _ (l : List ℕ) (label m : ℕ) where
     unfolding entriesLeft orElse
     list-unknown e = all-same l (λ n. refusal unknownSet 0 0) (λ n. firstEntry l label m n) (λ n. sym (first-unknown l label m n h (sym cut-out ∙ e)))
 
-    pub list-known : {kind : SetType} (late : Refusal) → late ≡ noRefusal → entryAt l 0 ≡ Whole label m
-        → typeNamed (take (entryLead + m - entryLead) (drop entryLead l)) ≡ Of kind
-        → entriesLeft l kind late started noRefusal (entryLead + m) 1 ≡ ruled (checkFrom l 0 0 maxEntries) (λ n. firstEntry l label m n)
+    pub list-known : {settype : SetType} (late : Refusal) → late ≡ noRefusal → entryAt l 0 ≡ Whole label m
+        → typeNamed (take (entryLead + m - entryLead) (drop entryLead l)) ≡ Of settype
+        → entriesLeft l settype late started noRefusal (entryLead + m) 1 ≡ ruled (checkFrom l 0 0 maxEntries) (λ n. firstEntry l label m n)
     unfolding entriesLeft orElse
-    list-known {kind} late z q e =
-        let t : typeNamed (contentOf l 0 m) ≡ Of kind = sym cut-out ∙ e in
+    list-known {settype} late z q e =
+        let t : typeNamed (contentOf l 0 m) ≡ Of settype = sym cut-out ∙ e in
         let s : 0 < length l = omega (arith, whole-back l 0 q .within) in
         let c : checkEntry l 0 ≡ Read label m = digits-kept l 0 q (omega arith) (type-digits (contentOf l 0 m) t .all-digits) in
         let x : checkFrom l 0 0 maxEntries ≡ checkFrom l (entryLead + m) 1 (maxEntries - 1) =
         check-further l 0 0 s (omega arith) c ∙ ap (λ (k : ℕ). checkFrom l k 1 (maxEntries - 1)) (omega arith) in
-        rw z (ap (λ (y : Checked). ruled y (λ n. entriesPass l kind (entryLead + m) started noRefusal (n - 1))) (sym x))
-        ∙ all-same l (λ n. entriesPass l kind (entryLead + m) started noRefusal (n - 1)) (λ n. firstEntry l label m n) (λ n. sym (first-known l label m n h t))
+        rw z (ap (λ (y : Checked). ruled y (λ n. entriesPass l settype (entryLead + m) started noRefusal (n - 1))) (sym x))
+        ∙ all-same l (λ n. entriesPass l settype (entryLead + m) started noRefusal (n - 1)) (λ n. firstEntry l label m n) (λ n. sym (first-known l label m n h t))
 
 -- ---- the whole list, by the head of its first entry
 

@@ -14,12 +14,12 @@ use Rattle.meaning.specs.Limits.{maxEntries}
 use Rattle.meaning.specs.Refusals.{refusal, badByte, tooManyLines, noStart, unknownSet, badList}
 use Rattle.meaning.specs.Entries.{entryLead, maxLabel}
 use Rattle.meaning.specs.Rules.{typeNamed}
-use Rattle.meaning.specs.Answers.{noRefusal}
+use Rattle.meaning.specs.Answers.{noRefusal, orElse}
 use Rattle.byte_low.specs.Low.{firstLow}
 use Rattle.entry_read.specs.declared.Head.{Head}
 use Rattle.entry_read.specs.declared.Head.the-variants.{Whole, Cut}
 use Rattle.entry_read.specs.Head.{entryAt}
-use Rattle.judge_missing.specs.Lacks.{orElse, State, noFlags, stateOf, finish}
+use Rattle.judge_missing.specs.Lacks.{State, noFlags, stateOf, finish}
 use Rattle.judge_line.specs.Steps.{rowOf, lineNo, nextState, staysIn, lackThen, Stepped}
 use Rattle.write_judge.specs.declared.Item.{Item}
 use Rattle.write_judge.specs.declared.Item.the-variants.{Read}
@@ -61,16 +61,16 @@ checkFrom l at n (suc k) = cond (leb (length l) at) (Done n) (afterEntry (checkE
 
 -- one line: its refusal, or what follows with the state and the first group's lack behind it
 abbrev pub stepThen : SetType → State → Refusal → ℕ → ℕ → List ℕ → (State → Refusal → Refusal) → Refusal
-stepThen kind st lack at l c F =
-    cond (eqb (lineNo (rowOf kind l) st l c) 0) (F (nextState (rowOf kind l) st at l) (lackThen (staysIn (rowOf kind l)) kind st lack))
-    (refusal (lineNo (rowOf kind l) st l c) at l)
+stepThen settype st lack at l c F =
+    cond (eqb (lineNo (rowOf settype l) st l c) 0) (F (nextState (rowOf settype l) st at l) (lackThen (staysIn (rowOf settype l)) settype st lack))
+    (refusal (lineNo (rowOf settype l) st l c) at l)
 
 -- 11 to 15 of the n entries from an offset on, and 16 behind the last
 unfoldable pub entriesPass : List ℕ → SetType → ℕ → State → Refusal → ℕ → Refusal
-entriesPass l kind at st lack zero = finish kind st lack
-entriesPass l kind at st lack (suc n) =
+entriesPass l settype at st lack zero = finish settype st lack
+entriesPass l settype at st lack (suc n) =
     byHead (entryAt l at) (refusal badList at 0) (λ label m.
-    stepThen kind st lack at label (contentOf l at m) (λ st′ lack′. entriesPass l kind (at + (entryLead + m)) st′ lack′ n))
+    stepThen settype st lack at label (contentOf l at m) (λ st′ lack′. entriesPass l settype (at + (entryLead + m)) st′ lack′ n))
 
 -- the numbers of 8000 and 8100
 abbrev pub row8000 : ℕ
@@ -80,25 +80,25 @@ abbrev pub row8100 : ℕ
 row8100 = 32
 
 -- what the judging of an entry and the flags behind it say: a refusal that waited still waits; else the entry's step, and its refusal where it has one
-pub record Turned (kind : SetType) (at l : ℕ) (c : List ℕ) (t : Turn) (members top : List Bool) (r : Turn) (members′ top′ : List Bool) : Type 0 where
+pub record Turned (settype : SetType) (at l : ℕ) (c : List ℕ) (t : Turn) (members top : List Bool) (r : Turn) (members′ top′ : List Bool) : Type 0 where
   pub waits : (t .late .no ≡ 0 → ⊥) → r .late ≡ t .late
   pub told : t .late .no ≡ 0 → r .late ≡ refusal (r .late .no) at l
   pub steps : t .late .no ≡ 0
-      → Stepped (rowOf kind l) kind (stateOf (t .group) members top) (t .group .lack) at l c (record { no = r .late .no; group = r .group }) members′ top′
+      → Stepped (rowOf settype l) settype (stateOf (t .group) members top) (t .group .lack) at l c (record { no = r .late .no; group = r .group }) members′ top′
 
 -- behind line 1 and line 2, which are never refused by 11 to 15
 abbrev pub started : State
 started = record { header = 8100; place = 0; members = noFlags; top = set (set noFlags row8000 true) row8100 true }
 
 abbrev pub byKnown : Known → Refusal → (SetType → Refusal) → Refusal
-byKnown (Of kind) r f = f kind
+byKnown (Of settype) r f = f settype
 byKnown Nothing r f = r
 
 -- the n entries of a list whose first has this label and a content of m bytes
 unfoldable pub firstEntry : List ℕ → ℕ → ℕ → ℕ → Refusal
 firstEntry l label m n =
     cond (eqb label 8000)
-    (byKnown (typeNamed (contentOf l 0 m)) (refusal unknownSet 0 0) (λ kind. entriesPass l kind (entryLead + m) started noRefusal (n - 1)))
+    (byKnown (typeNamed (contentOf l 0 m)) (refusal unknownSet 0 0) (λ settype. entriesPass l settype (entryLead + m) started noRefusal (n - 1)))
     (refusal noStart 0 0)
 
 unfoldable pub judgeEntries : List ℕ → ℕ → Refusal
@@ -117,7 +117,7 @@ ruled (Refused r) f = Refused r
 
 -- what is left where the entries from an offset on have n before them: the check of them, and then a refusal that waits, else the rules
 unfoldable pub entriesLeft : List ℕ → SetType → Refusal → State → Refusal → ℕ → ℕ → Checked
-entriesLeft l kind late st lack at n = ruled (checkFrom l at n (maxEntries - n)) (λ m. orElse late (entriesPass l kind at st lack (m - n)))
+entriesLeft l settype late st lack at n = ruled (checkFrom l at n (maxEntries - n)) (λ m. orElse late (entriesPass l settype at st lack (m - n)))
 
 -- the whole list
 unfoldable pub judgedList : List ℕ → Checked

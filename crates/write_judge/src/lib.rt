@@ -7,10 +7,10 @@ ghost use lib.ListN.{length};
 ghost use Rattle.meaning.specs.declared.SetType.the-variants.{T6300};
 ghost use Rattle.meaning.specs.Limits.{maxEntries};
 ghost use Rattle.meaning.specs.Entries.{entryLead};
-ghost use Rattle.meaning.specs.Answers.{noRefusal};
+ghost use Rattle.meaning.specs.Answers.{noRefusal, orElse};
 ghost use Rattle.entry_read.specs.declared.Head.the-variants.{Whole};
 ghost use Rattle.entry_read.specs.Head.{entryAt, headsEnd};
-ghost use Rattle.judge_missing.specs.Lacks.{orElse, finish, stateOf};
+ghost use Rattle.judge_missing.specs.Lacks.{finish, stateOf};
 ghost use Rattle.write_judge.specs.Judging.{contentOf, checkEntry, checkFrom, Turned, started, firstEntry, doneUnless, ruled, entriesLeft, judgedList};
 use entry_read::Head;
 use judge_missing::Group;
@@ -22,7 +22,7 @@ use meaning::SetType;
 const ENTRIES: usize = SetType::LINES - 1;
 
 // A list of no more bytes than this has no more entries, since each has a head.
-const FEW_BYTES: usize = ENTRIES * entry_read::ENTRY_LEAD;
+const FEW_BYTES: usize = ENTRIES * meaning::ENTRY_LEAD;
 
 // The largest number that four digits write.
 const MAX_LABEL: usize = 9_999;
@@ -48,22 +48,18 @@ fn check_entry(list: &[u8], at: usize) -> Item
     ensures { λ r. ⌜ r ≡ checkEntry (now (list .entry)) at ⌝ }
 {
     // 21, BadList: "list entry cut"
-    let Head::Whole {
-        kind: label,
-        length,
-    } = entry_read::entry_at(list, at)
-    else {
-        return Item::Refused(judge_missing::refused_at(Refusal::BAD_LIST, at));
+    let Head::Whole { label, length } = entry_read::entry_at(list, at) else {
+        return Item::Refused(Refusal::at(Refusal::BAD_LIST, at));
     };
     // 21, BadList: "or label over 9999"
     if MAX_LABEL < label {
-        return Item::Refused(judge_missing::refused_at(Refusal::BAD_LIST, at));
+        return Item::Refused(Refusal::at(Refusal::BAD_LIST, at));
     }
     // 6, BadByte: "content byte under 20h; place is that byte"
-    let content = at + entry_read::ENTRY_LEAD;
+    let content = at + meaning::ENTRY_LEAD;
     let low = byte_low::first_low(list, content, length);
     if low < content + length {
-        return Item::Refused(judge_missing::refused_at(Refusal::BAD_BYTE, low));
+        return Item::Refused(Refusal::at(Refusal::BAD_BYTE, low));
     }
     Item::Read { label, length }
 }
@@ -79,7 +75,7 @@ pub struct Turn {
 // 11 to 15 of the entry at an offset, whose content has so many bytes; nothing is asked of it where a refusal waits.
 fn judge_entry(
     list: &[u8],
-    kind: SetType,
+    settype: SetType,
     at: usize,
     label: usize,
     bytes: usize,
@@ -88,16 +84,16 @@ fn judge_entry(
     top: &mut [bool; judge_missing::ROWS],
 ) -> Turn
     requires { ⌜ at + (entryLead + bytes) ≤ length (now list) ⌝ }
-    ensures { λ r. ⌜ Turned kind at label (contentOf (now (list .entry)) at bytes) turn (now (members .entry)) (now (top .entry)) r (now (members .exit)) (now (top .exit)) ⌝ }
+    ensures { λ r. ⌜ Turned settype at label (contentOf (now (list .entry)) at bytes) turn (now (members .entry)) (now (top .entry)) r (now (members .exit)) (now (top .exit)) ⌝ }
 {
     let late = turn.late;
     if late.no != 0 {
         return turn;
     }
-    let from = at + entry_read::ENTRY_LEAD;
+    let from = at + meaning::ENTRY_LEAD;
     let end = from + bytes;
     let group = turn.group;
-    let step = judge_line::step_at(kind, at, label, list, from, end, group, members, top);
+    let step = judge_line::step_at(settype, at, label, list, from, end, group, members, top);
     let no = step.no;
     let late = Refusal {
         no,
@@ -110,20 +106,20 @@ fn judge_entry(
 
 // 16 behind the last of n entries, where no refusal waits.
 fn finished(
-    kind: SetType,
+    settype: SetType,
     turn: Turn,
     members: &[bool; judge_missing::ROWS],
     top: &[bool; judge_missing::ROWS],
     n: usize,
 ) -> Checked
-    ensures { λ r. ⌜ r ≡ doneUnless (orElse (turn .late) (finish kind (stateOf (turn .group) (now (members .entry)) (now (top .entry))) (turn .group .lack))) n ⌝ }
+    ensures { λ r. ⌜ r ≡ doneUnless (orElse (turn .late) (finish settype (stateOf (turn .group) (now (members .entry)) (now (top .entry))) (turn .group .lack))) n ⌝ }
 {
     let late = turn.late;
     if late.no != 0 {
         return Checked::Refused(late);
     }
     let group = turn.group;
-    let lack = judge_missing::finish_at(kind, group, members, top);
+    let lack = judge_missing::finish_at(settype, group, members, top);
     if lack.no != 0 {
         return Checked::Refused(lack);
     }
@@ -132,18 +128,24 @@ fn finished(
 
 // The entries from an offset on, which have so many before them, each read once: 7, 21, 6 and 11 to 15 of each, then 16. Line 1 and line 2 ("the writer adds it") stand
 // before them, and are never refused here; `late` is a refusal that waits already.
-fn pass_entries(list: &[u8], kind: SetType, late: Refusal, start: usize, before: usize) -> Checked
+fn pass_entries(
+    list: &[u8],
+    settype: SetType,
+    late: Refusal,
+    start: usize,
+    before: usize,
+) -> Checked
     requires { ⌜ (start ≤ length (now list)) × (before ≤ maxEntries) ⌝ }
-    ensures { λ r. ⌜ r ≡ entriesLeft (now (list .entry)) kind late started noRefusal start before ⌝ }
+    ensures { λ r. ⌜ r ≡ entriesLeft (now (list .entry)) settype late started noRefusal start before ⌝ }
 {
     let mut members = [false; judge_missing::ROWS];
     let mut top = [false; judge_missing::ROWS];
     top[judge_missing::NO_8000] = true;
     top[judge_missing::NO_8100] = true;
     let group = Group {
-        header: 8100,
+        header: meaning::LABEL_8100,
         place: 0,
-        lack: judge_missing::nothing(),
+        lack: Refusal::none(),
     };
     let mut turn = Turn { late, group };
     let mut at = start;
@@ -151,20 +153,29 @@ fn pass_entries(list: &[u8], kind: SetType, late: Refusal, start: usize, before:
     while at < list.len() {
         // 7, TooManyLines
         if ENTRIES <= n {
-            return Checked::Refused(judge_missing::refused_at(Refusal::TOO_MANY_LINES, at));
+            return Checked::Refused(Refusal::at(Refusal::TOO_MANY_LINES, at));
         }
         match check_entry(list, at) {
             Item::Refused(r) => {
                 return Checked::Refused(r);
             }
             Item::Read { label, length } => {
-                turn = judge_entry(list, kind, at, label, length, turn, &mut members, &mut top);
-                at += entry_read::ENTRY_LEAD + length;
+                turn = judge_entry(
+                    list,
+                    settype,
+                    at,
+                    label,
+                    length,
+                    turn,
+                    &mut members,
+                    &mut top,
+                );
+                at += meaning::ENTRY_LEAD + length;
                 n += 1;
             }
         }
     }
-    finished(kind, turn, &members, &top, n)
+    finished(settype, turn, &members, &top, n)
 }
 
 // 7, 21, 6 of each entry, and then this refusal, by 8 or 9. Any set type will do, since nothing is judged where a refusal waits.
@@ -180,15 +191,15 @@ fn first_entry(list: &[u8], label: usize, bytes: usize) -> Checked
     ensures { λ r. ⌜ r ≡ ruled (checkFrom (now (list .entry)) 0 0 maxEntries) (λ n. firstEntry (now (list .entry)) label bytes n) ⌝ }
 {
     // 8, NoStart: "line 1 is not 8000"
-    if label != 8000 {
-        return check_then(list, judge_missing::refused_at(Refusal::NO_START, 0));
+    if label != meaning::LABEL_8000 {
+        return check_then(list, Refusal::at(Refusal::NO_START, 0));
     }
     // 9, UnknownSet: "8000 names none of the five"
-    let end = entry_read::ENTRY_LEAD + bytes;
-    let Known::Of(kind) = judge_start::type_of(&list[entry_read::ENTRY_LEAD..end]) else {
-        return check_then(list, judge_missing::refused_at(Refusal::UNKNOWN_SET, 0));
+    let end = meaning::ENTRY_LEAD + bytes;
+    let Known::Of(settype) = judge_start::type_of(&list[meaning::ENTRY_LEAD..end]) else {
+        return check_then(list, Refusal::at(Refusal::UNKNOWN_SET, 0));
     };
-    pass_entries(list, kind, judge_missing::nothing(), end, 1)
+    pass_entries(list, settype, Refusal::none(), end, 1)
 }
 
 // The heads of a long list do not lead to its end in 511 entries: 7, 21 or 6 refuses it, whatever the rules say of it.
@@ -209,10 +220,10 @@ pub fn judge_list(list: &[u8]) -> Checked
     ensures { λ r. ⌜ r ≡ judgedList (now (list .entry)) ⌝ }
 {
     if breaks_off(list) {
-        return check_then(list, judge_missing::refused_at(Refusal::BAD_LIST, 0));
+        return check_then(list, Refusal::at(Refusal::BAD_LIST, 0));
     }
     match entry_read::entry_at(list, 0) {
-        Head::Cut => Checked::Refused(judge_missing::refused_at(Refusal::BAD_LIST, 0)),
-        Head::Whole { kind, length } => first_entry(list, kind, length),
+        Head::Cut => Checked::Refused(Refusal::at(Refusal::BAD_LIST, 0)),
+        Head::Whole { label, length } => first_entry(list, label, length),
     }
 }

@@ -16,8 +16,8 @@ fn put_end(out: &mut [u8], at: usize)
     requires { ⌜ at + lineEnd ≤ length (now out) ⌝ }
     ensures { λ _. ⌜ now (out .exit) ≡ over at (cr ∷ lf ∷ []) (now (out .entry)) ⌝ }
 {
-    out[at] = line_read::CR;
-    out[at + 1] = line_read::LF;
+    out[at] = meaning::CR;
+    out[at + 1] = meaning::LF;
 }
 
 // The line of a field at an offset: "three digits (its whole length), four digits (label), content, 0Dh 0Ah".
@@ -25,15 +25,15 @@ fn put_line(label: usize, content: &[u8], out: &mut [u8], to: usize)
     requires { ⌜ to + (length (now content) + (lineLead + lineEnd)) ≤ length (now out) ⌝ }
     ensures { λ _. ⌜ now (out .exit) ≡ over to (lineThen (field label (now (content .entry))) []) (now (out .entry)) ⌝ }
 {
-    let size = content.len() + line_read::LINE_FRAME;
-    byte_put::put_digits(out, to, line_read::LENGTH_DIGITS, size);
+    let size = content.len() + meaning::LINE_FRAME;
+    byte_put::put_digits(out, to, meaning::LENGTH_DIGITS, size);
     byte_put::put_digits(
         out,
-        to + line_read::LENGTH_DIGITS,
-        line_read::LABEL_DIGITS,
+        to + meaning::LENGTH_DIGITS,
+        meaning::LABEL_DIGITS,
         label,
     );
-    let from = to + line_read::LINE_LEAD;
+    let from = to + meaning::LINE_LEAD;
     byte_put::copy_front(&mut out[from..], content);
     put_end(out, from + content.len());
 }
@@ -43,16 +43,16 @@ fn put_sum(total: usize, out: &mut [u8], to: usize)
     requires { ⌜ to + sumLine ≤ length (now out) ⌝ }
     ensures { λ _. ⌜ now (out .exit) ≡ over to (lineThen (sumField total) []) (now (out .entry)) ⌝ }
 {
-    byte_put::put_digits(out, to, line_read::LENGTH_DIGITS, line_read::SUM_LINE);
+    byte_put::put_digits(out, to, meaning::LENGTH_DIGITS, meaning::SUM_LINE);
     byte_put::put_digits(
         out,
-        to + line_read::LENGTH_DIGITS,
-        line_read::LABEL_DIGITS,
-        8100,
+        to + meaning::LENGTH_DIGITS,
+        meaning::LABEL_DIGITS,
+        meaning::LABEL_8100,
     );
-    let from = to + line_read::LINE_LEAD;
-    byte_put::put_digits(out, from, line_read::SUM_DIGITS, total);
-    put_end(out, from + line_read::SUM_DIGITS);
+    let from = to + meaning::LINE_LEAD;
+    byte_put::put_digits(out, from, meaning::SUM_DIGITS, total);
+    put_end(out, from + meaning::SUM_DIGITS);
 }
 
 // The lines of the entry at `from` in the list, at an offset: its own, and behind the first that of 8100. The offset behind them.
@@ -69,10 +69,10 @@ pub fn put_lines(
         × (now (out .exit) ≡ over to (entryLines from label (now (content .entry)) (digits sumDigits total)) (now (out .entry))) ⌝ }
 {
     put_line(label, content, out, to);
-    let end = to + (content.len() + line_read::LINE_FRAME);
+    let end = to + (content.len() + meaning::LINE_FRAME);
     if from != 0 {
         return end;
     }
     put_sum(total, out, end);
-    end + line_read::SUM_LINE
+    end + meaning::SUM_LINE
 }

@@ -1,16 +1,21 @@
 -- `correct` answers and leaves what the definition says: by what was planned.
-use mathlib.Core.Path.{sym, _∙_}
+use mathlib.Core.Path.{sym, ap, _∙_}
 use lib.Seq.{length-take-le}
 use borrow.Author.Needs.{needs}
+use Rattle.meaning.specs.Refusals.{refused}
 use Rattle.correct.proofs.CorrectLaws.{correct-over, kept, plan-refused, plan-made}
 use Rattle.correct.proofs.correct.Statement.{statement}
 use Rattle.correct.proofs.correct.Tie as tie
 
+at-requires : tie.Need-at-requires
+at-requires c κs = search needs
+
 returns : tie.Need-returns
 returns c =
-    let a = c .before .before .before .args in
-    kept (a .buffer .now) (a .content .now) (a .used) (a .line) _
-    (correct-over (a .buffer .now) (a .content .now) (a .used) (a .line) (c .if1 .taken))
+    let at-if1 = c .before in
+    let a = at-if1 .before .before .before .args in
+    let over = correct-over (a .buffer .now) (a .content .now) (a .used) (a .line) (at-if1 .if1 .taken) in
+    kept (a .buffer .now) (a .content .now) (a .used) (a .line) _ (over ∙ ap refused (sym (c .at .ensures)))
 
 slice-reshare-prefix-plan-change : tie.Need-slice-reshare-prefix-plan-change
 slice-reshare-prefix-plan-change c = search needs
@@ -62,6 +67,7 @@ pub correct-spec : {M : Type 1} → statement M
 correct-spec =
     tie.close
     (tie.spec
+    at-requires
     returns
     slice-reshare-prefix-plan-change
     slice-aggregate-plan-change

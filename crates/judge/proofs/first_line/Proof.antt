@@ -11,14 +11,14 @@ use Rattle.judge.proofs.StartLaws.{first-other, first-untyped, first-st
 use Rattle.judge.proofs.first_line.Statement.{statement}
 use Rattle.judge.proofs.first_line.Tie as tie
 
-refused-at-requires : tie.Need-refused-at-requires
-refused-at-requires c κs = search needs
+at-requires : tie.Need-at-requires
+at-requires c κs = search needs
 
 unless-unread-requires : tie.Need-unless-unread-requires
 unless-unread-requires c κs = (omega (arith, (read-back (c .before .before .before .args .s .now) 0 (c .before .before .before .pre)) .within), omega arith)
 
 returns : tie.Need-returns
-returns c = ap Judged.Refused (c .unless-unread .ensures ∙ ap (λ (x : Refusal). firstUnread (scanFrom (c .before .before .before .before .args .s .now) (c .before .before .before .before .args .size) 1 511) x) (c .before .refused-at .ensures)) ∙ first-other _ _ _ (c .before .before .before .before .pre) (c .before .before .if1 .taken)
+returns c = ap Judged.Refused (c .unless-unread .ensures ∙ ap (λ (x : Refusal). firstUnread (scanFrom (c .before .before .before .before .args .s .now) (c .before .before .before .before .args .size) 1 511) x) (c .before .at .ensures)) ∙ first-other _ _ _ (c .before .before .before .before .pre) (c .before .before .if1 .taken)
 
 sub-end : tie.Need-sub-end
 sub-end c = omega (arith, (read-back (c .before .before .args .s .now) 0 (c .before .before .pre)) .least)
@@ -41,14 +41,14 @@ enum-known-known c = search needs
 enum-told : tie.Need-enum-told
 enum-told c = search needs
 
-refused-at-requires-2 : tie.Need-refused-at-requires-2
-refused-at-requires-2 c κs = search needs
+at-requires-2 : tie.Need-at-requires-2
+at-requires-2 c κs = search needs
 
 unless-unread-requires-2 : tie.Need-unless-unread-requires-2
 unless-unread-requires-2 c κs = (omega (arith, (read-back (c .before .before .before .before .before .before .before .args .s .now) 0 (c .before .before .before .before .before .before .before .pre)) .within), omega arith)
 
 returns-2 : tie.Need-returns-2
-returns-2 c = ap Judged.Refused (c .unless-unread2 .ensures ∙ ap (λ (x : Refusal). firstUnread (scanFrom (c .before .before .before .before .before .before .before .before .args .s .now) (c .before .before .before .before .before .before .before .before .args .size) 1 511) x) (c .before .refused-at2 .ensures)) ∙ first-untyped _ _ _ (c .before .before .before .before .before .before .before .before .pre) (c .before .before .before .before .before .before .if1 .left) _ (c .before .before .before .before .type-of .ensures) (c .before .before .enum-told .given .1)
+returns-2 c = ap Judged.Refused (c .unless-unread2 .ensures ∙ ap (λ (x : Refusal). firstUnread (scanFrom (c .before .before .before .before .before .before .before .before .args .s .now) (c .before .before .before .before .before .before .before .before .args .size) 1 511) x) (c .before .at2 .ensures)) ∙ first-untyped _ _ _ (c .before .before .before .before .before .before .before .before .pre) (c .before .before .before .before .before .before .if1 .left) _ (c .before .before .before .before .type-of .ensures) (c .before .before .enum-told .given .1)
 
 second-line-requires : tie.Need-second-line-requires
 second-line-requires c κs = (first-start _ _ _ (c .before .before .before .before .before .before .before .pre) (c .before .before .before .before .before .if1 .left) _ (c .before .before .before .type-of .ensures) _ (c .before .known .given .1), first-named _ _ _ (c .before .before .before .before .before .before .before .pre) (c .before .before .before .before .before .if1 .left) _ (c .before .before .before .type-of .ensures) _ (c .before .known .given .1))
@@ -60,7 +60,7 @@ pub first-line-spec : {M : Type 1} → statement M
 first-line-spec =
     tie.close
     (tie.spec
-    refused-at-requires
+    at-requires
     unless-unread-requires
     returns
     sub-end
@@ -70,7 +70,7 @@ first-line-spec =
     type-of-requires
     enum-known-known
     enum-told
-    refused-at-requires-2
+    at-requires-2
     unless-unread-requires-2
     returns-2
     second-line-requires

@@ -7,11 +7,11 @@ use Rattle.judge.proofs.JudgeLaws.{judge-is}
 use Rattle.judge.proofs.judge.Statement.{statement}
 use Rattle.judge.proofs.judge.Tie as tie
 
-refused-at-requires : tie.Need-refused-at-requires
-refused-at-requires c κs = search needs
+at-requires : tie.Need-at-requires
+at-requires c κs = search needs
 
 returns : tie.Need-returns
-returns c = ap Judged.Refused (c .refused-at .ensures) ∙ (judge-empty _ (c .before .if1 .taken) ∙ judge-is _)
+returns c = ap Judged.Refused (c .at .ensures) ∙ (judge-empty _ (c .before .if1 .taken) ∙ judge-is _)
 
 line-at-requires : tie.Need-line-at-requires
 line-at-requires c κs = search needs
@@ -35,7 +35,7 @@ pub judge-spec : {M : Type 1} → statement M
 judge-spec =
     tie.close
     (tie.spec
-    refused-at-requires
+    at-requires
     returns
     line-at-requires
     enum-known-r

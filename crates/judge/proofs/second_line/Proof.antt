@@ -11,8 +11,8 @@ use Rattle.judge.proofs.StartLaws.{second-none, second-other, second-su
 use Rattle.judge.proofs.second_line.Statement.{statement}
 use Rattle.judge.proofs.second_line.Tie as tie
 
-refused-at-requires : tie.Need-refused-at-requires
-refused-at-requires c κs = search needs
+at-requires : tie.Need-at-requires
+at-requires c κs = search needs
 
 add-number-at : tie.Need-add-number-at
 add-number-at c = omega (arith, read-back (c .before .before .args .s .now) 0 (c .before .before .pre .0) .within)
@@ -30,13 +30,13 @@ unless-unread-requires : tie.Need-unless-unread-requires
 unless-unread-requires c κs = (omega (arith, read-back (c .before .before .before .before .before .args .s .now) 0 (c .before .before .before .before .before .pre .0) .within), omega arith)
 
 returns : tie.Need-returns
-returns c = ap Judged.Refused (c .unless-unread .ensures ∙ ap (λ (x : Refusal). firstUnread (scanFrom (c .before .before .before .before .before .before .args .s .now) (c .before .before .before .before .before .before .args .at) 1 511) x) (c .before .before .before .before .refused-at .ensures)) ∙ second-none _ _ _ (c .before .before .before .before .before .before .pre .0) (sym (c .before .before .before .number-at .ensures) ∙ c .before .enum-told .given .1)
+returns c = ap Judged.Refused (c .unless-unread .ensures ∙ ap (λ (x : Refusal). firstUnread (scanFrom (c .before .before .before .before .before .before .args .s .now) (c .before .before .before .before .before .before .args .at) 1 511) x) (c .before .before .before .before .at .ensures)) ∙ second-none _ _ _ (c .before .before .before .before .before .before .pre .0) (sym (c .before .before .before .number-at .ensures) ∙ c .before .enum-told .given .1)
 
 unless-unread-requires-2 : tie.Need-unless-unread-requires-2
 unless-unread-requires-2 c κs = (omega (arith, read-back (c .before .before .before .before .before .before .before .args .s .now) 0 (c .before .before .before .before .before .before .before .pre .0) .within), omega arith)
 
 returns-2 : tie.Need-returns-2
-returns-2 c = ap Judged.Refused (c .unless-unread2 .ensures ∙ ap (λ (x : Refusal). firstUnread (scanFrom (c .before .before .before .before .before .before .before .before .args .s .now) (c .before .before .before .before .before .before .before .before .args .at) 1 511) x) (c .before .before .before .before .before .before .refused-at .ensures)) ∙ second-other _ _ _ (c .before .before .before .before .before .before .before .before .pre .0) _ (sym (c .before .before .before .before .before .number-at .ensures) ∙ c .before .before .before .number .given .1) (c .before .if1 .taken)
+returns-2 c = ap Judged.Refused (c .unless-unread2 .ensures ∙ ap (λ (x : Refusal). firstUnread (scanFrom (c .before .before .before .before .before .before .before .before .args .s .now) (c .before .before .before .before .before .before .before .before .args .at) 1 511) x) (c .before .before .before .before .before .before .at .ensures)) ∙ second-other _ _ _ (c .before .before .before .before .before .before .before .before .pre .0) _ (sym (c .before .before .before .before .before .number-at .ensures) ∙ c .before .before .before .number .given .1) (c .before .if1 .taken)
 
 summed-requires : tie.Need-summed-requires
 summed-requires c κs = (c .before .before .before .before .before .before .before .pre .0, c .before .before .before .before .before .before .before .pre .1)
@@ -48,7 +48,7 @@ pub second-line-spec : {M : Type 1} → statement M
 second-line-spec =
     tie.close
     (tie.spec
-    refused-at-requires
+    at-requires
     add-number-at
     number-at-requires
     enum-known-number

@@ -11,21 +11,21 @@ use Rattle.judge_lines.proofs.pass.Statement.{statement}
 use Rattle.judge_lines.proofs.pass.Tie as tie
 
 abbrev Inv-loop : tie.InvT-loop
-Inv-loop s kind start members₀ top₀ group₀ at₀ lines₀ members top group at lines =
-    Along s kind at lines (stateOf group members top) (group .lack)
+Inv-loop s settype start members₀ top₀ group₀ at₀ lines₀ members top group at lines =
+    Along s settype at lines (stateOf group members top) (group .lack)
 
 abbrev μ-loop : tie.MeasureT-loop
-μ-loop s kind start members₀ top₀ group₀ at₀ lines₀ members top group at lines =
+μ-loop s settype start members₀ top₀ group₀ at₀ lines₀ members top group at lines =
     maxLines - lines
 
 mark-requires : tie.Need-mark-requires Inv-loop μ-loop
 mark-requires c κs = search needs
 
-nothing-requires : tie.Need-nothing-requires Inv-loop μ-loop
-nothing-requires c κs = search needs
+none-requires : tie.Need-none-requires Inv-loop μ-loop
+none-requires c κs = search needs
 
 loop-holds : tie.Need-loop-holds Inv-loop μ-loop
-loop-holds c = along-start _ _ _ (c .before .before .before .before .pre .0) (c .before .before .before .before .pre .1) (c .nothing .ensures) (c .before .mark .ensures)
+loop-holds c = along-start _ _ _ (c .before .before .before .before .pre .0) (c .before .before .before .before .pre .1) (c .none .ensures) (c .before .mark .ensures)
 
 next-line-requires : tie.Need-next-line-requires Inv-loop μ-loop
 next-line-requires c κs = search needs
@@ -64,7 +64,7 @@ pass-spec =
     Inv-loop
     μ-loop
     mark-requires
-    nothing-requires
+    none-requires
     loop-holds
     next-line-requires
     ended-requires

@@ -1,7 +1,8 @@
 -- `finish_at` says what the set lacks, else what its first group lacks.
 use borrow.Author.Needs.{needs}
 use borrow.Author.Tests.{ne-eqb}
-use Rattle.judge_missing.specs.Lacks.{orElse, finish}
+use Rattle.meaning.specs.Answers.{orElse}
+use Rattle.judge_missing.specs.Lacks.{finish}
 use Rattle.judge_missing.proofs.finish_at.Statement.{statement}
 use Rattle.judge_missing.proofs.finish_at.Tie as tie
 

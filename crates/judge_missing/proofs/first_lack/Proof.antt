@@ -1,7 +1,8 @@
 -- `first_lack` keeps the lack that was found, else asks the open group.
 use borrow.Author.Needs.{needs}
 use borrow.Author.Tests.{ne-eqb}
-use Rattle.judge_missing.specs.Lacks.{orElse, openLack, firstLack}
+use Rattle.meaning.specs.Answers.{orElse}
+use Rattle.judge_missing.specs.Lacks.{openLack, firstLack}
 use Rattle.judge_missing.proofs.first_lack.Statement.{statement}
 use Rattle.judge_missing.proofs.first_lack.Tie as tie
 
@@ -9,12 +10,12 @@ returns : tie.Need-returns
 unfolding firstLack openLack orElse
 returns c = rw (ne-eqb _ _ (c .if1 .taken))
 
-nothing-requires : tie.Need-nothing-requires
-nothing-requires c κs = search needs
+none-requires : tie.Need-none-requires
+none-requires c κs = search needs
 
 returns-2 : tie.Need-returns-2
 unfolding firstLack openLack orElse
-returns-2 c = rw (c .before .before .before .if1 .left, c .before .if2 .taken) (c .nothing .ensures)
+returns-2 c = rw (c .before .before .before .if1 .left, c .before .if2 .taken) (c .none .ensures)
 
 group-lack-requires : tie.Need-group-lack-requires
 group-lack-requires c κs = search needs
@@ -25,4 +26,4 @@ returns-3 c = rw (c .before .before .before .if1 .left, ne-eqb _ _ (c .before .i
 
 pub first-lack-spec : {M : Type 1} → statement M
 first-lack-spec =
-    tie.close (tie.spec returns nothing-requires returns-2 group-lack-requires returns-3)
+    tie.close (tie.spec returns none-requires returns-2 group-lack-requires returns-3)

@@ -16,12 +16,12 @@ has-requires-2 c κs = search needs
 has-requires-3 : tie.Need-has-requires-3
 has-requires-3 c κs = search needs
 
-nothing-requires : tie.Need-nothing-requires
-nothing-requires c κs = search needs
+none-requires : tie.Need-none-requires
+none-requires c κs = search needs
 
 returns : tie.Need-returns
 unfolding lack6302 seen numberOf numberFrom fieldTable
-returns c = rw (sym (c .before .before .before .before .before .before .has .ensures) ∙ c .before .before .before .before .before .if1 .taken, sym (c .before .before .before .before .has2 .ensures) ∙ c .before .before .before .if2 .taken, sym (c .before .before .has3 .ensures) ∙ c .before .if3 .taken) (c .nothing .ensures)
+returns c = rw (sym (c .before .before .before .before .before .before .has .ensures) ∙ c .before .before .before .before .before .if1 .taken, sym (c .before .before .before .before .has2 .ensures) ∙ c .before .before .before .if2 .taken, sym (c .before .before .has3 .ensures) ∙ c .before .if3 .taken) (c .none .ensures)
 
 missing-requires : tie.Need-missing-requires
 missing-requires c κs = search needs
@@ -51,7 +51,7 @@ lack-6302-spec =
     has-requires
     has-requires-2
     has-requires-3
-    nothing-requires
+    none-requires
     returns
     missing-requires
     returns-2

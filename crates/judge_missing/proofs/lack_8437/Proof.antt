@@ -13,12 +13,12 @@ has-requires c κs = search needs
 has-requires-2 : tie.Need-has-requires-2
 has-requires-2 c κs = search needs
 
-nothing-requires : tie.Need-nothing-requires
-nothing-requires c κs = search needs
+none-requires : tie.Need-none-requires
+none-requires c κs = search needs
 
 returns : tie.Need-returns
 unfolding lack8437 seen numberOf numberFrom fieldTable
-returns c = rw (sym (c .before .before .before .before .has .ensures) ∙ c .before .before .before .if1 .taken, sym (c .before .before .has2 .ensures) ∙ c .before .if2 .taken) (c .nothing .ensures)
+returns c = rw (sym (c .before .before .before .before .has .ensures) ∙ c .before .before .before .if1 .taken, sym (c .before .before .has2 .ensures) ∙ c .before .if2 .taken) (c .none .ensures)
 
 missing-requires : tie.Need-missing-requires
 missing-requires c κs = search needs
@@ -27,12 +27,12 @@ returns-2 : tie.Need-returns-2
 unfolding lack8437 seen numberOf numberFrom fieldTable
 returns-2 c = rw (sym (c .before .before .before .before .has .ensures) ∙ c .before .before .before .if1 .taken, sym (c .before .before .has2 .ensures) ∙ c .before .if2 .left) (c .missing .ensures)
 
-nothing-requires-2 : tie.Need-nothing-requires-2
-nothing-requires-2 c κs = search needs
+none-requires-2 : tie.Need-none-requires-2
+none-requires-2 c κs = search needs
 
 returns-3 : tie.Need-returns-3
 unfolding lack8437 seen numberOf numberFrom fieldTable
-returns-3 c = rw (sym (c .before .before .has .ensures) ∙ c .before .if1 .left) (c .nothing2 .ensures)
+returns-3 c = rw (sym (c .before .before .has .ensures) ∙ c .before .if1 .left) (c .none2 .ensures)
 
 pub lack-8437-spec : {M : Type 1} → statement M
 lack-8437-spec =
@@ -40,9 +40,9 @@ lack-8437-spec =
     (tie.spec
     has-requires
     has-requires-2
-    nothing-requires
+    none-requires
     returns
     missing-requires
     returns-2
-    nothing-requires-2
+    none-requires-2
     returns-3)

@@ -89,8 +89,8 @@ returns-4 c =
     )
     (c .missing4 .ensures)
 
-nothing-requires : tie.Need-nothing-requires
-nothing-requires c κs = search needs
+none-requires : tie.Need-none-requires
+none-requires c κs = search needs
 
 returns-5 : tie.Need-returns-5
 unfolding lackAll seen numberOf numberFrom fieldTable
@@ -109,7 +109,7 @@ returns-5 c =
       sym (at-has3 .has3 .ensures) ∙ not-false _ (at-if3 .if3 .left),
       sym (at-has4 .has4 .ensures) ∙ not-false _ (at-if4 .if4 .left),
     )
-    (c .nothing .ensures)
+    (c .none .ensures)
 
 pub lack-basic-spec : {M : Type 1} → statement M
 lack-basic-spec =
@@ -127,5 +127,5 @@ lack-basic-spec =
     has-requires-4
     missing-requires-4
     returns-4
-    nothing-requires
+    none-requires
     returns-5)

@@ -10,12 +10,12 @@ use Rattle.judge_missing.proofs.lack_name.Tie as tie
 has-requires : tie.Need-has-requires
 has-requires c κs = search needs
 
-nothing-requires : tie.Need-nothing-requires
-nothing-requires c κs = search needs
+none-requires : tie.Need-none-requires
+none-requires c κs = search needs
 
 returns : tie.Need-returns
 unfolding lackName seen numberOf numberFrom fieldTable
-returns c = rw (sym (c .before .before .has .ensures) ∙ c .before .if1 .taken) (c .nothing .ensures)
+returns c = rw (sym (c .before .before .has .ensures) ∙ c .before .if1 .taken) (c .none .ensures)
 
 add-missing : tie.Need-add-missing
 add-missing c = search needs
@@ -30,4 +30,4 @@ returns-2 c = rw (sym (c .before .before .has .ensures) ∙ c .before .if1 .left
 pub lack-name-spec : {M : Type 1} → statement M
 lack-name-spec =
     tie.close
-    (tie.spec has-requires nothing-requires returns add-missing missing-requires returns-2)
+    (tie.spec has-requires none-requires returns add-missing missing-requires returns-2)

@@ -182,8 +182,8 @@ returns-7 c =
     )
     (c .missing7 .ensures)
 
-nothing-requires : tie.Need-nothing-requires
-nothing-requires c κs = search needs
+none-requires : tie.Need-none-requires
+none-requires c κs = search needs
 
 returns-8 : tie.Need-returns-8
 unfolding lackAll seen numberOf numberFrom fieldTable
@@ -211,7 +211,7 @@ returns-8 c =
       sym (at-has6 .has6 .ensures) ∙ not-false _ (at-if6 .if6 .left),
       sym (at-has7 .has7 .ensures) ∙ not-false _ (at-if7 .if7 .left),
     )
-    (c .nothing .ensures)
+    (c .none .ensures)
 
 pub lack-patient-spec : {M : Type 1} → statement M
 lack-patient-spec =
@@ -238,5 +238,5 @@ lack-patient-spec =
     has-requires-7
     missing-requires-7
     returns-7
-    nothing-requires
+    none-requires
     returns-8)

@@ -117,8 +117,8 @@ returns-5 c =
     )
     (c .missing5 .ensures)
 
-nothing-requires : tie.Need-nothing-requires
-nothing-requires c κs = search needs
+none-requires : tie.Need-none-requires
+none-requires c κs = search needs
 
 returns-6 : tie.Need-returns-6
 unfolding lackAll seen numberOf numberFrom fieldTable
@@ -140,7 +140,7 @@ returns-6 c =
       sym (at-has4 .has4 .ensures) ∙ not-false _ (at-if4 .if4 .left),
       sym (at-has5 .has5 .ensures) ∙ not-false _ (at-if5 .if5 .left),
     )
-    (c .nothing .ensures)
+    (c .none .ensures)
 
 pub lack-test-spec : {M : Type 1} → statement M
 lack-test-spec =
@@ -161,5 +161,5 @@ lack-test-spec =
     has-requires-5
     missing-requires-5
     returns-5
-    nothing-requires
+    none-requires
     returns-6)

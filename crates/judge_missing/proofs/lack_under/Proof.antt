@@ -31,13 +31,13 @@ lack-name-requires c κs = name-below _ (sym (c .before .before .is-pair .ensure
 returns-3 : tie.Need-returns-3
 returns-3 c = c .lack-name .ensures ∙ under-name _ _ _ (sym (c .before .before .before .is-pair .ensures) ∙ c .before .before .if3 .taken) (c .before .if4 .taken)
 
-nothing-requires : tie.Need-nothing-requires
-nothing-requires c κs = search needs
+none-requires : tie.Need-none-requires
+none-requires c κs = search needs
 
 returns-4 : tie.Need-returns-4
 returns-4 c =
     let is-pair = c .before .before .is-pair .ensures in
-    c .nothing .ensures
+    c .none .ensures
     ∙ ⊎-elim (λ w. under-odd _ _ _ (sym is-pair ∙ w .0 .taken) (w .1 .left))
     (λ w. under-other _ _ _ (c .before .before .before .before .if1 .left) (c .before .before .before .if2 .left) (sym is-pair ∙ w .left)) (c .before .if3 .came)
 
@@ -52,5 +52,5 @@ lack-under-spec =
     is-pair-requires
     lack-name-requires
     returns-3
-    nothing-requires
+    none-requires
     returns-4)

@@ -14,26 +14,26 @@ number-at-requires c κs = search needs
 enum-known-sum : tie.Need-enum-known-sum
 enum-known-sum c = search needs
 
-nothing-requires : tie.Need-nothing-requires
-nothing-requires c κs = search needs
+none-requires : tie.Need-none-requires
+none-requires c κs = search needs
 
 returns : tie.Need-returns
-returns c = c .nothing .ensures ∙ sum-right _ _ _ _ (sym (c .before .before .before .before .before .number-at .ensures) ∙ c .before .before .before .sum .given .1) (c .before .if1 .taken)
+returns c = c .none .ensures ∙ sum-right _ _ _ _ (sym (c .before .before .before .before .before .number-at .ensures) ∙ c .before .before .before .sum .given .1) (c .before .if1 .taken)
 
-refused-at-requires : tie.Need-refused-at-requires
-refused-at-requires c κs = search needs
+at-requires : tie.Need-at-requires
+at-requires c κs = search needs
 
 enum-told : tie.Need-enum-told
 enum-told c = search needs
 
-refused-at-requires-2 : tie.Need-refused-at-requires-2
-refused-at-requires-2 c κs = search needs
+at-requires-2 : tie.Need-at-requires-2
+at-requires-2 c κs = search needs
 
 returns-2 : tie.Need-returns-2
-returns-2 c = c .refused-at .ensures ∙ sum-wrong _ _ _ _ (sym (c .before .before .before .before .before .number-at .ensures) ∙ c .before .before .before .sum .given .1) (c .before .if1 .left)
+returns-2 c = c .at .ensures ∙ sum-wrong _ _ _ _ (sym (c .before .before .before .before .before .number-at .ensures) ∙ c .before .before .before .sum .given .1) (c .before .if1 .left)
 
 returns-3 : tie.Need-returns-3
-returns-3 c = c .refused-at2 .ensures ∙ sum-none _ _ _ (sym (c .before .before .before .number-at .ensures) ∙ c .before .enum-told .given .1)
+returns-3 c = c .at2 .ensures ∙ sum-none _ _ _ (sym (c .before .before .before .number-at .ensures) ∙ c .before .enum-told .given .1)
 
 pub sum-at-spec : {M : Type 1} → statement M
 sum-at-spec =
@@ -42,10 +42,10 @@ sum-at-spec =
     add-number-at
     number-at-requires
     enum-known-sum
-    nothing-requires
+    none-requires
     returns
-    refused-at-requires
+    at-requires
     enum-told
-    refused-at-requires-2
+    at-requires-2
     returns-2
     returns-3)

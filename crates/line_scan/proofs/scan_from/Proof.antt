@@ -1,11 +1,12 @@
 -- `scan_from` is the walk `scanFrom`: the scan of the lines that are left is the scan of all.
-use mathlib.Core.Path.{_≡_, refl, sym, _∙_}
+use mathlib.Core.Path.{_≡_, refl, sym, ap, _∙_}
 use Prim.Native.Nat.{_-_, _≤_}
 use native.Mathlib.Omega.{arith}
 use borrow.Author.Needs.{needs}
 use lib.ListN.{length}
 use Rattle.meaning.specs.Limits.{maxLines}
 use Rattle.line_read.proofs.Bridge.{read-back}
+use Rattle.line_scan.specs.declared.Scan.the-variants.{Refused}
 use Rattle.line_scan.specs.Scan.{scanFrom}
 use Rattle.line_scan.proofs.Laws.{scan-done, scan-full, scan-bad, scan-further}
 use Rattle.line_scan.proofs.scan_from.Statement.{statement}
@@ -30,11 +31,15 @@ returns c =
     let e = sym (c .before .ends-at .ensures) ∙ c .if1 .taken in
     sym (scan-done _ _ (l .lines) _ e) ∙ l .inv .2
 
+at-requires : tie.Need-at-requires Inv-loop μ-loop
+at-requires c κs = search needs
+
 returns-2 : tie.Need-returns-2 Inv-loop μ-loop
 returns-2 c =
-    let l = c .before .before .before .loop in
-    let e = sym (c .before .before .ends-at .ensures) ∙ c .before .if1 .left in
-    sym (scan-full _ _ (l .lines) (omega arith) e) ∙ l .inv .2
+    let at-if1 = c .before .before in
+    let l = at-if1 .before .before .loop in
+    let e = sym (at-if1 .before .ends-at .ensures) ∙ at-if1 .if1 .left in
+    ap Refused (c .at .ensures) ∙ (sym (scan-full _ _ (l .lines) (omega arith) e) ∙ l .inv .2)
 
 line-at-requires : tie.Need-line-at-requires Inv-loop μ-loop
 line-at-requires c κs = search needs
@@ -77,6 +82,7 @@ scan-from-spec =
     loop-holds
     ends-at-requires
     returns
+    at-requires
     returns-2
     line-at-requires
     enum-known-r

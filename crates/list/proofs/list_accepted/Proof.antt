@@ -31,15 +31,15 @@ sub-need-3 c =
     let e = entries-are (b4 .args .set .now) (b4 .args .shape) (b4 .pre) in
     omega (arith, e .some, e .few, e .long)
 
-refused-at-requires : tie.Need-refused-at-requires
-refused-at-requires c κs = search needs
+at-requires : tie.Need-at-requires
+at-requires c κs = search needs
 
 returns : tie.Need-returns
 returns c =
     let b6 = c .before .before .before .before .before .before in
     let a = b6 .args in
     let r = answer-full (a .set .now) (a .shape) (b6 .pre) (a .out .now) _ refl (c .before .if1 .taken) in
-    (ap Refused (c .refused-at .ensures) ∙ r .0, r .1)
+    (ap Refused (c .at .ensures) ∙ r .0, r .1)
 
 put-entries-requires : tie.Need-put-entries-requires
 put-entries-requires c κs =
@@ -77,7 +77,7 @@ list-accepted-spec =
     sub-need-2
     mul-need
     sub-need-3
-    refused-at-requires
+    at-requires
     returns
     put-entries-requires
     sub-clear

@@ -9,8 +9,7 @@ use Rattle.line_read.proofs.Bridge.{read-back}
 use Rattle.byte_put.specs.Places.{over}
 use Rattle.byte_put.proofs.OverLaws.{over-none}
 use Rattle.list.specs.Listing.{AllRead, entriesFrom}
-use Rattle.list.proofs.PartLaws.{content-length}
-use Rattle.list.proofs.ListLaws.{all-told, all-within, entries-end, line-fits, line-short, put-turn}
+use Rattle.list.proofs.ListLaws.{all-told, all-within, content-length, entries-end, line-fits, line-short, put-turn}
 use Rattle.list.proofs.put_entries.Statement.{statement}
 use Rattle.list.proofs.put_entries.Tie as tie
 

@@ -2,7 +2,7 @@
 use mathlib.Core.Path.{sym, _∙_}
 use native.Mathlib.Omega.{arith}
 use borrow.Author.Needs.{needs}
-use Rattle.table_floats.proofs.Laws.{decimals-some, decimals-none}
+use Rattle.table_floats.proofs.FloatLaws.{decimals-some, decimals-none}
 use Rattle.table_floats.proofs.decimals_from.Statement.{statement}
 use Rattle.table_floats.proofs.decimals_from.Tie as tie
 

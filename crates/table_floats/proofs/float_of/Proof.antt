@@ -2,7 +2,7 @@
 use mathlib.Core.Path.{sym, ap, _∙_}
 use borrow.Author.Needs.{needs}
 use Rattle.table_floats.specs.Floats.{floatIf, floatOf}
-use Rattle.table_floats.proofs.Laws.{float-minus, float-plain}
+use Rattle.table_floats.proofs.FloatLaws.{float-minus, float-plain}
 use Rattle.table_floats.proofs.float_of.Statement.{statement}
 use Rattle.table_floats.proofs.float_of.Tie as tie
 

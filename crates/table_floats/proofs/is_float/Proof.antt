@@ -1,7 +1,7 @@
 -- `is_float` reads the answer of the float test.
 use mathlib.Core.Path.{sym, _∙_}
 use borrow.Author.Needs.{needs}
-use Rattle.table_floats.proofs.Laws.{float-is, float-not}
+use Rattle.table_floats.proofs.FloatLaws.{float-is, float-not}
 use Rattle.table_floats.proofs.is_float.Statement.{statement}
 use Rattle.table_floats.proofs.is_float.Tie as tie
 

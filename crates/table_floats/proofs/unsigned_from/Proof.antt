@@ -2,7 +2,7 @@
 use mathlib.Core.Path.{sym, _∙_}
 use native.Mathlib.Omega.{arith}
 use borrow.Author.Needs.{needs}
-use Rattle.table_floats.proofs.Laws.{unsigned-more, unsigned-stop, unsigned-none}
+use Rattle.table_floats.proofs.FloatLaws.{unsigned-more, unsigned-stop, unsigned-none}
 use Rattle.table_floats.proofs.unsigned_from.Statement.{statement}
 use Rattle.table_floats.proofs.unsigned_from.Tie as tie
 

@@ -5,7 +5,7 @@ use native.Mathlib.Omega.{arith}
 use lib.ListN.{length, drop}
 use borrow.Author.Needs.{needs}
 use Rattle.meaning.specs.Kinds.{whole}
-use Rattle.table_floats.proofs.Laws.{whole-more, whole-point, whole-stop, whole-end}
+use Rattle.table_floats.proofs.FloatLaws.{whole-more, whole-point, whole-stop, whole-end}
 use Rattle.table_floats.proofs.whole_from.Statement.{statement}
 use Rattle.table_floats.proofs.whole_from.Tie as tie
 

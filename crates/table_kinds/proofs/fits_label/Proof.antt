@@ -1,7 +1,7 @@
 -- `fits_label` asks the length, then the kind, by the code of the label's row.
 use mathlib.Core.Path.{sym, _∙_}
 use borrow.Author.Needs.{needs}
-use Rattle.table_kinds.proofs.Laws.{fits-not, fits-kind}
+use Rattle.table_kinds.proofs.FittingLaws.{fits-not, fits-kind}
 use Rattle.table_kinds.proofs.fits_label.Statement.{statement}
 use Rattle.table_kinds.proofs.fits_label.Tie as tie
 

@@ -5,7 +5,7 @@ use native.Mathlib.Omega.{arith}
 use lib.ListN.{length, drop}
 use borrow.Author.Needs.{needs}
 use Rattle.meaning.specs.Kinds.{sameBytes}
-use Rattle.table_kinds.proofs.Laws.{same-lengths, same-more, same-stop, same-end}
+use Rattle.table_kinds.proofs.FittingLaws.{same-lengths, same-more, same-stop, same-end}
 use Rattle.table_kinds.proofs.same_bytes.Statement.{statement}
 use Rattle.table_kinds.proofs.same_bytes.Tie as tie
 

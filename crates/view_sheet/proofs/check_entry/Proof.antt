@@ -1,10 +1,10 @@
 -- `check_entry`: a whole entry lies within the sheet, so its content can be lent; each return by the law of what speaks against it.
 use mathlib.Core.Path.{sym, _∙_}
 use Prim.Native.Nat.{_+_}
+use native.Mathlib.Nat.{add-sub-cancel-left}
 use native.Mathlib.Omega.{arith}
 use borrow.Author.Needs.{needs}
 use Rattle.entry_read.proofs.HeadLaws.{whole-back}
-use Rattle.view_part.proofs.PartLaws.{part-length}
 use Rattle.view_sheet.proofs.WalkLaws.{byte-within, check-cut, check-good, check-low, check-bad}
 use Rattle.view_sheet.proofs.check_entry.Statement.{statement}
 use Rattle.view_sheet.proofs.check_entry.Tie as tie
@@ -18,20 +18,20 @@ enum-told c = search needs
 bad-entry-requires : tie.Need-bad-entry-requires
 bad-entry-requires c κs = search needs
 
-enum-known-kind : tie.Need-enum-known-kind
-enum-known-kind c = search needs
+enum-known-named : tie.Need-enum-known-named
+enum-known-named c = search needs
 
 add-content : tie.Need-add-content
 add-content c =
     let a = c .before .before .before .before .before .before .args in
-    let e = sym (c .before .before .before .entry-at .ensures) ∙ c .before .kind .given .1 in
+    let e = sym (c .before .before .before .entry-at .ensures) ∙ c .before .named .given .1 in
     let w = whole-back (a .sheet .now) (a .at) e .within in
     omega (arith, w, c .before .before .before .before .before .before .fits, c .before .before .before .before .before .before .good)
 
 add-end : tie.Need-add-end
 add-end c =
     let a = c .before .before .before .before .before .before .args in
-    let e = sym (c .before .before .before .entry-at .ensures) ∙ c .before .kind .given .1 in
+    let e = sym (c .before .before .before .entry-at .ensures) ∙ c .before .named .given .1 in
     let w = whole-back (a .sheet .now) (a .at) e .within in
     omega (arith, w, c .before .before .before .before .before .before .fits, c .before .before .before .before .before .before .good)
 
@@ -44,7 +44,7 @@ part-judge-offer-start c = search needs
 part-judge-offer-end : tie.Need-part-judge-offer-end
 part-judge-offer-end c =
     let a = c .before .before .before .before .before .before .args in
-    let e = sym (c .before .before .before .entry-at .ensures) ∙ c .before .kind .given .1 in
+    let e = sym (c .before .before .before .entry-at .ensures) ∙ c .before .named .given .1 in
     let w = whole-back (a .sheet .now) (a .at) e .within in
     omega (arith, w)
 
@@ -53,16 +53,16 @@ judge-offer-requires c κs = search needs
 
 returns : tie.Need-returns
 returns c =
-    let e = sym (c .before .before .before .before .before .before .before .entry-at .ensures) ∙ c .before .before .before .before .before .kind .given .1 in
-    check-good _ _ _ _ _ _ e _ (part-length _ _) _ (c .before .before .judge-offer .ensures) (c .if1 .taken)
+    let e = sym (c .before .before .before .before .before .before .before .entry-at .ensures) ∙ c .before .before .before .before .before .named .given .1 in
+    check-good _ _ _ _ _ _ e _ (add-sub-cancel-left _ _) _ (c .before .before .judge-offer .ensures) (c .if1 .taken)
 
 add-bad-entry : tie.Need-add-bad-entry
 add-bad-entry c =
     let b = c .before .before .before .before .before in
     let a = b .before .before .before .before .before .before .before .before .args in
-    let e = sym (b .before .before .before .before .before .entry-at .ensures) ∙ b .before .before .before .kind .given .1 in
+    let e = sym (b .before .before .before .before .before .entry-at .ensures) ∙ b .before .before .before .named .given .1 in
     let w = whole-back (a .sheet .now) (a .at) e .within in
-    let q = b .before .before .before .kind .given .0 in
+    let q = b .before .before .before .named .given .0 in
     let o = b .judge-offer in
     let i = byte-within (a .set .now) (a .shape) (a .sheet .now) (a .at + 4) (q .0) (q .1 .0) (o .result) (o .ensures) in
     omega (arith, w, i, b .before .before .before .before .before .before .before .before .fits, b .before .before .before .before .before .before .before .before .good)
@@ -73,8 +73,8 @@ bad-entry-requires-2 c κs = search needs
 returns-2 : tie.Need-returns-2
 returns-2 c =
     let b = c .before .before .before .before in
-    let e = sym (b .before .before .before .before .before .before .before .entry-at .ensures) ∙ b .before .before .before .before .before .kind .given .1 in
-    c .bad-entry2 .ensures ∙ check-low _ _ _ _ _ _ e _ (part-length _ _) _ (b .before .before .judge-offer .ensures) (b .if1 .left) (c .before .before .if2 .taken)
+    let e = sym (b .before .before .before .before .before .before .before .entry-at .ensures) ∙ b .before .before .before .before .before .named .given .1 in
+    c .bad-entry2 .ensures ∙ check-low _ _ _ _ _ _ e _ (add-sub-cancel-left _ _) _ (b .before .before .judge-offer .ensures) (b .if1 .left) (c .before .before .if2 .taken)
 
 bad-entry-requires-3 : tie.Need-bad-entry-requires-3
 bad-entry-requires-3 c κs = search needs
@@ -85,8 +85,8 @@ returns-3 c = c .bad-entry .ensures ∙ check-cut _ _ _ _ (sym (c .before .befor
 returns-4 : tie.Need-returns-4
 returns-4 c =
     let b = c .before .before .before .before .before in
-    let e = sym (b .before .before .before .before .before .entry-at .ensures) ∙ b .before .before .before .kind .given .1 in
-    c .bad-entry3 .ensures ∙ check-bad _ _ _ _ _ _ e _ (part-length _ _) _ (b .judge-offer .ensures) (c .before .before .before .if1 .left) (c .before .if2 .left)
+    let e = sym (b .before .before .before .before .before .entry-at .ensures) ∙ b .before .before .before .named .given .1 in
+    c .bad-entry3 .ensures ∙ check-bad _ _ _ _ _ _ e _ (add-sub-cancel-left _ _) _ (b .judge-offer .ensures) (c .before .before .before .if1 .left) (c .before .if2 .left)
 
 pub check-entry-spec : {M : Type 1} → statement M
 check-entry-spec =
@@ -95,7 +95,7 @@ check-entry-spec =
     entry-at-requires
     enum-told
     bad-entry-requires
-    enum-known-kind
+    enum-known-named
     add-content
     add-end
     sub-judge-offer

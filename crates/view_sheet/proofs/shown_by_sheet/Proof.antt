@@ -32,14 +32,14 @@ returns c =
     let e = sym (c .before .before .before .check-entry .ensures) ∙ c .before .r .given .1 in
     shown-bad _ _ _ _ (l .inv .1) (l .at) (l .shown) (c .before .before .before .before .loop-test .taken) (l .inv .2) _ e ∙ l .inv .3
 
-enum-known-kind : tie.Need-enum-known-kind Inv-loop μ-loop
-enum-known-kind c = search needs
+enum-known-named : tie.Need-enum-known-named Inv-loop μ-loop
+enum-known-named c = search needs
 
 add-place : tie.Need-add-place Inv-loop μ-loop
 add-place c =
     let b = c .before .before .before .before .before in
     let a = b .before .before .before .args in
-    let e = sym (c .before .before .before .check-entry .ensures) ∙ c .before .kind .given .1 in
+    let e = sym (c .before .before .before .check-entry .ensures) ∙ c .before .named .given .1 in
     let w = check-within (a .set .now) (a .shape) (a .sheet .now) (b .loop .at) _ _ e in
     omega (arith, w, b .before .before .before .fits, b .before .before .before .good)
 
@@ -50,14 +50,14 @@ add-at : tie.Need-add-at Inv-loop μ-loop
 add-at c =
     let b = c .before .before .before .before in
     let a = b .before .before .before .before .before .args in
-    let e = sym (b .check-entry .ensures) ∙ c .before .before .kind .given .1 in
+    let e = sym (b .check-entry .ensures) ∙ c .before .before .named .given .1 in
     let w = check-within (a .set .now) (a .shape) (a .sheet .now) (b .before .before .loop .at) _ _ e in
     omega (arith, w, b .before .before .before .before .before .fits, b .before .before .before .before .before .good)
 
 loop-less : tie.Need-loop-less Inv-loop μ-loop
 loop-less c =
     let a = c .before .before .before .before .before .before .before .before .before .args in
-    let e = sym (c .before .before .before .before .check-entry .ensures) ∙ c .before .before .kind .given .1 in
+    let e = sym (c .before .before .before .before .check-entry .ensures) ∙ c .before .before .named .given .1 in
     let w = check-within (a .set .now) (a .shape) (a .sheet .now) (c .before .before .before .before .before .before .loop .at) _ _ e in
     omega (arith, w, c .before .before .before .before .before .loop-test .taken)
 
@@ -66,7 +66,7 @@ loop-again c =
     let a = c .before .before .before .before .before .before .before .before .before .args in
     let l = c .before .before .before .before .before .before .loop in
     let t = c .before .before .before .before .before .loop-test .taken in
-    let e = sym (c .before .before .before .before .check-entry .ensures) ∙ c .before .before .kind .given .1 in
+    let e = sym (c .before .before .before .before .check-entry .ensures) ∙ c .before .before .named .given .1 in
     let w = check-within (a .set .now) (a .shape) (a .sheet .now) (c .before .before .before .before .before .before .loop .at) _ _ e in (
       omega (arith, w),
       pred (l .inv .1),
@@ -89,7 +89,7 @@ shown-by-sheet-spec =
     check-entry-requires
     enum-known-r
     returns
-    enum-known-kind
+    enum-known-named
     add-place
     newer-part-requires
     add-at

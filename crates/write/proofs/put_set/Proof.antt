@@ -3,7 +3,7 @@ use mathlib.Core.Path.{_≡_, refl, sym, ap, _∙_}
 use mathlib.Core.List.{List}
 use Prim.Native.Nat.{ℕ, _+_, _-_, _≤_}
 use native.Mathlib.Omega.{arith}
-use native.Mathlib.Nat.{add-assoc}
+use native.Mathlib.Nat.{add-assoc, add-sub-cancel-left}
 use borrow.Author.Needs.{needs}
 use lib.ListN.{length}
 use Rattle.meaning.specs.Digits.{digits}
@@ -11,7 +11,6 @@ use Rattle.meaning.specs.Lists.{sumDigits}
 use Rattle.entry_read.proofs.HeadLaws.{whole-back}
 use Rattle.byte_put.specs.Places.{over}
 use Rattle.byte_put.proofs.OverLaws.{over-none}
-use Rattle.list.proofs.PartLaws.{part-length}
 use Rattle.write.specs.Writing.{linesLeft}
 use Rattle.write.proofs.WriteLaws.{lines-end, lines-cut, lines-fit, put-turn}
 use Rattle.write.proofs.put_set.Statement.{statement}
@@ -46,43 +45,43 @@ returns c =
     let l = b4 .loop in
     over-none (l .out) (l .to) ∙ (ap (λ (u : List ℕ). over (l .to) u (l .out)) (sym (lines-cut (a .list .now) (digits sumDigits (a .total)) (l .at) (b3 .loop-test .taken) (sym (c .before .before .entry-at .ensures) ∙ c .enum-told .given .1))) ∙ l .inv .3)
 
-enum-known-kind : tie.Need-enum-known-kind Inv-loop μ-loop
-enum-known-kind c = search needs
+enum-known-label : tie.Need-enum-known-label Inv-loop μ-loop
+enum-known-label c = search needs
 
 add-from : tie.Need-add-from Inv-loop μ-loop
 add-from c =
     let b3 = c .before .before .before in
     let b5 = b3 .before .before in
     let b8 = b5 .before .before .before in
-    omega (arith, whole-back (b8 .args .list .now) (b5 .loop .at) (sym (b3 .entry-at .ensures) ∙ c .before .kind .given .1) .within, b8 .good)
+    omega (arith, whole-back (b8 .args .list .now) (b5 .loop .at) (sym (b3 .entry-at .ensures) ∙ c .before .label .given .1) .within, b8 .good)
 
 add-end : tie.Need-add-end Inv-loop μ-loop
 add-end c =
     let b3 = c .before .before .before in
     let b5 = b3 .before .before in
     let b8 = b5 .before .before .before in
-    omega (arith, whole-back (b8 .args .list .now) (b5 .loop .at) (sym (b3 .entry-at .ensures) ∙ c .before .kind .given .1) .within, b8 .good)
+    omega (arith, whole-back (b8 .args .list .now) (b5 .loop .at) (sym (b3 .entry-at .ensures) ∙ c .before .label .given .1) .within, b8 .good)
 
 sub-put-lines : tie.Need-sub-put-lines Inv-loop μ-loop
 sub-put-lines c =
     let b3 = c .before .before .before in
     let b5 = b3 .before .before in
     let b8 = b5 .before .before .before in
-    omega (arith, whole-back (b8 .args .list .now) (b5 .loop .at) (sym (b3 .entry-at .ensures) ∙ c .before .kind .given .1) .within, b8 .good)
+    omega (arith, whole-back (b8 .args .list .now) (b5 .loop .at) (sym (b3 .entry-at .ensures) ∙ c .before .label .given .1) .within, b8 .good)
 
 part-put-lines-start : tie.Need-part-put-lines-start Inv-loop μ-loop
 part-put-lines-start c =
     let b3 = c .before .before .before in
     let b5 = b3 .before .before in
     let b8 = b5 .before .before .before in
-    omega (arith, whole-back (b8 .args .list .now) (b5 .loop .at) (sym (b3 .entry-at .ensures) ∙ c .before .kind .given .1) .within, b8 .good)
+    omega (arith, whole-back (b8 .args .list .now) (b5 .loop .at) (sym (b3 .entry-at .ensures) ∙ c .before .label .given .1) .within, b8 .good)
 
 part-put-lines-end : tie.Need-part-put-lines-end Inv-loop μ-loop
 part-put-lines-end c =
     let b3 = c .before .before .before in
     let b5 = b3 .before .before in
     let b8 = b5 .before .before .before in
-    omega (arith, whole-back (b8 .args .list .now) (b5 .loop .at) (sym (b3 .entry-at .ensures) ∙ c .before .kind .given .1) .within, b8 .good)
+    omega (arith, whole-back (b8 .args .list .now) (b5 .loop .at) (sym (b3 .entry-at .ensures) ∙ c .before .label .given .1) .within, b8 .good)
 
 put-lines-requires : tie.Need-put-lines-requires Inv-loop μ-loop
 put-lines-requires c κs =
@@ -93,7 +92,7 @@ put-lines-requires c κs =
     let b10 = b7 .before .before .before in
     let a = b10 .args in
     let l = b7 .loop in
-    lines-fit (a .list .now) (digits sumDigits (a .total)) (l .at) (b6 .loop-test .taken) (sym (b5 .entry-at .ensures) ∙ b3 .kind .given .1) _ (part-length _ _) _ (add-assoc (l .at) _ _) (l .out) (l .to) (l .inv .2)
+    lines-fit (a .list .now) (digits sumDigits (a .total)) (l .at) (b6 .loop-test .taken) (sym (b5 .entry-at .ensures) ∙ b3 .label .given .1) _ (add-sub-cancel-left _ _) _ (add-assoc (l .at) _ _) (l .out) (l .to) (l .inv .2)
 
 loop-less : tie.Need-loop-less Inv-loop μ-loop
 loop-less c =
@@ -102,7 +101,7 @@ loop-less c =
     let b9 = b8 .before in
     let b10 = b9 .before in
     let b13 = b10 .before .before .before in
-    omega (arith, b9 .loop-test .taken, whole-back (b13 .args .list .now) (b10 .loop .at) (sym (b8 .entry-at .ensures) ∙ b6 .kind .given .1) .within)
+    omega (arith, b9 .loop-test .taken, whole-back (b13 .args .list .now) (b10 .loop .at) (sym (b8 .entry-at .ensures) ∙ b6 .label .given .1) .within)
 
 loop-again : tie.Need-loop-again Inv-loop μ-loop
 loop-again c =
@@ -113,7 +112,7 @@ loop-again c =
     let b13 = b10 .before .before .before in
     let a = b13 .args in
     let l = b10 .loop in
-    let t = put-turn (a .list .now) (digits sumDigits (a .total)) (l .at) (b9 .loop-test .taken) (sym (b8 .entry-at .ensures) ∙ b6 .kind .given .1) _ (part-length _ _) _ (add-assoc (l .at) _ _) (l .out) (l .to) (l .inv .2) _ _ (c .before .before .put-lines .ensures .0) (c .before .before .put-lines .ensures .1) in (omega (arith, whole-back (a .list .now) (l .at) (sym (b8 .entry-at .ensures) ∙ b6 .kind .given .1) .within), t .same-room ∙ l .inv .1, t .has-room, t .same ∙ l .inv .3)
+    let t = put-turn (a .list .now) (digits sumDigits (a .total)) (l .at) (b9 .loop-test .taken) (sym (b8 .entry-at .ensures) ∙ b6 .label .given .1) _ (add-sub-cancel-left _ _) _ (add-assoc (l .at) _ _) (l .out) (l .to) (l .inv .2) _ _ (c .before .before .put-lines .ensures .0) (c .before .before .put-lines .ensures .1) in (omega (arith, whole-back (a .list .now) (l .at) (sym (b8 .entry-at .ensures) ∙ b6 .label .given .1) .within), t .same-room ∙ l .inv .1, t .has-room, t .same ∙ l .inv .3)
 
 same-length-2 : tie.Need-same-length-2 Inv-loop μ-loop
 same-length-2 c = c .before .loop .inv .1
@@ -136,7 +135,7 @@ put-set-spec =
     enum-told
     same-length
     returns
-    enum-known-kind
+    enum-known-label
     add-from
     add-end
     sub-put-lines

@@ -7,14 +7,14 @@ use Rattle.write.proofs.WriteLaws.{answer-empty, answer-refused}
 use Rattle.write.proofs.write.Statement.{statement}
 use Rattle.write.proofs.write.Tie as tie
 
-refused-at-requires : tie.Need-refused-at-requires
-refused-at-requires c κs = search needs
+at-requires : tie.Need-at-requires
+at-requires c κs = search needs
 
 returns : tie.Need-returns
 returns c =
     let b4 = c .before .before .before .before in
     let a = b4 .args in
-    let r = answer-empty (a .list .now) (a .out .now) (c .before .if1 .taken) in (ap Refused (c .refused-at .ensures) ∙ r .0, r .1)
+    let r = answer-empty (a .list .now) (a .out .now) (c .before .if1 .taken) in (ap Refused (c .at .ensures) ∙ r .0, r .1)
 
 judge-list-requires : tie.Need-judge-list-requires
 judge-list-requires c κs = search needs
@@ -49,7 +49,7 @@ pub write-spec : {M : Type 1} → statement M
 write-spec =
     tie.close
     (tie.spec
-    refused-at-requires
+    at-requires
     returns
     judge-list-requires
     enum-known-r

@@ -16,23 +16,23 @@ add-total c = omega (arith, not-many (c .before .before .args .list .now) (c .be
 add-total-2 : tie.Need-add-total-2
 add-total-2 c = omega (arith, not-many (c .before .before .args .list .now) (c .before .before .args .n) (c .before .before .pre .0) (c .before .before .pre .1), c .before .before .good)
 
-refused-at-requires : tie.Need-refused-at-requires
-refused-at-requires c κs = search needs
+at-requires : tie.Need-at-requires
+at-requires c κs = search needs
 
 returns : tie.Need-returns
 returns c =
     let b4 = c .before .before .before .before in
     let a = b4 .args in
-    let r = answer-full (a .list .now) (a .n) (b4 .pre .0) (b4 .pre .1) (a .out .now) (c .before .if1 .taken) in (ap Refused (c .refused-at .ensures) ∙ r .0, r .1)
+    let r = answer-full (a .list .now) (a .n) (b4 .pre .0) (b4 .pre .1) (a .out .now) (c .before .if1 .taken) in (ap Refused (c .at .ensures) ∙ r .0, r .1)
 
-refused-at-requires-2 : tie.Need-refused-at-requires-2
-refused-at-requires-2 c κs = search needs
+at-requires-2 : tie.Need-at-requires-2
+at-requires-2 c κs = search needs
 
 returns-2 : tie.Need-returns-2
 returns-2 c =
     let b5 = c .before .before .before .before .before in
     let a = b5 .args in
-    let r = answer-long (a .list .now) (a .n) (b5 .pre .0) (b5 .pre .1) (a .out .now) (c .before .before .if1 .left) (c .before .if2 .taken) in (ap Refused (c .refused-at2 .ensures) ∙ r .0, r .1)
+    let r = answer-long (a .list .now) (a .n) (b5 .pre .0) (b5 .pre .1) (a .out .now) (c .before .before .if1 .left) (c .before .if2 .taken) in (ap Refused (c .at2 .ensures) ∙ r .0, r .1)
 
 put-set-requires : tie.Need-put-set-requires
 put-set-requires c κs =
@@ -71,9 +71,9 @@ write-entries-spec =
     mul-total
     add-total
     add-total-2
-    refused-at-requires
+    at-requires
     returns
-    refused-at-requires-2
+    at-requires-2
     returns-2
     put-set-requires
     sub-clear

@@ -17,18 +17,18 @@ enum-known-label c = search needs
 enum-told : tie.Need-enum-told
 enum-told c = search needs
 
-refused-at-requires : tie.Need-refused-at-requires
-refused-at-requires c κs = search needs
+at-requires : tie.Need-at-requires
+at-requires c κs = search needs
 
 returns : tie.Need-returns
 returns c =
     let b3 = c .before .before .before in
     let b5 = b3 .before .before in
     let a = b5 .args in
-    ap Refused (c .refused-at .ensures) ∙ entry-cut (a .list .now) (a .at) (sym (b3 .entry-at .ensures) ∙ c .before .enum-told .given .1)
+    ap Refused (c .at .ensures) ∙ entry-cut (a .list .now) (a .at) (sym (b3 .entry-at .ensures) ∙ c .before .enum-told .given .1)
 
-refused-at-requires-2 : tie.Need-refused-at-requires-2
-refused-at-requires-2 c κs = search needs
+at-requires-2 : tie.Need-at-requires-2
+at-requires-2 c κs = search needs
 
 returns-2 : tie.Need-returns-2
 returns-2 c =
@@ -36,7 +36,7 @@ returns-2 c =
     let b5 = b3 .before .before in
     let b7 = b5 .before .before in
     let a = b7 .args in
-    ap Refused (c .refused-at2 .ensures) ∙ label-over (a .list .now) (a .at) (sym (b5 .entry-at .ensures) ∙ b3 .label .given .1) (c .before .if1 .taken)
+    ap Refused (c .at2 .ensures) ∙ label-over (a .list .now) (a .at) (sym (b5 .entry-at .ensures) ∙ b3 .label .given .1) (c .before .if1 .taken)
 
 add-content : tie.Need-add-content
 add-content c =
@@ -60,8 +60,8 @@ add-if2 c =
     let a = b7 .args in
     omega (arith, whole-back (a .list .now) (a .at) (sym (b5 .entry-at .ensures) ∙ b3 .label .given .1) .within, b7 .good)
 
-refused-at-requires-3 : tie.Need-refused-at-requires-3
-refused-at-requires-3 c κs = search needs
+at-requires-3 : tie.Need-at-requires-3
+at-requires-3 c κs = search needs
 
 returns-3 : tie.Need-returns-3
 returns-3 c =
@@ -70,7 +70,7 @@ returns-3 c =
     let b7 = b5 .before .before in
     let b9 = b7 .before .before in
     let a = b9 .args in
-    ap Refused (c .refused-at3 .ensures) ∙ content-low (a .list .now) (a .at) (sym (b7 .entry-at .ensures) ∙ b5 .label .given .1) (b3 .if1 .left) _ (c .before .before .first-low .ensures) (c .before .if2 .taken)
+    ap Refused (c .at3 .ensures) ∙ content-low (a .list .now) (a .at) (sym (b7 .entry-at .ensures) ∙ b5 .label .given .1) (b3 .if1 .left) _ (c .before .before .first-low .ensures) (c .before .if2 .taken)
 
 returns-4 : tie.Need-returns-4
 returns-4 c =
@@ -87,13 +87,13 @@ check-entry-spec =
     entry-at-requires
     enum-known-label
     enum-told
-    refused-at-requires
+    at-requires
     returns
-    refused-at-requires-2
+    at-requires-2
     returns-2
     add-content
     first-low-requires
     add-if2
-    refused-at-requires-3
+    at-requires-3
     returns-3
     returns-4)

@@ -11,8 +11,8 @@ use Rattle.write_judge.proofs.OnceLaws.{list-other, list-unknown, list-
 use Rattle.write_judge.proofs.first_entry.Statement.{statement}
 use Rattle.write_judge.proofs.first_entry.Tie as tie
 
-refused-at-requires : tie.Need-refused-at-requires
-refused-at-requires c κs = search needs
+at-requires : tie.Need-at-requires
+at-requires c κs = search needs
 
 check-then-requires : tie.Need-check-then-requires
 check-then-requires c κs = search needs
@@ -21,7 +21,7 @@ returns : tie.Need-returns
 returns c =
     let b4 = c .before .before .before .before in
     let a = b4 .args in
-    c .check-then .ensures ∙ (ap (λ (r : Refusal). entriesLeft (a .list .now) T6300 r started noRefusal 0 0) (c .before .refused-at .ensures) ∙ list-other (a .list .now) (a .label) (a .bytes) (c .before .before .if1 .taken))
+    c .check-then .ensures ∙ (ap (λ (r : Refusal). entriesLeft (a .list .now) T6300 r started noRefusal 0 0) (c .before .at .ensures) ∙ list-other (a .list .now) (a .label) (a .bytes) (c .before .before .if1 .taken))
 
 add-end : tie.Need-add-end
 add-end c = omega (arith, whole-back (c .before .before .args .list .now) 0 (c .before .before .pre) .within, c .before .before .good)
@@ -38,14 +38,14 @@ part-type-of-end c = omega (arith, whole-back (c .before .before .args .list .no
 type-of-requires : tie.Need-type-of-requires
 type-of-requires c κs = search needs
 
-enum-known-kind : tie.Need-enum-known-kind
-enum-known-kind c = search needs
+enum-known-settype : tie.Need-enum-known-settype
+enum-known-settype c = search needs
 
 enum-told : tie.Need-enum-told
 enum-told c = search needs
 
-refused-at-requires-2 : tie.Need-refused-at-requires-2
-refused-at-requires-2 c κs = search needs
+at-requires-2 : tie.Need-at-requires-2
+at-requires-2 c κs = search needs
 
 check-then-requires-2 : tie.Need-check-then-requires-2
 check-then-requires-2 c κs = search needs
@@ -56,10 +56,10 @@ returns-2 c =
     let b6 = b4 .before .before in
     let b8 = b6 .before .before in
     let a = b8 .args in
-    c .check-then2 .ensures ∙ (ap (λ (r : Refusal). entriesLeft (a .list .now) T6300 r started noRefusal 0 0) (c .before .refused-at2 .ensures) ∙ list-unknown (a .list .now) (a .label) (a .bytes) (b6 .if1 .left) (sym (b4 .type-of .ensures) ∙ c .before .before .enum-told .given .1))
+    c .check-then2 .ensures ∙ (ap (λ (r : Refusal). entriesLeft (a .list .now) T6300 r started noRefusal 0 0) (c .before .at2 .ensures) ∙ list-unknown (a .list .now) (a .label) (a .bytes) (b6 .if1 .left) (sym (b4 .type-of .ensures) ∙ c .before .before .enum-told .given .1))
 
-nothing-requires : tie.Need-nothing-requires
-nothing-requires c κs = search needs
+none-requires : tie.Need-none-requires
+none-requires c κs = search needs
 
 pass-entries-requires : tie.Need-pass-entries-requires
 pass-entries-requires c κs =
@@ -73,13 +73,13 @@ returns-3 c =
     let b7 = b5 .before .before in
     let b9 = b7 .before .before in
     let a = b9 .args in
-    c .pass-entries .ensures ∙ list-known (a .list .now) (a .label) (a .bytes) (b7 .if1 .left) _ (c .before .nothing .ensures) (b9 .pre) (sym (b5 .type-of .ensures) ∙ b3 .kind .given .1)
+    c .pass-entries .ensures ∙ list-known (a .list .now) (a .label) (a .bytes) (b7 .if1 .left) _ (c .before .none .ensures) (b9 .pre) (sym (b5 .type-of .ensures) ∙ b3 .settype .given .1)
 
 pub first-entry-spec : {M : Type 1} → statement M
 first-entry-spec =
     tie.close
     (tie.spec
-    refused-at-requires
+    at-requires
     check-then-requires
     returns
     add-end
@@ -87,11 +87,11 @@ first-entry-spec =
     part-type-of-start
     part-type-of-end
     type-of-requires
-    enum-known-kind
+    enum-known-settype
     enum-told
-    refused-at-requires-2
+    at-requires-2
     check-then-requires-2
     returns-2
-    nothing-requires
+    none-requires
     pass-entries-requires
     returns-3)

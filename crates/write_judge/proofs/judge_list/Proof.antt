@@ -9,8 +9,8 @@ use Rattle.write_judge.proofs.judge_list.Tie as tie
 breaks-off-requires : tie.Need-breaks-off-requires
 breaks-off-requires c κs = search needs
 
-refused-at-requires : tie.Need-refused-at-requires
-refused-at-requires c κs = search needs
+at-requires : tie.Need-at-requires
+at-requires c κs = search needs
 
 check-then-requires : tie.Need-check-then-requires
 check-then-requires c κs = search needs
@@ -28,42 +28,42 @@ entry-at-requires c κs = search needs
 enum-told : tie.Need-enum-told
 enum-told c = search needs
 
-refused-at-requires-2 : tie.Need-refused-at-requires-2
-refused-at-requires-2 c κs = search needs
+at-requires-2 : tie.Need-at-requires-2
+at-requires-2 c κs = search needs
 
-enum-known-kind : tie.Need-enum-known-kind
-enum-known-kind c = search needs
+enum-known-label : tie.Need-enum-known-label
+enum-known-label c = search needs
 
 first-entry-requires : tie.Need-first-entry-requires
 first-entry-requires c κs =
     let b3 = c .before .before .before in
-    sym (b3 .entry-at .ensures) ∙ c .before .kind .given .1
+    sym (b3 .entry-at .ensures) ∙ c .before .label .given .1
 
 returns-2 : tie.Need-returns-2
 returns-2 c =
     let b3 = c .before .before .before in
     let b7 = b3 .before .before .before .before in
-    ap Refused (c .refused-at2 .ensures) ∙ list-cut (b7 .args .list .now) (sym (b3 .entry-at .ensures) ∙ c .before .enum-told .given .1)
+    ap Refused (c .at2 .ensures) ∙ list-cut (b7 .args .list .now) (sym (b3 .entry-at .ensures) ∙ c .before .enum-told .given .1)
 
 returns-3 : tie.Need-returns-3
 returns-3 c =
     let b2 = c .before .before in
     let b4 = b2 .before .before in
     let b8 = b4 .before .before .before .before in
-    c .first-entry .ensures ∙ list-whole (b8 .args .list .now) (sym (b4 .entry-at .ensures) ∙ b2 .kind .given .1)
+    c .first-entry .ensures ∙ list-whole (b8 .args .list .now) (sym (b4 .entry-at .ensures) ∙ b2 .label .given .1)
 
 pub judge-list-spec : {M : Type 1} → statement M
 judge-list-spec =
     tie.close
     (tie.spec
     breaks-off-requires
-    refused-at-requires
+    at-requires
     check-then-requires
     returns
     entry-at-requires
     enum-told
-    refused-at-requires-2
-    enum-known-kind
+    at-requires-2
+    enum-known-label
     first-entry-requires
     returns-2
     returns-3)

@@ -15,10 +15,10 @@ use Rattle.write_judge.proofs.pass_entries.Statement.{statement}
 use Rattle.write_judge.proofs.pass_entries.Tie as tie
 
 abbrev Inv-loop : tie.InvT-loop
-Inv-loop list kind start before members₀ top₀ turn₀ at₀ n₀ members top turn at n = (at ≤ length list) × (n ≤ maxEntries) × (entriesLeft list kind (turn .late) (stateOf (turn .group) members top) (turn .group .lack) at n ≡ entriesLeft list kind (turn₀ .late) (stateOf (turn₀ .group) members₀ top₀) (turn₀ .group .lack) start before)
+Inv-loop list settype start before members₀ top₀ turn₀ at₀ n₀ members top turn at n = (at ≤ length list) × (n ≤ maxEntries) × (entriesLeft list settype (turn .late) (stateOf (turn .group) members top) (turn .group .lack) at n ≡ entriesLeft list settype (turn₀ .late) (stateOf (turn₀ .group) members₀ top₀) (turn₀ .group .lack) start before)
 
 abbrev μ-loop : tie.MeasureT-loop
-μ-loop list kind start before members₀ top₀ turn₀ at₀ n₀ members top turn at n = maxEntries - n
+μ-loop list settype start before members₀ top₀ turn₀ at₀ n₀ members top turn at n = maxEntries - n
 
 array-write-top : tie.Need-array-write-top Inv-loop μ-loop
 array-write-top c = search needs
@@ -26,14 +26,14 @@ array-write-top c = search needs
 array-write-top-2 : tie.Need-array-write-top-2 Inv-loop μ-loop
 array-write-top-2 c = search needs
 
-nothing-requires : tie.Need-nothing-requires Inv-loop μ-loop
-nothing-requires c κs = search needs
+none-requires : tie.Need-none-requires Inv-loop μ-loop
+none-requires c κs = search needs
 
 loop-holds : tie.Need-loop-holds Inv-loop μ-loop
 loop-holds c = (c .before .before .pre .0, c .before .before .pre .1, refl)
 
-refused-at-requires : tie.Need-refused-at-requires Inv-loop μ-loop
-refused-at-requires c κs = search needs
+at-requires : tie.Need-at-requires Inv-loop μ-loop
+at-requires c κs = search needs
 
 returns : tie.Need-returns Inv-loop μ-loop
 returns c =
@@ -42,7 +42,7 @@ returns c =
     let b6 = b4 .before .before in
     let a = b6 .args in
     let l = b3 .loop in
-    ap Refused (c .refused-at .ensures) ∙ (left-full (a .list .now) (a .kind) (l .turn .late) (stateOf (l .turn .group) (l .members) (l .top)) (l .turn .group .lack) (l .at) (l .n) (c .before .before .loop-test .taken) (c .before .if1 .taken) ∙ (l .inv .2 ∙ ap (λ (r : Refusal). entriesLeft (a .list .now) (a .kind) (a .late) started r (a .start) (a .before)) (b4 .nothing .ensures)))
+    ap Refused (c .at .ensures) ∙ (left-full (a .list .now) (a .settype) (l .turn .late) (stateOf (l .turn .group) (l .members) (l .top)) (l .turn .group .lack) (l .at) (l .n) (c .before .before .loop-test .taken) (c .before .if1 .taken) ∙ (l .inv .2 ∙ ap (λ (r : Refusal). entriesLeft (a .list .now) (a .settype) (a .late) started r (a .start) (a .before)) (b4 .none .ensures)))
 
 check-entry-requires : tie.Need-check-entry-requires Inv-loop μ-loop
 check-entry-requires c κs = search needs
@@ -60,7 +60,7 @@ returns-2 c =
     let b9 = b7 .before .before in
     let a = b9 .args in
     let l = b6 .loop in
-    left-unchecked (a .list .now) (a .kind) (l .turn .late) (stateOf (l .turn .group) (l .members) (l .top)) (l .turn .group .lack) (l .at) (l .n) (b5 .loop-test .taken) (omega (arith, b4 .if1 .left)) (sym (b3 .check-entry .ensures) ∙ c .before .r .given .1) ∙ (l .inv .2 ∙ ap (λ (r : Refusal). entriesLeft (a .list .now) (a .kind) (a .late) started r (a .start) (a .before)) (b7 .nothing .ensures))
+    left-unchecked (a .list .now) (a .settype) (l .turn .late) (stateOf (l .turn .group) (l .members) (l .top)) (l .turn .group .lack) (l .at) (l .n) (b5 .loop-test .taken) (omega (arith, b4 .if1 .left)) (sym (b3 .check-entry .ensures) ∙ c .before .r .given .1) ∙ (l .inv .2 ∙ ap (λ (r : Refusal). entriesLeft (a .list .now) (a .settype) (a .late) started r (a .start) (a .before)) (b7 .none .ensures))
 
 enum-known-label : tie.Need-enum-known-label Inv-loop μ-loop
 enum-known-label c = search needs
@@ -109,7 +109,7 @@ loop-again c =
     let b12 = b9 .before .before .before in
     let a = b12 .args in
     let l = b9 .loop in
-    (checked-within (a .list .now) (l .at) (sym (b6 .check-entry .ensures) ∙ b4 .label .given .1), omega (arith, b7 .if1 .left), sym (left-on (a .list .now) (a .kind) (l .at) (l .n) (b8 .loop-test .taken) (omega (arith, b7 .if1 .left)) _ _ (sym (b6 .check-entry .ensures) ∙ b4 .label .given .1) (l .turn) (l .members) (l .top) _ _ _ (c .judge-entry .ensures)) ∙ l .inv .2)
+    (checked-within (a .list .now) (l .at) (sym (b6 .check-entry .ensures) ∙ b4 .label .given .1), omega (arith, b7 .if1 .left), sym (left-on (a .list .now) (a .settype) (l .at) (l .n) (b8 .loop-test .taken) (omega (arith, b7 .if1 .left)) _ _ (sym (b6 .check-entry .ensures) ∙ b4 .label .given .1) (l .turn) (l .members) (l .top) _ _ _ (c .judge-entry .ensures)) ∙ l .inv .2)
 
 finished-requires : tie.Need-finished-requires Inv-loop μ-loop
 finished-requires c κs = search needs
@@ -122,7 +122,7 @@ returns-3 c =
     let b7 = b5 .before .before in
     let a = b7 .args in
     let l = b4 .loop in
-    c .finished .ensures ∙ (left-end (a .list .now) (a .kind) (l .turn .late) (stateOf (l .turn .group) (l .members) (l .top)) (l .turn .group .lack) (l .at) (l .n) (b3 .loop-test .left) ∙ (l .inv .2 ∙ ap (λ (r : Refusal). entriesLeft (a .list .now) (a .kind) (a .late) started r (a .start) (a .before)) (b5 .nothing .ensures)))
+    c .finished .ensures ∙ (left-end (a .list .now) (a .settype) (l .turn .late) (stateOf (l .turn .group) (l .members) (l .top)) (l .turn .group .lack) (l .at) (l .n) (b3 .loop-test .left) ∙ (l .inv .2 ∙ ap (λ (r : Refusal). entriesLeft (a .list .now) (a .settype) (a .late) started r (a .start) (a .before)) (b5 .none .ensures)))
 
 pub pass-entries-spec : {M : Type 1} → statement M
 pass-entries-spec =
@@ -132,9 +132,9 @@ pass-entries-spec =
     μ-loop
     array-write-top
     array-write-top-2
-    nothing-requires
+    none-requires
     loop-holds
-    refused-at-requires
+    at-requires
     returns
     check-entry-requires
     enum-known-r

@@ -5,9 +5,9 @@ use native.Mathlib.Omega.{arith}
 use lib.ListN.{length, drop}
 use borrow.Author.Needs.{needs}
 use Rattle.meaning.specs.Digits.{allDigits}
-use Rattle.table_floats.proofs.Laws.{digits-stop, digits-more, digits-end}
-use Rattle.table_floats.proofs.all_digits.Statement.{statement}
-use Rattle.table_floats.proofs.all_digits.Tie as tie
+use Rattle.byte_digits.proofs.AllDigitsLaws.{digits-stop, digits-more, digits-end}
+use Rattle.byte_digits.proofs.all_digits.Statement.{statement}
+use Rattle.byte_digits.proofs.all_digits.Tie as tie
 
 abbrev Inv-loop : tie.InvT-loop
 Inv-loop c from i₀ i = allDigits (drop i c) ≡ allDigits (drop from c)

@@ -1,4 +1,4 @@
--- What two bytes count as: the number of a digit, and where no byte is left.
+-- What two bytes count as: the number of a digit, and what no byte counts as.
 use mathlib.Core.Path.{_≡_}
 use mathlib.Core.Bool.{true}
 use mathlib.Core.List.{List}
@@ -18,7 +18,7 @@ digit-counts b e =
     let high : b ≤ 57 = leb-true b 57 (and-right (leb 48 b) (leb b 57) e) in
     (low, omega arith)
 
--- where no byte is left there is no number
+-- if no byte is left there is no number
 pub two-end : (c : List ℕ) (i : ℕ) → length c ≤ i → twoAt c i ≡ noNumber
 unfolding twoAt
 two-end c i h = rw (List·getD-eq-default c 0 {n = i} h)

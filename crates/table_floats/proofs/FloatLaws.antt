@@ -14,16 +14,10 @@ use Rattle.meaning.specs.Kinds.{point, minus, decimals, whole, unsigned, isFloa
 use Rattle.table_floats.specs.declared.Float.the-variants.{Is, Not}
 use Rattle.table_floats.specs.Floats.{floatIf, floatOf}
 
--- ---- digits
+-- ---- what is left from an offset on
 
--- where a byte is left: what it being a digit, a point or neither means for the rest
+-- if a byte is left: what it being a digit, a point or neither means for the rest
 module _ (c : List ℕ) (i : ℕ) (h : i < length c) where
-  pub digits-stop : digit (getD c i 0) ≡ false → allDigits (drop i c) ≡ false
-  digits-stop e = rw (drop-cons c i 0, e)
-
-  pub digits-more : digit (getD c i 0) ≡ true → allDigits (drop i c) ≡ allDigits (drop (i + 1) c)
-  digits-more e = rw (add-one, drop-cons c i 0, e)
-
   pub decimals-some : decimals (drop i c) ≡ allDigits (drop i c)
   unfolding decimals
   decimals-some = rw (drop-cons c i 0)
@@ -48,11 +42,8 @@ module _ (c : List ℕ) (i : ℕ) (h : i < length c) where
   unfolding unsigned
   unsigned-stop e = rw (drop-cons c i 0, e)
 
--- where no byte is left
+-- if no byte is left
 module _ (c : List ℕ) (i : ℕ) (h : length c ≤ i) where
-  pub digits-end : allDigits (drop i c) ≡ true
-  digits-end = rw (drop-of-length-le c h)
-
   pub decimals-none : decimals (drop i c) ≡ false
   unfolding decimals
   decimals-none = rw (drop-of-length-le c h)
@@ -67,7 +58,7 @@ module _ (c : List ℕ) (i : ℕ) (h : length c ≤ i) where
 
 -- ---- floats
 
--- behind a minus the rest has no sign
+-- after a minus the rest has no sign
 pub float-minus : (c : List ℕ) → getD c 0 0 ≡ minus → isFloat c ≡ unsigned (drop 1 c)
 unfolding isFloat unsigned
 float-minus [] e = refl

@@ -3,9 +3,9 @@ use mathlib.Core.Path.{sym, _∙_}
 use native.Mathlib.Omega.{arith}
 use borrow.Author.Needs.{needs}
 use Rattle.meaning.specs.Kinds.{twoAt}
-use Rattle.table_dates.proofs.Laws.{digit-counts}
-use Rattle.table_dates.proofs.two_digits.Statement.{statement}
-use Rattle.table_dates.proofs.two_digits.Tie as tie
+use Rattle.byte_digits.proofs.TwoDigitsLaws.{digit-counts}
+use Rattle.byte_digits.proofs.two_digits.Statement.{statement}
+use Rattle.byte_digits.proofs.two_digits.Tie as tie
 
 is-digit-requires : tie.Need-is-digit-requires
 is-digit-requires c κs = search needs

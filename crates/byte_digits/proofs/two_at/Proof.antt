@@ -3,9 +3,9 @@ use mathlib.Core.Path.{sym}
 use native.Mathlib.Omega.{arith}
 use borrow.Author.Needs.{needs}
 use Rattle.meaning.specs.Kinds.{twoAt}
-use Rattle.table_dates.proofs.Laws.{two-end}
-use Rattle.table_dates.proofs.two_at.Statement.{statement}
-use Rattle.table_dates.proofs.two_at.Tie as tie
+use Rattle.byte_digits.proofs.TwoDigitsLaws.{two-end}
+use Rattle.byte_digits.proofs.two_at.Statement.{statement}
+use Rattle.byte_digits.proofs.two_at.Tie as tie
 
 returns : tie.Need-returns
 returns c = sym (two-end _ (c .before .before .args .i) (omega arith))

@@ -1,10 +1,10 @@
--- `byte_at` is the element, or 0 behind the end.
+-- `byte_at` is the element, or 0 after the end.
 use mathlib.Core.Path.{refl, sym}
 use native.Mathlib.Omega.{arith}
 use lib.ListN.{List·getD-eq-default}
 use borrow.Author.Needs.{needs}
-use Rattle.table_floats.proofs.byte_at.Statement.{statement}
-use Rattle.table_floats.proofs.byte_at.Tie as tie
+use Rattle.byte_digits.proofs.byte_at.Statement.{statement}
+use Rattle.byte_digits.proofs.byte_at.Tie as tie
 
 returns : tie.Need-returns
 returns c = let a = c .before .args in sym (List·getD-eq-default (a .c .now) 0 {n = a .i} (omega arith))

@@ -1,14 +1,13 @@
--- The first fault of a list as a refusal, and of two lists behind each other.
+-- The first fault of a list as a refusal, and of two lists one after the other; the first of two refusals.
 use mathlib.Core.Path.{_≡_, refl, sym, ap, _∙_}
 use mathlib.Core.Bool.{Bool, true, false, cond}
 use mathlib.Core.List.{List, [], _∷_, _++_}
 use Prim.Native.Nat.{ℕ}
 use lib.Dec.{eqb}
 use borrow.Author.Tests.{eqb-true, eqb-false, ne-eqb}
 use Rattle.meaning.specs.declared.Refusal.{Refusal}
 use Rattle.meaning.specs.Refusals.{Spot, Fault, ask, refusal}
-use Rattle.meaning.specs.Answers.{noRefusal}
-use Rattle.judge_missing.specs.Lacks.{orElse}
+use Rattle.meaning.specs.Answers.{noRefusal, orElse}
 
 -- the first fault, with places found by `pl`
 abbrev pub firstOf : (ℕ → Spot → ℕ) → List Fault → Refusal
@@ -37,7 +36,7 @@ pub real-rule : (b : Bool) (x : Fault) (r : List Fault) → (x .no ≡ 0 → ⊥
 real-rule true x r h g = g
 real-rule false x r h g = h
 
--- a rule and those behind it
+-- a rule and those after it
 pub first-rule : (pl : ℕ → Spot → ℕ) (b : Bool) (x : Fault) (r : List Fault)
     → firstOf pl (ask b x ++ r) ≡ cond b (firstOf pl r) (refusal (x .no) (pl (x .line) (x .spot)) (x .label))
 first-rule pl true x r = refl
@@ -67,7 +66,7 @@ pub or-bad : (a b : Refusal) → (a .no ≡ 0 → ⊥) → orElse a b ≡ a
 unfolding orElse
 or-bad a b e = rw (ne-eqb (a .no) 0 e)
 
--- what follows a refusal counts only where there is none
+-- what follows a refusal counts only if there is none
 pub or-then : (a : Refusal) {x y : Refusal} → (a .no ≡ 0 → x ≡ y) → orElse a x ≡ orElse a y
 or-then a {x} {y} h = go (eqb (a .no) 0) refl
   where
