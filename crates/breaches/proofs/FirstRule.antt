@@ -1,5 +1,5 @@
 -- 11 to 15: the first fault of a line after lines without faults is a breach of its rule, and no rule of a smaller number is broken there.
-use mathlib.Core.Path.{_≡_, refl, sym, ap, _∙_, subst}
+use mathlib.Core.Path.{_≡_, refl, sym, ap, _∙_}
 use mathlib.Core.Bool.{Bool, true, false, cond, not, _||_, true≢false}
 use mathlib.Core.List.{List, [], _∷_, _++_, cons≢nil}
 use mathlib.Core.Logic.{_⊎_, inl, inr, _≢_}
@@ -22,12 +22,12 @@ use Rattle.meaning.specs.Rules.{fits, current, contentFaults, contentRules, lin
 use Rattle.meaning.proofs.FaultLaws.{append-none}
 use Rattle.meaning.proofs.RuleLaws.{line-fits}
 use Rattle.keeps.specs.Keeps.{HasRow, Repeats}
-use Rattle.keeps.proofs.TableFacts.{le-cases, no-absurd, one-row, row-regular, not-0, not-6330, odd-row-odd}
+use Rattle.keeps.proofs.TableFacts.{no-absurd, one-row, row-regular, not-0, not-6330, odd-row-odd}
 use Rattle.keeps.proofs.StateLaws.{roleBehind, stateAt, Behind, Stands, at-set-level, in-open, behind-name, role-top, role-open, role-odd}
 use Rattle.keeps.proofs.LabelLaws.{LabelFine, row-there, in-its-group, after-its-name, repeats-in-set, repeats-in-group, stands, open-header, open-name, again-top, again-member, again-odd, behind-fine}
 use Rattle.keeps.proofs.RulesExact.{typed, faultsAt, rules-step, rules-end, version-current, version-at}
 use Rattle.breaches.specs.Breaches.{Single, RuleBreach, not-in-set, stray-member, stray-odd, again-in-set, again-in-group, bad-content, other-version, ruleNumber}
-use Rattle.breaches.proofs.FirstLine.{same-head, head-append, ask-head}
+use Rattle.breaches.proofs.FirstLine.{same-head, head-append, ask-head, none-to-next}
 
 none-row : {r : Row} → _≡_ {A = Option Row} none (some r) → ⊥
 none-row e = let z : _≡_ {A = ℕ} 0 1 = cc in omega arith
@@ -256,18 +256,11 @@ module _ (t : SetType) (fs : List Field) where
   first-from zero i x xs e h q = absurd (cons≢nil (sym q ∙ rules-end t fs i (omega arith)))
   first-from (suc n) i x xs e h q = go (first-from n (suc i) x xs (omega arith)) (head-append (faultsAt t fs i) _ x xs (sym (rules-step t fs i (omega arith)) ∙ q))
     where
-      more : faultsAt t fs i ≡ [] → (j : ℕ) → j < suc i → faultsAt t fs j ≡ []
-      more z j l = which (le-cases j i (omega arith))
-        where
-          which : (j < i) ⊎ (j ≡ i) → faultsAt t fs j ≡ []
-          which (inl p) = h j p
-          which (inr p) = subst (λ (m : ℕ). faultsAt t fs m ≡ []) (sym p) z
-
       go : (((j : ℕ) → j < suc i → faultsAt t fs j ≡ []) → rulesFrom (typed t) (stateAt t fs (suc i)) (suc i) (drop (suc i) fs) ≡ x ∷ xs → FirstFault x)
           → ((ys : List Fault) × (faultsAt t fs i ≡ x ∷ ys))
           ⊎ ((faultsAt t fs i ≡ []) × (rulesFrom (typed t) (stateAt t fs (suc i)) (suc i) (drop (suc i) fs) ≡ x ∷ xs)) → FirstFault x
       go ih (inl p) = record { at-line = i; inside = omega arith; before-fine = h; others = p .0; its-faults = p .1 }
-      go ih (inr p) = ih (more (p .0)) (p .1)
+      go ih (inr p) = ih (none-to-next (faultsAt t fs) i h (p .0)) (p .1)
 
   pub first-fault : (x : Fault) (xs : List Fault) → rulesFrom (typed t) first 0 fs ≡ x ∷ xs → FirstFault x
   unfolding stateAt
