@@ -17,21 +17,20 @@ use Rattle.meaning.specs.Limits.{maxLines, typeNumber}
 use Rattle.meaning.specs.Refusals.{refusal, empty, noStart, unknownSet, noSum}
 use Rattle.meaning.specs.Lines.{lengthDigits, labelDigits}
 use Rattle.meaning.specs.Rules.{typeNamed}
-use Rattle.meaning.specs.Answers.{noRefusal, orElse}
+use Rattle.meaning.specs.Answers.{orElse}
 use Rattle.line_read.specs.declared.Number.the-variants.{Is, None}
 use Rattle.line_read.specs.declared.Line.{Line}
 use Rattle.line_read.specs.declared.Line.the-variants.{Read, Refused}
 use Rattle.line_read.specs.Number.{numberAt}
 use Rattle.line_read.specs.Line.{lineAt, contentOf}
-use Rattle.line_read.proofs.Bridge.{read-back}
+use Rattle.line_read.proofs.Bridge.{read-back, label-read}
 use Rattle.line_scan.specs.declared.Scan.{Scan}
 use Rattle.line_scan.specs.declared.Scan.the-variants.{Done}
-use Rattle.line_scan.specs.Scan.{endsAt, scanFrom, scanSet}
-use Rattle.line_scan.proofs.Laws.{scan-bad, scan-further}
-use Rattle.judge_missing.specs.Lacks.{begin}
+use Rattle.line_scan.specs.Scan.{endsAt, scanFrom, scanSet, Stops}
+use Rattle.line_scan.proofs.Laws.{scan-bad, scan-further, scan-first, stops-unread, Counts, scan-counts}
+use Rattle.line_scan.proofs.Bridge.{ends-label}
 use Rattle.judge_start.specs.Sum.{sumWalk}
-use Rattle.judge_lines.specs.Pass.{afterLine, passFrom, firstUnread, doneUnless, Stops, passed}
-use Rattle.judge_lines.proofs.OnceLaws.{Counts, scan-counts, label-read, ends-label, stops-unread, scan-first}
+use Rattle.judge_lines.specs.Pass.{afterLine, passSet, firstUnread, doneUnless, passed}
 use Rattle.judge.specs.Walks.{ruledWalk, secondBy, secondWalk, asJudged, typedBy, firstBy, linesWalk, judgedScan, judgeWalk}
 
 -- ---- what the scan leaves to be judged
@@ -56,7 +55,7 @@ module _ (s : List ℕ) (settype : SetType) (at : ℕ) where
   summed-is (Done total lines) = go (eqb (P .no) 0) refl
     where
       P : Refusal
-      P = passFrom s settype 0 begin noRefusal lines
+      P = passSet s settype lines
 
       go : (b : Bool) → eqb (P .no) 0 ≡ b
           → judgedScan (cond b (Done total lines) (Scan.Refused P)) (λ total lines. asJudged (sumWalk s at total) settype total lines)

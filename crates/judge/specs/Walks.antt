@@ -12,20 +12,19 @@ use Rattle.meaning.specs.declared.SetType.{SetType}
 use Rattle.meaning.specs.Limits.{typeNumber}
 use Rattle.meaning.specs.Refusals.{refusal, noStart, unknownSet, noSum}
 use Rattle.meaning.specs.Rules.{typeNamed}
-use Rattle.meaning.specs.Answers.{noRefusal, orElse}
+use Rattle.meaning.specs.Answers.{orElse}
 use Rattle.line_read.specs.declared.Line.{Line}
 use Rattle.line_read.specs.declared.Line.the-variants.{Read, Refused}
 use Rattle.line_read.specs.Line.{lineAt, contentOf}
 use Rattle.line_scan.specs.declared.Scan.{Scan}
 use Rattle.line_scan.specs.declared.Scan.the-variants.{Done}
 use Rattle.line_scan.specs.Scan.{scanSet}
-use Rattle.judge_missing.specs.Lacks.{begin}
 use Rattle.judge_start.specs.Sum.{sumWalk}
-use Rattle.judge_lines.specs.Pass.{afterLine, passFrom}
+use Rattle.judge_lines.specs.Pass.{afterLine, passSet}
 
 -- 11 to 17, where line 2 is 8100 and stands at `at`: 17 is asked only where the pass found nothing
 abbrev pub ruledWalk : List ℕ → SetType → ℕ → ℕ → ℕ → Refusal
-ruledWalk s settype at total lines = orElse (passFrom s settype 0 begin noRefusal lines) (sumWalk s at total)
+ruledWalk s settype at total lines = orElse (passSet s settype lines) (sumWalk s at total)
 
 -- 10 to 17, where line 2 has this label
 unfoldable pub secondBy : List ℕ → SetType → ℕ → ℕ → ℕ → ℕ → Refusal

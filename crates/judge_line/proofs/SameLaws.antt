@@ -18,16 +18,18 @@ use Rattle.meaning.specs.Kinds.{is0210}
 use Rattle.meaning.specs.FieldTable.{fitsLabel}
 use Rattle.meaning.specs.Tables.{table, rowLabel, isPairLabel, setLevel, find}
 use Rattle.meaning.specs.Groups as G
-use Rattle.meaning.specs.Groups.{Role, unknown, strayed, atSetLevel, member, belongs, roleOf, role, next, after, labelFaults, noHeader}
-use Rattle.meaning.specs.Missing.{lacking, among, openLacking, stays, groupsLacking}
+use Rattle.meaning.specs.Groups.{first, Role, unknown, strayed, atSetLevel, member, belongs, roleOf, role, next, after, labelFaults, noHeader}
+use Rattle.meaning.specs.Missing.{lacking, among, openLacking, stays, groupsLacking, missingFaults}
 use Rattle.meaning.specs.Rules.{Profile, roleIn, fits, current, contentFaults, contentRules, lineRules, rulesFrom}
 use Rattle.meaning.specs.Answers.{noRefusal, orElse}
-use Rattle.table_find.specs.LookUp.{Found, At, Nothing, justRow, numberOf}
+use Rattle.table_fields.specs.LabelNumbers.{labelNumber}
+use Rattle.table_find.specs.LookUp.{Found, At, Nothing, justRow}
 use Rattle.table_find.proofs.Laws.{find-is, found-number, row-below}
 use Rattle.judge_missing.specs.Lacks.{rowCount, State, noFlags, seen, openLack, firstLack, lackAll, requiredLabels, setLack, finish}
-use Rattle.meaning.proofs.FirstLaws.{firstOf, Real, first-append, real-append, real-ask, or-assoc, or-none, or-bad}
+use Rattle.meaning.proofs.FirstLaws.{firstOf, first-append, or-assoc, or-none, or-bad}
+use Rattle.meaning.proofs.RealLaws.{real-label, real-line, real-rules, real-lacking, real-open, faultsAfterStart, ofType}
 use Rattle.judge_missing.proofs.FlagLaws.{Flags, flags-mark, flags-none, Same}
-use Rattle.judge_missing.proofs.LackLaws.{set-lack, open-is, real-open}
+use Rattle.judge_missing.proofs.LackLaws.{set-lack, open-is}
 use Rattle.judge_line.specs.Steps.{rowOf, againNo, placeNo, labelNo, versionNo, contentNo, lineNo, nextState, staysIn, lackThen}
 
 -- a number as a refusal of the line at `at` with label l; 0 is none
@@ -87,34 +89,6 @@ rules-by true b r p ms k f = refl
 rules-by false true r p ms k f = refl
 rules-by false false r p ms k f = refl
 
-real-label : (o : Role) (ms : G.State) (k l : ℕ) → Real (labelFaults o ms k l)
-unfolding labelFaults
-real-label unknown ms k l = λ z. omega arith
-real-label strayed ms k l = λ z. omega arith
-real-label (atSetLevel r) ms k l = real-ask (r .many || not (elem (r .label) (ms .top))) (atLine repeated k l) (λ z. omega arith)
-real-label (member r) ms k l = real-ask (r .many || not (elem (r .label) (ms .members))) (atLine repeated k l) (λ z. omega arith)
-
-real-content : (p : Profile) (k : ℕ) (f : Field) → Real (contentFaults p k f)
-unfolding contentFaults
-real-content p k f = go (fits p f)
-  where
-    go : (b : Bool) → Real (cond b (ask (current p f) (atLine otherVersion k (f .label))) (atLine badContent k (f .label) ∷ []))
-    go true = real-ask (current p f) (atLine otherVersion k (f .label)) (λ z. omega arith)
-    go false = λ z. omega arith
-
-pub real-line : (o : Role) (p : Profile) (ms : G.State) (k : ℕ) (f : Field) → Real (lineRules o p ms k f)
-unfolding lineRules contentRules labelFaults
-real-line unknown p ms k f = λ z. omega arith
-real-line strayed p ms k f = λ z. omega arith
-real-line (atSetLevel r) p ms k f = real-append (labelFaults (atSetLevel r) ms k (f .label)) _ (real-label (atSetLevel r) ms k (f .label)) (real-content p k f)
-real-line (member r) p ms k f = real-append (labelFaults (member r) ms k (f .label)) _ (real-label (member r) ms k (f .label)) (real-content p k f)
-
-pub real-rules : (p : Profile) (ms : G.State) (k : ℕ) (fs : List Field) → Real (rulesFrom p ms k fs)
-unfolding rulesFrom
-real-rules p ms k [] = tt
-real-rules p ms k (f ∷ fs) =
-    real-append (lineRules (roleIn p ms f) p ms k f) _ (real-line (roleIn p ms f) p ms k f) (real-rules p (next (roleIn p ms f) ms k (f .label)) (k + 1) fs)
-
 -- ---- one line, by what the table has for it
 
 -- what a line's number, next state and staying tell, where the states say the same
@@ -140,7 +114,7 @@ module _ (pl : ℕ → Spot → ℕ) (st : State) (ms : G.State) (s : Same pl st
     stays-so = λ z. absurd (omega arith);
   }
 
-  module _ (i : ℕ) (r : Row) (q : i ≡ numberOf (r .label)) (few : i < rowCount) where
+  module _ (i : ℕ) (r : Row) (q : i ≡ labelNumber (r .label)) (few : i < rowCount) where
     seen-so : (on : List Bool) (ls : List ℕ) → Flags on ls → getD on i false ≡ elem (r .label) ls
     unfolding seen
     seen-so on ls fl = ap (λ (n : ℕ). getD on n false) q ∙ fl .same (r .label)
@@ -306,3 +280,16 @@ module _ (settype : SetType) (pl : ℕ → Spot → ℕ) where
       (ap (λ (has : ℕ → Bool). lackAll has (requiredLabels settype)) (λ i l. sm .top .same l i) ∙ set-lack (among (ms .top)) pl z settype)
       (ap (orElse lack) (open-is settype pl st ms sm))
       ∙ sym (or-none _)
+
+-- ---- all lines of a set
+
+-- what the pass finds over all lines of a set
+pub whole-found : (settype : SetType) (pl : ℕ → Spot → ℕ) (fs : List Field) → whole settype pl first 0 fs noRefusal ≡ firstOf pl (faultsAfterStart (ofType settype) fs)
+unfolding missingFaults
+whole-found settype pl fs =
+    let p : Profile = ofType settype in
+    let tops : List Fault = lacking (table settype) setLevel 0 (among (after (table settype) first 0 (labels fs) .top)) in
+    let groups : List Fault = groupsLacking (table settype) first 0 (labels fs) in
+    ap (λ (x : Refusal). orElse (firstOf pl (rulesFrom p first 0 fs)) (orElse (firstOf pl tops) x)) (or-none (firstOf pl groups))
+    ∙ (ap (orElse (firstOf pl (rulesFrom p first 0 fs))) (sym (first-append pl tops groups (real-lacking (table settype) setLevel 0 (among (after (table settype) first 0 (labels fs) .top)))))
+    ∙ sym (first-append pl (rulesFrom p first 0 fs) (tops ++ groups) (real-rules p first 0 fs)))

@@ -13,28 +13,31 @@ use Rattle.meaning.specs.Field.{Field}
 use Rattle.meaning.specs.Refusals.{start, refusal}
 use Rattle.meaning.specs.Lines.{lineLead, lineSize, size, offset, render}
 use Rattle.meaning.specs.Groups as G
+use Rattle.meaning.specs.Groups.{first}
+use Rattle.meaning.specs.Answers.{noRefusal}
 use Rattle.meaning.specs.Reading.{inSet}
 use Rattle.meaning.proofs.Bools.{Every}
+use Rattle.meaning.proofs.FirstLaws.{firstOf}
+use Rattle.meaning.proofs.RealLaws.{faultsAfterStart, ofType}
 use Rattle.meaning.proofs.LineLaws.{Sound}
-use Rattle.table_find.specs.LookUp.{Found}
 use Rattle.line_read.specs.declared.Line.the-variants.{Read}
 use Rattle.line_read.specs.Line.{lineAt, contentOf}
 use Rattle.line_read.proofs.Bridge.{read-line, read-back, reads-content, reads-on}
-use Rattle.judge_missing.specs.Lacks.{State, stateOf}
-use Rattle.judge_missing.proofs.FlagLaws.{Same}
+use Rattle.judge_missing.specs.Lacks.{State, begin, stateOf}
+use Rattle.judge_missing.proofs.FlagLaws.{Same, begin-same}
 use Rattle.judge_line.specs.declared.Step.{Step}
 use Rattle.judge_line.specs.Steps.{rowOf, lineNo, Stepped}
-use Rattle.judge_line.proofs.SameLaws.{whole, pass-line, pass-finish}
-use Rattle.judge_lines.specs.Pass.{passFrom}
+use Rattle.judge_line.proofs.SameLaws.{whole, pass-line, pass-finish, whole-found}
+use Rattle.judge_lines.specs.Pass.{passFrom, passSet}
 
 -- ---- the pass: one line more
 
 -- the content of a line is the part of the set that stands there
-pub step-line : {o : Found} {settype : SetType} {st : State} {lack : Refusal} {l : ℕ} {r : Step} {members top : List Bool} (s : List ℕ) (at size : ℕ) → 10 ≤ size
-    → Stepped o settype st lack at l (take (at + size - 2 - (at + 7)) (drop (at + lineLead) s)) r members top → Stepped o settype st lack at l (contentOf s at size) r members top
-step-line {o} {settype} {st} {lack} {l} {r} {members} {top} s at size h e =
+pub step-line : {settype : SetType} {st : State} {lack : Refusal} {l : ℕ} {r : Step} {members top : List Bool} (s : List ℕ) (at size : ℕ) → 10 ≤ size
+    → Stepped (rowOf settype l) settype st lack at l (take (at + size - 2 - (at + 7)) (drop (at + lineLead) s)) r members top → Stepped (rowOf settype l) settype st lack at l (contentOf s at size) r members top
+step-line {settype} {st} {lack} {l} {r} {members} {top} s at size h e =
     let m : at + size - 2 - (at + 7) ≡ size - 9 = omega arith in
-    subst (λ (x : ℕ). Stepped o settype st lack at l (take x (drop (at + lineLead) s)) r members top) m e
+    subst (λ (x : ℕ). Stepped (rowOf settype l) settype st lack at l (take x (drop (at + lineLead) s)) r members top) m e
 
 module _ (s : List ℕ) (settype : SetType) (at : ℕ) (st : State) (lack : Refusal) (l size : ℕ) (q : lineAt s at ≡ Read l size) (r : Step) (members top : List Bool)
     (e : Stepped (rowOf settype l) settype st lack at l (contentOf s at size) r members top) where
@@ -78,3 +81,8 @@ module _ (s : List ℕ) (settype : SetType) (all : List Field) where
       (λ st′ ms′ lack′ sm′. pass-is fs t (at + lineSize f) (k + 1) st′ ms′ lack′ (h .1) (reads-on s at f (render fs t) (h .0) w) fit
       (next-place at k f fs e d) (rw add-one (offset-next all k f fs d .1)) sm′) in
       rw (rd, reads-content s at f (render fs t) (h .0) w) go
+
+-- What the pass over a set finds is the first fault of 11 to 16.
+pub pass-found : (s : List ℕ) (settype : SetType) (fs : List Field) (t : List ℕ) → Every Sound fs → s ≡ render fs t
+    → passSet s settype (length fs) ≡ firstOf (inSet fs) (faultsAfterStart (ofType settype) fs)
+pass-found s settype fs t h w = pass-is s settype fs fs t 0 0 begin first noRefusal h w (omega arith) refl refl (begin-same (inSet fs) refl) ∙ whole-found settype (inSet fs) fs

@@ -14,7 +14,7 @@ use Rattle.line_read.specs.declared.Line.the-variants.{Read, Refused}
 use Rattle.line_read.specs.Line.{lineAt, contentOf}
 use Rattle.line_scan.specs.declared.Scan.{Scan}
 use Rattle.line_scan.specs.declared.Scan.the-variants.{Done}
-use Rattle.line_scan.specs.Scan.{scanFrom}
+use Rattle.line_scan.specs.Scan.{scanFrom, Stops}
 use Rattle.judge_missing.specs.Lacks.{State, begin, finish}
 use Rattle.judge_line.specs.Steps.{rowOf, lineNo, nextState, staysIn, lackThen}
 
@@ -33,6 +33,10 @@ passFrom s settype at st lack (suc n) =
     let rest = passFrom s settype (at + m) (nextState (rowOf settype l) st at l) (lackThen (staysIn (rowOf settype l)) settype st lack) n in
     cond (eqb (lineNo (rowOf settype l) st l (contentOf s at m)) 0) rest (refusal (lineNo (rowOf settype l) st l (contentOf s at m)) at l))
 
+-- all lines of a set
+abbrev pub passSet : List ℕ → SetType → ℕ → Refusal
+passSet s settype lines = passFrom s settype 0 begin noRefusal lines
+
 -- ---- the scan and the pass at once
 
 -- the refusal of a scan, else r
@@ -43,11 +47,6 @@ firstUnread (Scan.Refused q) r = q
 -- a set that is read, where nothing is refused
 unfoldable pub doneUnless : Refusal → ℕ → ℕ → Scan
 doneUnless r total lines = cond (eqb (r .no) 0) (Done total lines) (Scan.Refused r)
-
--- a scan that has k lines before it and reads no more
-abbrev pub Stops : ℕ → Scan → Type 0
-Stops k (Done total lines) = lines ≡ k
-Stops k (Scan.Refused r) = Unit
 
 -- what is told of a line that has k lines before it: its label and size, where it is a line of the set; else the label is 8000
 pub record NextAt (s : List ℕ) (at k l n : ℕ) : Type 0 where
@@ -61,5 +60,5 @@ finishedScan r (Scan.Refused q) = Scan.Refused q
 
 -- 1 to 7 as the scan found them, then the pass over the lines
 abbrev pub passed : List ℕ → SetType → Scan → Scan
-passed s settype (Done total lines) = doneUnless (passFrom s settype 0 begin noRefusal lines) total lines
+passed s settype (Done total lines) = doneUnless (passSet s settype lines) total lines
 passed s settype (Scan.Refused r) = Scan.Refused r

@@ -12,26 +12,15 @@ use Rattle.meaning.specs.declared.SetType.{SetType}
 use Rattle.meaning.specs.declared.SetType.the-variants.{T6300, T6301, T6302, T6310, T6311}
 use Rattle.meaning.specs.Field.{elem}
 use Rattle.meaning.specs.Refusals.{Spot, start, Fault, atLine, ask, refusal, missing}
-use Rattle.meaning.specs.Tables.{rows6300, rows6301, rows6302, rows6310, rows6311, table, rowLabel, isPairLabel, setLevel, find}
-use Rattle.meaning.specs.Missing.{onCondition, needed, rowsUnder, insert, ascending, missingLabel, lackingOf, lacking, among, openLacking, stays, groupsLacking}
+use Rattle.meaning.specs.Tables.{rows6300, rows6301, rows6302, rows6310, rows6311, table, rowLabel, isPairLabel, setLevel}
+use Rattle.meaning.specs.Missing.{onCondition, needed, rowsUnder, insert, ascending, missingLabel, lackingOf, lacking, among, openLacking}
 use Rattle.meaning.specs.Answers.{noRefusal}
 use Rattle.meaning.specs.Groups as G
-use Rattle.meaning.specs.Groups.{Role, role, next, noHeader}
+use Rattle.meaning.specs.Groups.{noHeader}
 use Rattle.meaning.proofs.Bools.{and-left, and-right}
 use Rattle.judge_missing.specs.Lacks.{lacks, lackHere, valued, lack8437, lack8410, lack6302, lackName, lackUnder, groupLack, lackAll, requiredLabels, State, seen, openLack}
 use Rattle.judge_missing.proofs.FlagLaws.{Same}
-use Rattle.meaning.proofs.FirstLaws.{firstOf, Real, first-rule, real-rule, real-append}
-
--- ---- every list of missing labels has numbers
-
-real-lacking-of : (rs : List Row) (h k : ℕ) (has : ℕ → Bool) → Real (lackingOf rs h k has)
-unfolding lackingOf
-real-lacking-of [] h k has = tt
-real-lacking-of (r ∷ rs) h k has = real-rule (not (needed r has && not (has (r .label)))) (atLine missing k (missingLabel h (r .label))) (lackingOf rs h k has) (λ z. omega arith) (real-lacking-of rs h k has)
-
-pub real-lacking : (rs : List Row) (h k : ℕ) (has : ℕ → Bool) → Real (lacking rs h k has)
-unfolding lacking
-real-lacking rs h k has = real-lacking-of (ascending (rowsUnder rs h)) h k has
+use Rattle.meaning.proofs.FirstLaws.{firstOf, first-rule}
 
 -- ---- set level
 
@@ -221,22 +210,3 @@ open-is settype pl st ms s =
         → cond b noRefusal (groupLack settype (among (ms .members)) (ms .header) (st .place)) ≡ firstOf pl (cond b [] (lacking (table settype) (ms .header) (ms .line) (among (ms .members))))
     go true e = refl
     go false e = group-lack (among (ms .members)) pl (ms .header) (ms .line) (st .place) (s .place) settype (eqb-false (ms .header) noHeader e)
-
-pub real-open : (rs : List Row) (ms : G.State) → Real (openLacking rs ms)
-unfolding openLacking
-real-open rs ms = go (eqb (ms .header) noHeader)
-  where
-    go : (b : Bool) → Real (cond b [] (lacking rs (ms .header) (ms .line) (among (ms .members))))
-    go true = tt
-    go false = real-lacking rs (ms .header) (ms .line) (among (ms .members))
-
-real-ended : (rs : List Row) (ms : G.State) (b : Bool) → Real (cond b [] (openLacking rs ms))
-real-ended rs ms true = tt
-real-ended rs ms false = real-open rs ms
-
-pub real-groups : (rs : List Row) (ms : G.State) (k : ℕ) (ls : List ℕ) → Real (groupsLacking rs ms k ls)
-unfolding groupsLacking
-real-groups rs ms k [] = real-open rs ms
-real-groups rs ms k (l ∷ ls) =
-    let o : Role = role (find rs l) (ms .header) l in
-    real-append (cond (stays o) [] (openLacking rs ms)) _ (real-ended rs ms (stays o)) (real-groups rs (next o ms k l) (k + 1) ls)

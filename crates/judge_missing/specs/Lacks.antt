@@ -11,7 +11,7 @@ use Rattle.meaning.specs.Refusals.{refusal, missing}
 use Rattle.meaning.specs.Tables.{rowLabel}
 use Rattle.meaning.specs.Groups.{noHeader}
 use Rattle.meaning.specs.Answers.{noRefusal, orElse}
-use Rattle.table_find.specs.LookUp.{numberOf}
+use Rattle.table_fields.specs.LabelNumbers.{labelNumber}
 use Rattle.judge_missing.specs.declared.Group.{Group}
 
 -- ---- what the lines so far leave behind, as `Groups.State`, with flags by row number in the place of labels and the header's place in the place of its line
@@ -33,7 +33,7 @@ begin = record { header = noHeader; place = 0; members = noFlags; top = noFlags 
 
 -- a label's flag
 unfoldable pub seen : List Bool → ℕ → Bool
-seen on l = getD on (numberOf l) false
+seen on l = getD on (labelNumber l) false
 
 -- ---- 16, by the few labels that are needed
 

@@ -1,7 +1,7 @@
--- The type that a content names, and 17: what each `return` of the two functions has to show. 8 to 10, as found.
+-- The type that a content names, and 17: what each `return` of the two functions has to show.
 use mathlib.Core.Path.{_≡_, refl, sym, ap, _∙_}
 use mathlib.Core.Bool.{Bool, true, false, cond, _&&_}
-use mathlib.Core.List.{List, _++_}
+use mathlib.Core.List.{List}
 use Prim.Native.Nat.{ℕ, _+_}
 use native.Mathlib.Omega.{arith}
 use lib.ListN.{length, take}
@@ -11,7 +11,7 @@ use Rattle.meaning.specs.declared.Known.{Known}
 use Rattle.meaning.specs.declared.Known.the-variants.{Nothing}
 use Rattle.meaning.specs.Limits.{typeOf}
 use Rattle.meaning.specs.Digits.{number, allDigits}
-use Rattle.meaning.specs.Refusals.{Fault, atLine, ask, refusal, noStart, unknownSet, noSum, badSum}
+use Rattle.meaning.specs.Refusals.{refusal, badSum}
 use Rattle.meaning.specs.Lines.{lineLead}
 use Rattle.meaning.specs.Rules.{typeNamed, typeDigits}
 use Rattle.meaning.specs.Lists.{sumDigits}
@@ -20,7 +20,6 @@ use Rattle.line_read.specs.declared.Number.{Number}
 use Rattle.line_read.specs.declared.Number.the-variants.{Is, None}
 use Rattle.line_read.specs.Number.{numberAt}
 use Rattle.line_read.proofs.Bridge.{asNumber, number-is}
-use Rattle.meaning.proofs.FirstLaws.{Real, real-ask, real-rule}
 use Rattle.judge_start.specs.Sum.{sumWalk}
 
 -- ---- 9: the type that a content names
@@ -69,13 +68,3 @@ module _ (s : List ℕ) (at total : ℕ) where
   pub sum-wrong : (k : ℕ) → numberAt s (at + lineLead) sumDigits ≡ Is k → (k ≡ total → ⊥) → refusal badSum at 0 ≡ sumWalk s at total
   unfolding sumWalk
   sum-wrong k q e = rw (q, ne-eqb k total e)
-
--- ---- 8 to 10, as found
-
--- by their tests: line 1 is 8000, it names a type, line 2 is 8100
-abbrev pub starts : Bool → Bool → Bool → List Fault
-starts a b c = ask a (atLine noStart 0 0) ++ (ask b (atLine unknownSet 0 0) ++ ask c (atLine noSum 1 0))
-
-pub real-starts : (a b c : Bool) → Real (starts a b c)
-real-starts a b c =
-    real-rule a (atLine noStart 0 0) _ (λ z. omega arith) (real-rule b (atLine unknownSet 0 0) (ask c (atLine noSum 1 0)) (λ z. omega arith) (real-ask c (atLine noSum 1 0) (λ z. omega arith)))

@@ -170,6 +170,16 @@ read-back s at {label} {size} e = go (lineFaults (drop at s)) refl (sym (line-is
         }
     go (x ∷ xs) q h = let z : _≡_ {A = ℕ} 0 1 = cc in absurd (omega arith)
 
+-- the label of a line that is read, as a number
+pub label-read : (s : List ℕ) (at : ℕ) {l n : ℕ} → lineAt s at ≡ Read l n → numberAt s (at + lengthDigits) labelDigits ≡ Is l
+label-read s at q =
+    let r = read-back s at q in
+    let d : List ℕ = drop at s in
+    let w = whole d (r .no-fault) in
+    let h : labelDigits ≤ length (drop lengthDigits d) = omega (arith, w .least, w .within, length-drop lengthDigits d) in
+    number-is s (at + lengthDigits) labelDigits (omega arith) (omega arith)
+    ∙ rw (← drop-drop lengthDigits at s, le-leb labelDigits (length (drop lengthDigits d)) h, w .four) (ap Is (sym (r .label-so)))
+
 -- A line that was written is read: its field's label and size.
 pub read-line : (s : List ℕ) (at : ℕ) (f : Field) (t : List ℕ) → drop at s ≡ lineThen f t → Sound f → lineAt s at ≡ Read (f .label) (lineSize f)
 read-line s at f t e h = line-is s at ∙ rw (e, faults-line f t h, label-line f t h, size-line f t h)

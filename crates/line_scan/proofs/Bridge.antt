@@ -8,7 +8,7 @@ use native.Mathlib.Nat.{add-zero, zero-add}
 use lib.Dec.{leb, eqb}
 use lib.ListN.{length, take, drop, length-drop}
 use lib.Seq.{getD-drop, drop-drop}
-use borrow.Author.Tests.{leb-true, eqb-true, ne-eqb}
+use borrow.Author.Tests.{leb-true, le-leb, eqb-true, ne-eqb}
 use Rattle.meaning.specs.Limits.{maxLines}
 use Rattle.meaning.specs.Digits.{digits, allDigits, number}
 use Rattle.meaning.specs.Field.{Field, isNil}
@@ -19,9 +19,12 @@ use Rattle.meaning.specs.Reading.{scan}
 use Rattle.meaning.proofs.Bools.{and-left, and-right, end-is}
 use Rattle.meaning.proofs.DigitLaws.{digits-number}
 use Rattle.meaning.proofs.LineLaws.{whole, size-back}
+use Rattle.line_read.specs.declared.Number.the-variants.{Is}
 use Rattle.line_read.specs.declared.Line.the-variants.{Read}
+use Rattle.line_read.specs.Number.{numberAt}
 use Rattle.line_read.specs.Line.{lineAt}
-use Rattle.line_read.proofs.Bridge.{judgedLine, line-is}
+use Rattle.line_read.proofs.Laws.{number-within}
+use Rattle.line_read.proofs.Bridge.{asNumber, number-is, judgedLine, line-is, label-read}
 use Rattle.line_scan.specs.declared.Scan.{Scan}
 use Rattle.line_scan.specs.declared.Scan.the-variants.{Done}
 use Rattle.line_scan.specs.Scan.{reads8000, endsAt, after, scanFrom, scanSet}
@@ -74,6 +77,29 @@ unfolding endsAt
 ends-is s at =
     rw (end-is s at, reads-at s (at + lengthDigits), ← drop-drop lengthDigits at s, ← length-drop at s)
     (ap (λ (b : Bool). isNil (drop at s) || b) (starts-is (drop at s)))
+
+-- where the bytes of a label are read, the set ends there if they write 8000
+pub ends-label : (s : List ℕ) (at : ℕ) {l : ℕ} → numberAt s (at + lengthDigits) labelDigits ≡ Is l → endsAt s at ≡ eqb l 8000
+ends-label s at {l} q =
+    let d : List ℕ = drop at s in
+    let h : lineLead ≤ length d = omega (arith, number-within s (at + lengthDigits) labelDigits q, length-drop at s) in
+    let b = back (leb labelDigits (length (drop lengthDigits d))) (labelOk d) (labelAt d)
+    (sym (number-is s (at + lengthDigits) labelDigits (omega arith) (omega arith) ∙ rw (← drop-drop lengthDigits at s) refl) ∙ q) in
+    ends-is s at ∙ (over d h (b .0) ∙ ap (λ (x : ℕ). eqb x 8000) (b .1))
+  where
+    -- what a number that was read tells
+    back : (a b : Bool) (n : ℕ) → asNumber (a && b) n ≡ Is l → (b ≡ true) × (n ≡ l)
+    back true true n e = (refl, cc)
+    back true false n e = let z : _≡_ {A = ℕ} 0 1 = cc in absurd (omega arith)
+    back false b n e = let z : _≡_ {A = ℕ} 0 1 = cc in absurd (omega arith)
+
+    over : (d : List ℕ) → lineLead ≤ length d → labelOk d ≡ true → setOver d ≡ eqb (labelAt d) 8000
+    over [] h f = absurd (omega arith)
+    over (b ∷ d) h f = rw (le-leb lineLead (length (b ∷ d)) h, f)
+
+-- so a line that is read starts another set where its label is 8000
+pub ends-read : (s : List ℕ) (at : ℕ) {l n : ℕ} → lineAt s at ≡ Read l n → endsAt s at ≡ eqb l 8000
+ends-read s at q = ends-label s at (label-read s at q)
 
 -- ---- all lines
 

@@ -1,6 +1,7 @@
 -- The walks of `ends_at` and `scan_from`, and that of a whole set: its lines, over the bytes and an offset.
 -- What they mean is `ends-is` and `scan-is` in proofs/Bridge.
 use mathlib.Core.Bool.{Bool, cond, _&&_, _||_}
+use mathlib.Core.Path.{_≡_}
 use mathlib.Core.List.{List}
 use Prim.Native.Nat.{ℕ, zero, suc, _+_, _-_}
 use lib.ListN.{length, getD}
@@ -38,3 +39,8 @@ scanFrom s at n (suc k) = cond (endsAt s at) (Done at n) (after (lineAt s at) (�
 -- the lines of the set at the front: 1, the first line whatever its label is, then at most 511 more
 unfoldable pub scanSet : List ℕ → Scan
 scanSet s = cond (eqb (length s) 0) (Refused (refusal empty 0 0)) (after (lineAt s 0) (λ size. scanFrom s size 1 (maxLines - 1)))
+
+-- a scan that has k lines before it and reads no more
+abbrev pub Stops : ℕ → Scan → Type 0
+Stops k (Done total lines) = lines ≡ k
+Stops k (Refused r) = Unit

@@ -1,15 +1,12 @@
 -- Laws of the look-up: it is the meaning's own, a found row is the table's row of that number and has the label asked for, and each row is found at its own number.
 use mathlib.Core.Path.{_≡_, refl, sym, ap, _∙_}
-use mathlib.Core.Bool.{Bool, true, false, cond, _&&_, true≢false}
+use mathlib.Core.Bool.{Bool, true, false, cond, true≢false}
 use mathlib.Core.List.{List, [], _∷_}
 use mathlib.Core.Option.{some}
-use Prim.Native.Nat.{ℕ, zero, suc, _+_, _%_, _≤_, _<_}
-use native.Mathlib.Nat.{add-zero, zero-add}
+use Prim.Native.Nat.{ℕ, suc, _%_, _≤_, _<_}
 use native.Mathlib.Omega.{arith}
 use lib.Dec.{leb, eqb}
-use lib.ListN.{length, getD}
 use borrow.Author.Tests.{ne-eqb, eqb-true, eqb-false, leb-true}
-use Rattle.meaning.specs.declared.FieldRow.{FieldRow}
 use Rattle.meaning.specs.declared.Row.{Row}
 use Rattle.meaning.specs.declared.SetType.{SetType}
 use Rattle.meaning.specs.declared.SetType.the-variants.{T6300, T6301, T6302, T6310, T6311}
@@ -18,7 +15,8 @@ use Rattle.meaning.specs.FieldTable.{fieldTable}
 use Rattle.meaning.proofs.Bools.{and-left, and-right}
 use Rattle.meaning.proofs.RowLaws.{allRows}
 use Rattle.table_fields.proofs.Arms.{NoneOf, none-beside}
-use Rattle.table_find.specs.LookUp.{Found, At, Nothing, findFrom, justRow, numberFrom, numberOf}
+use Rattle.table_fields.specs.LabelNumbers.{rowsBefore, labelNumber}
+use Rattle.table_find.specs.LookUp.{At, Nothing, findFrom, justRow}
 use Rattle.table_find.specs.Codes.{code}
 
 -- ---- the look-up with the number is the meaning's, without it
@@ -28,7 +26,7 @@ unfolding findIn findFrom
 find-in-is [] l = refl
 find-in-is (r ∷ rs) l = pick (eqb l (r .label)) (find-in-is rs l)
   where
-    pick : (b : Bool) → findIn rs l ≡ justRow (findFrom rs l) → cond b (some r) (findIn rs l) ≡ justRow (cond b (At (numberOf (r .label)) r) (findFrom rs l))
+    pick : (b : Bool) → findIn rs l ≡ justRow (findFrom rs l) → cond b (some r) (findIn rs l) ≡ justRow (cond b (At (labelNumber (r .label)) r) (findFrom rs l))
     pick true e = refl
     pick false e = e
 
@@ -51,7 +49,7 @@ find-plain A [] l p h = refl
 find-plain A (r ∷ rs) l p h = go (λ B g. find-plain B rs l p g) (isPairLabel (r .label)) refl h
   where
     go : ((B : Type 0) → NoneOf B l (plainLabels rs) → findFrom rs l ≡ Nothing) → (b : Bool) → isPairLabel (r .label) ≡ b
-        → NoneOf A l (cond b (plainLabels rs) (r .label ∷ plainLabels rs)) → cond (eqb l (r .label)) (At (numberOf (r .label)) r) (findFrom rs l) ≡ Nothing
+        → NoneOf A l (cond b (plainLabels rs) (r .label ∷ plainLabels rs)) → cond (eqb l (r .label)) (At (labelNumber (r .label)) r) (findFrom rs l) ≡ Nothing
     go rest true q g = rw (ne-eqb l (r .label) (λ e. true≢false (sym q ∙ (ap isPairLabel (sym e) ∙ p)))) (rest A g)
     go rest false q g =
         rw (ne-eqb l (r .label) (none-beside (A × (l ≡ r .label → ⊥)) l (plainLabels rs) g .1)) (rest (A × (l ≡ r .label → ⊥)) g)
@@ -92,31 +90,12 @@ module _ (A : Type 0) (rs : List Row) (l : ℕ) (h : NoneOf A l (plainLabels rs)
       go true p true q = ap (λ (k : ℕ). findFrom rs k) (row-even l p (eqb-true (l % 2) 0 q)) ∙ even
       go true p false q = ap (λ (k : ℕ). findFrom rs k) (row-odd l p (eqb-false (l % 2) 0 q)) ∙ odd
 
--- ---- the numbers of labels
-
--- two labels with one number are one label, where one of them has a row
-number-same : (xs : List FieldRow) (l m : ℕ) → numberFrom xs l ≡ numberFrom xs m → numberFrom xs l < length xs → l ≡ m
-unfolding numberFrom
-number-same [] l m e h = absurd (omega arith)
-number-same (x ∷ xs) l m e h = go (number-same xs l m) (eqb l (x .label)) refl (eqb m (x .label)) refl e h
-  where
-    go : (numberFrom xs l ≡ numberFrom xs m → numberFrom xs l < length xs → l ≡ m) → (a : Bool) → eqb l (x .label) ≡ a → (b : Bool) → eqb m (x .label) ≡ b
-        → cond a 0 (suc (numberFrom xs l)) ≡ cond b 0 (suc (numberFrom xs m)) → cond a 0 (suc (numberFrom xs l)) < suc (length xs) → l ≡ m
-    go ih true p true q e h = eqb-true l (x .label) p ∙ sym (eqb-true m (x .label) q)
-    go ih true p false q e h = absurd (omega arith)
-    go ih false p true q e h = absurd (omega arith)
-    go ih false p false q e h = ih (omega arith) (omega arith)
-
-pub one-number : (l m : ℕ) → numberOf l ≡ numberOf m → numberOf l < 57 → l ≡ m
-unfolding numberOf fieldTable
-one-number l m e h = number-same fieldTable l m e (omega arith)
-
 -- ---- a row that is found
 
 -- what a search tells of the row that it finds
 record Place (rs : List Row) (l i : ℕ) (r : Row) : Type 0 where
   is : r .label ≡ l
-  number : i ≡ numberOf (r .label)
+  number : i ≡ labelNumber (r .label)
   passes : (test : Row → Bool) → allRows test rs ≡ true → test r ≡ true
 
 place-of : (rs : List Row) (l i : ℕ) (r : Row) → findFrom rs l ≡ At i r → Place rs l i r
@@ -124,13 +103,13 @@ unfolding findFrom
 place-of [] l i r e = let z : _≡_ {A = ℕ} 0 1 = cc in absurd (omega arith)
 place-of (x ∷ rs) l i r e = go (λ q. place-of rs l i r q) (eqb l (x .label)) refl e
   where
-    go : (findFrom rs l ≡ At i r → Place rs l i r) → (b : Bool) → eqb l (x .label) ≡ b → cond b (At (numberOf (x .label)) x) (findFrom rs l) ≡ At i r → Place (x ∷ rs) l i r
+    go : (findFrom rs l ≡ At i r → Place rs l i r) → (b : Bool) → eqb l (x .label) ≡ b → cond b (At (labelNumber (x .label)) x) (findFrom rs l) ≡ At i r → Place (x ∷ rs) l i r
     go rest true q h =
-        let a : numberOf (x .label) ≡ i = cc in
+        let a : labelNumber (x .label) ≡ i = cc in
         let b : x ≡ r = cc in
         record {
           is = ap (λ (y : Row). y .label) (sym b) ∙ sym (eqb-true l (x .label) q);
-          number = sym a ∙ ap (λ (y : Row). numberOf (y .label)) b;
+          number = sym a ∙ ap (λ (y : Row). labelNumber (y .label)) b;
           passes = λ test t. ap test (sym b) ∙ and-left (test x) (allRows test rs) t;
         }
     go rest false q h =
@@ -143,7 +122,7 @@ module _ (rs : List Row) (l i : ℕ) (r : Row) (e : findFrom rs l ≡ At i r) wh
   found-row = place-of rs l i r e .is
 
   -- the number is its label's
-  pub found-number : i ≡ numberOf (r .label)
+  pub found-number : i ≡ labelNumber (r .label)
   found-number = place-of rs l i r e .number
 
   -- it passes what all rows pass
@@ -163,14 +142,14 @@ table-all P a b c d e T6311 = e
 
 -- every label of the five has a row in the field table
 abbrev hasNumber : Row → Bool
-hasNumber r = leb (suc (numberOf (r .label))) 57
+hasNumber r = leb (suc (labelNumber (r .label))) 57
 
 numbers-test : (settype : SetType) → allRows hasNumber (table settype) ≡ true
-unfolding rows6300 rows6301 rows6302 rows6310 rows6311 numberOf numberFrom fieldTable
+unfolding rows6300 rows6301 rows6302 rows6310 rows6311 labelNumber rowsBefore fieldTable
 numbers-test = table-all (λ rs. allRows hasNumber rs ≡ true) refl refl refl refl refl
 
 -- so a found number is below 57, whatever the set type
 pub row-below : (settype : SetType) (l i : ℕ) (r : Row) → findFrom (table settype) l ≡ At i r → i < 57
 row-below settype l i r e =
-    let h : suc (numberOf (r .label)) ≤ 57 = leb-true _ 57 (found-passes (table settype) l i r e hasNumber (numbers-test settype)) in
+    let h : suc (labelNumber (r .label)) ≤ 57 = leb-true _ 57 (found-passes (table settype) l i r e hasNumber (numbers-test settype)) in
     omega (arith, found-number (table settype) l i r e)

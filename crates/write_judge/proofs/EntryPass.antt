@@ -20,13 +20,12 @@ use Rattle.meaning.specs.Refusals.{start, refusal, noStart, unknownSet}
 use Rattle.meaning.specs.Entries.{entryLead, listSize}
 use Rattle.meaning.specs.Kinds.{isAlnum, ofKind}
 use Rattle.meaning.specs.FieldTable.{fieldTable, fieldRowIn, fieldRow, hasLength, fitsRow, fitsLabel}
-use Rattle.meaning.specs.Tables.{rows6300, rows6301, rows6302, rows6310, rows6311, table, rowLabel}
+use Rattle.meaning.specs.Tables.{rowLabel}
 use Rattle.meaning.specs.Groups as G
 use Rattle.meaning.specs.Rules.{profile, typeDigits, typeNamed, labelIs, isKnown, typeKnown, startFaults, ruleFaults}
 use Rattle.meaning.specs.Lists.{inList}
 use Rattle.meaning.specs.Answers.{noRefusal, orElse}
 use Rattle.meaning.proofs.Bools.{and-left, and-right}
-use Rattle.table_find.specs.LookUp.{Found, findFrom, numberOf, numberFrom}
 use Rattle.entry_read.specs.declared.Head.the-variants.{Whole}
 use Rattle.entry_read.specs.Head.{entryAt}
 use Rattle.judge_missing.specs.Lacks.{State, noFlags, begin, lackUnder, groupLack, openLack, firstLack, stateOf}
@@ -34,9 +33,9 @@ use Rattle.meaning.proofs.FirstLaws.{firstOf, Real, real-append}
 use Rattle.judge_missing.proofs.FlagLaws.{Same, begin-same}
 use Rattle.judge_line.specs.declared.Step.{Step}
 use Rattle.judge_line.specs.Steps.{rowOf, againNo, placeNo, labelNo, versionNo, contentNo, lineNo, nextState, staysIn, Stepped}
-use Rattle.judge_line.proofs.SameLaws.{whole, pass-line, pass-finish}
-use Rattle.judge_line.proofs.FoundLaws.{middle, real-middle, ofType, whole-found}
-use Rattle.judge_start.proofs.Laws.{starts, real-starts}
+use Rattle.meaning.proofs.RealLaws.{startFaultsBy, real-starts, faultsAfterStart, real-after-start, ofType}
+use Rattle.judge_line.proofs.StartRows.{row-8000, row-8100}
+use Rattle.judge_line.proofs.SameLaws.{whole, pass-line, pass-finish, whole-found}
 use Rattle.write_judge.specs.Judging.{contentOf, stepThen, entriesPass, row8000, started, byKnown, firstEntry, judgeEntries}
 use Rattle.write_judge.proofs.CheckLaws.{Reads}
 
@@ -51,11 +50,11 @@ module _ (settype : SetType) (st : State) (lack : Refusal) (at l : ℕ) (c : Lis
   step-on g = rw (← e .number, g) (ap₂ F (sym (e .state g)) (sym (e .lack-so g)))
 
 -- the content as the code cuts it out
-pub step-entry : (l : List ℕ) (at m : ℕ) {o : Found} {settype : SetType} {st : State} {lack : Refusal} {label : ℕ} {r : Step} {members top : List Bool}
-    → Stepped o settype st lack at label (take (at + entryLead + m - (at + entryLead)) (drop (at + entryLead) l)) r members top → Stepped o settype st lack at label (contentOf l at m) r members top
-step-entry l at m {o} {settype} {st} {lack} {label} {r} {members} {top} e =
+pub step-entry : (l : List ℕ) (at m : ℕ) {settype : SetType} {st : State} {lack : Refusal} {label : ℕ} {r : Step} {members top : List Bool}
+    → Stepped (rowOf settype label) settype st lack at label (take (at + entryLead + m - (at + entryLead)) (drop (at + entryLead) l)) r members top → Stepped (rowOf settype label) settype st lack at label (contentOf l at m) r members top
+step-entry l at m {settype} {st} {lack} {label} {r} {members} {top} e =
     let w : at + entryLead + m - (at + entryLead) ≡ m = omega arith in
-    subst (λ (n : ℕ). Stepped o settype st lack at label (take n (drop (at + entryLead) l)) r members top) w e
+    subst (λ (n : ℕ). Stepped (rowOf settype label) settype st lack at label (take n (drop (at + entryLead) l)) r members top) w e
 
 -- ---- an entry behind the first: it is refused, or the pass goes on
 
@@ -98,20 +97,16 @@ abbrev begun : State
 begun = record { header = 8000; place = 0; members = noFlags; top = set noFlags row8000 true }
 
 line-1 : (settype : SetType) (c : List ℕ) (F : State → Refusal → Refusal) → fitsLabel 8000 c ≡ true → stepThen settype begin noRefusal 0 8000 c F ≡ F begun noRefusal
-unfolding table rows6300 rows6301 rows6302 rows6310 rows6311 findFrom numberOf numberFrom fieldTable rowLabel lineNo labelNo placeNo againNo contentNo versionNo nextState staysIn orElse openLack firstLack
-line-1 T6300 c F e = rw e
-line-1 T6301 c F e = rw e
-line-1 T6302 c F e = rw e
-line-1 T6310 c F e = rw e
-line-1 T6311 c F e = rw e
+unfolding lineNo labelNo placeNo againNo contentNo versionNo nextState staysIn orElse openLack firstLack
+line-1 settype c F e = rw (row-8000 settype, e)
 
 line-2 : (settype : SetType) (c : List ℕ) (F : State → Refusal → Refusal) → fitsLabel 8100 c ≡ true → stepThen settype begun noRefusal 0 8100 c F ≡ F started noRefusal
-unfolding table rows6300 rows6301 rows6302 rows6310 rows6311 findFrom numberOf numberFrom fieldTable rowLabel lineNo labelNo placeNo againNo contentNo versionNo nextState staysIn orElse openLack firstLack groupLack lackUnder
-line-2 T6300 c F e = rw e
-line-2 T6301 c F e = rw e
-line-2 T6302 c F e = rw e
-line-2 T6310 c F e = rw e
-line-2 T6311 c F e = rw e
+unfolding rowLabel lineNo labelNo placeNo againNo contentNo versionNo nextState staysIn orElse openLack firstLack groupLack lackUnder
+line-2 T6300 c F e = rw (row-8100 T6300, e)
+line-2 T6301 c F e = rw (row-8100 T6301, e)
+line-2 T6302 c F e = rw (row-8100 T6302, e)
+line-2 T6310 c F e = rw (row-8100 T6310, e)
+line-2 T6311 c F e = rw (row-8100 T6311, e)
 
 -- ---- 8 and 9
 
@@ -161,7 +156,7 @@ module _ (l : List ℕ) (settype : SetType) (es : List Field) where
 -- all lines: line 1, line 2, and the others
 set-found : (l : List ℕ) (settype : SetType) (c : List ℕ) (fs : List Field) (sum : List ℕ) → Reads l 0 (field 8000 c ∷ fs) → fitsLabel 8000 c ≡ true → fitsLabel 8100 sum ≡ true
     → entriesPass l settype (entryLead + length c) started noRefusal (length fs)
-    ≡ firstOf (inList (field 8000 c ∷ fs)) (middle (ofType settype) (field 8000 c ∷ field 8100 sum ∷ fs))
+    ≡ firstOf (inList (field 8000 c ∷ fs)) (faultsAfterStart (ofType settype) (field 8000 c ∷ field 8100 sum ∷ fs))
 set-found l settype c fs sum rd g₁ g₂ =
     let es : List Field = field 8000 c ∷ fs in
     let p : entryLead + length c ≡ inList es 2 start = omega arith in
@@ -187,17 +182,17 @@ entries-found l f fs sum rd g = rw (rd .0, rd .1) (go (eqb (f .label) 8000) refl
 
     go : (a : Bool) → eqb (f .label) 8000 ≡ a → (k : Known) → typeNamed (f .content) ≡ k
         → cond a (byKnown k (refusal unknownSet 0 0) (λ settype. entriesPass l settype (entryLead + length (f .content)) started noRefusal (suc (length fs) - 1))) (refusal noStart 0 0)
-        ≡ firstOf (inList (f ∷ fs)) (starts a (isKnown k) true ++ middle (record { setType = k }) all)
+        ≡ firstOf (inList (f ∷ fs)) (startFaultsBy a (isKnown k) true ++ faultsAfterStart (record { setType = k }) all)
     go false e k q = refl
     go true e Nothing q = refl
     go true e (Of settype) q =
         let x : field 8000 (f .content) ≡ f = λ i. record { label = sym (eqb-true (f .label) 8000 e) i; content = f .content } in
         let n : suc (length fs) - 1 ≡ length fs = omega arith in
         rw n (subst (λ (y : Field). entriesPass l settype (entryLead + length (y .content)) started noRefusal (length fs)
-        ≡ firstOf (inList (y ∷ fs)) (middle (ofType settype) (y ∷ field 8100 sum ∷ fs))) x
+        ≡ firstOf (inList (y ∷ fs)) (faultsAfterStart (ofType settype) (y ∷ field 8100 sum ∷ fs))) x
         (set-found l settype (f .content) fs sum (subst (λ (y : Field). Reads l 0 (y ∷ fs)) (sym x) rd) (type-fits (f .content) (type-digits (f .content) q .four)) g))
 
 -- its number says whether there is one
 pub rules-real : (fs : List Field) → Real (ruleFaults fs)
 unfolding ruleFaults startFaults
-rules-real fs = real-append (startFaults fs) (middle (profile fs) fs) (real-starts (labelIs fs 0 8000) (typeKnown fs) (labelIs fs 1 8100)) (real-middle (profile fs) fs)
+rules-real fs = real-append (startFaults fs) (faultsAfterStart (profile fs) fs) (real-starts (labelIs fs 0 8000) (typeKnown fs) (labelIs fs 1 8100)) (real-after-start (profile fs) fs)
