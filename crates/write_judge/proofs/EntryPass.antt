@@ -36,7 +36,7 @@ use Rattle.judge_line.specs.Steps.{rowOf, againNo, placeNo, labelNo, versionNo,
 use Rattle.meaning.proofs.RealLaws.{startFaultsBy, real-starts, faultsAfterStart, real-after-start, ofType}
 use Rattle.judge_line.proofs.StartRows.{row-8000, row-8100}
 use Rattle.judge_line.proofs.SameLaws.{whole, pass-line, pass-finish, whole-found}
-use Rattle.write_judge.specs.Judging.{contentOf, stepThen, entriesPass, row8000, started, byKnown, firstEntry, judgeEntries}
+use Rattle.write_judge.specs.Judging.{listContent, stepThen, entriesPass, row8000, started, byKnown, firstEntry, judgeEntries}
 use Rattle.write_judge.proofs.CheckLaws.{Reads}
 
 -- ---- one line, as the code takes it
@@ -51,27 +51,27 @@ module _ (settype : SetType) (st : State) (lack : Refusal) (at l : ℕ) (c : Lis
 
 -- the content as the code cuts it out
 pub step-entry : (l : List ℕ) (at m : ℕ) {settype : SetType} {st : State} {lack : Refusal} {label : ℕ} {r : Step} {members top : List Bool}
-    → Stepped (rowOf settype label) settype st lack at label (take (at + entryLead + m - (at + entryLead)) (drop (at + entryLead) l)) r members top → Stepped (rowOf settype label) settype st lack at label (contentOf l at m) r members top
+    → Stepped (rowOf settype label) settype st lack at label (take (at + entryLead + m - (at + entryLead)) (drop (at + entryLead) l)) r members top → Stepped (rowOf settype label) settype st lack at label (listContent l at m) r members top
 step-entry l at m {settype} {st} {lack} {label} {r} {members} {top} e =
     let w : at + entryLead + m - (at + entryLead) ≡ m = omega arith in
     subst (λ (n : ℕ). Stepped (rowOf settype label) settype st lack at label (take n (drop (at + entryLead) l)) r members top) w e
 
--- ---- an entry behind the first: it is refused, or the pass goes on
+-- ---- an entry after the first: it is refused, or the pass goes on
 
 module _ (l : List ℕ) (settype : SetType) (at : ℕ) (st : State) (lack : Refusal) (label m : ℕ) (q : entryAt l at ≡ Whole label m) (r : Step) (members top : List Bool)
-    (e : Stepped (rowOf settype label) settype st lack at label (contentOf l at m) r members top) where
+    (e : Stepped (rowOf settype label) settype st lack at label (listContent l at m) r members top) where
   abbrev rest : ℕ → State → Refusal → Refusal
   rest n st′ lack′ = entriesPass l settype (at + (entryLead + m)) st′ lack′ n
 
-  here : (n : ℕ) → entriesPass l settype at st lack (suc n) ≡ stepThen settype st lack at label (contentOf l at m) (rest n)
+  here : (n : ℕ) → entriesPass l settype at st lack (suc n) ≡ stepThen settype st lack at label (listContent l at m) (rest n)
   unfolding entriesPass
   here n = rw q
 
   pub pass-bad : (r .no ≡ 0 → ⊥) → (n : ℕ) → entriesPass l settype at st lack (suc n) ≡ refusal (r .no) at label
-  pass-bad g n = here n ∙ step-bad settype st lack at label (contentOf l at m) r members top e (rest n) g
+  pass-bad g n = here n ∙ step-bad settype st lack at label (listContent l at m) r members top e (rest n) g
 
   pub pass-on : r .no ≡ 0 → (n : ℕ) → entriesPass l settype at st lack (suc n) ≡ entriesPass l settype (at + (entryLead + m)) (stateOf (r .group) members top) (r .group .lack) n
-  pass-on g n = here n ∙ step-on settype st lack at label (contentOf l at m) r members top e (rest n) g
+  pass-on g n = here n ∙ step-on settype st lack at label (listContent l at m) r members top e (rest n) g
 
 -- ---- line 1 and line 2
 
@@ -92,7 +92,7 @@ type-fits : (c : List ℕ) → length c ≡ typeDigits → fitsLabel 8000 c ≡ 
 unfolding fitsLabel fitsRow fieldRow fieldRowIn fieldTable rowLabel hasLength ofKind isAlnum
 type-fits c e = rw e
 
--- behind line 1
+-- after line 1
 abbrev begun : State
 begun = record { header = 8000; place = 0; members = noFlags; top = set noFlags row8000 true }
 
@@ -116,17 +116,17 @@ module _ (l : List ℕ) (label m n : ℕ) where
   first-other h = rw (ne-eqb label 8000 h)
 
   module _ (h : label ≡ 8000) where
-    pub first-unknown : typeNamed (contentOf l 0 m) ≡ Nothing → firstEntry l label m n ≡ refusal unknownSet 0 0
+    pub first-unknown : typeNamed (listContent l 0 m) ≡ Nothing → firstEntry l label m n ≡ refusal unknownSet 0 0
     unfolding firstEntry
     first-unknown e = rw (eq-eqb label 8000 h, e)
 
-    pub first-known : {settype : SetType} → typeNamed (contentOf l 0 m) ≡ Of settype → firstEntry l label m n ≡ entriesPass l settype (entryLead + m) started noRefusal (n - 1)
+    pub first-known : {settype : SetType} → typeNamed (listContent l 0 m) ≡ Of settype → firstEntry l label m n ≡ entriesPass l settype (entryLead + m) started noRefusal (n - 1)
     unfolding firstEntry
     first-known e = rw (eq-eqb label 8000 h, e)
 
 -- ---- what the pass finds
 
--- the entry behind this one
+-- the entry after this one
 list-next : (es : List Field) (j : ℕ) (f : Field) (fs : List Field) → drop j es ≡ f ∷ fs
     → (listSize (take (suc j) es) ≡ listSize (take j es) + (entryLead + length (f .content))) × (drop (suc j) es ≡ fs)
 list-next [] zero f fs e = absurd (cons≢nil (sym e))
@@ -171,7 +171,7 @@ set-found l settype c fs sum rd g₁ g₂ =
     (λ st′ ms′ lack′ sm′. later-found l settype es fs (entryLead + length c) 1 st′ ms′ lack′ rd′ p refl sm′))
     ∙ whole-found settype (inList es) (field 8000 c ∷ field 8100 sum ∷ fs))
 
--- "then 8, 9, and 11 to 16": the first fault of the entries, with the sum put in behind the first
+-- "then 8, 9, and 11 to 16": the first fault of the entries, with the sum put in after the first
 pub entries-found : (l : List ℕ) (f : Field) (fs : List Field) (sum : List ℕ) → Reads l 0 (f ∷ fs) → fitsLabel 8100 sum ≡ true
     → judgeEntries l (length (f ∷ fs)) ≡ firstOf (inList (f ∷ fs)) (ruleFaults (f ∷ field 8100 sum ∷ fs))
 unfolding judgeEntries firstEntry ruleFaults startFaults profile

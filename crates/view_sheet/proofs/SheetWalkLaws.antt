@@ -29,49 +29,49 @@ use Rattle.correct_offer.specs.declared.OneLine.{OneLine}
 use Rattle.correct_offer.specs.Offered.{lineAfter, offered, offerSpot}
 use Rattle.correct_offer.proofs.OfferLaws.{line-stands, offer-byte}
 use Rattle.view_part.specs.Parts.{newer}
-use Rattle.view_sheet.specs.declared.Checked.{Checked}
-use Rattle.view_sheet.specs.declared.Checked.the-variants.{Good}
-use Rattle.view_sheet.specs.Showing.{byOffer, byHead, checkedAt, setPart, checkedThen, shownFrom, shownBySheet, shownUnder}
+use Rattle.view_sheet.specs.declared.SheetEntry.{SheetEntry}
+use Rattle.view_sheet.specs.declared.SheetEntry.the-variants.{Good}
+use Rattle.view_sheet.specs.Showing.{byOffer, sheetEntryBy, sheetEntryAt, setPart, goodThen, shownFrom, shownBySheet, shownUnder}
 
 -- ---- one entry of the sheet
 
--- the byte that is told of a content of n bytes at a
+-- the byte that is refused of a content of n bytes at a
 pub byte-within : (s : List ℕ) (x : Shape) (h : List ℕ) (a k n : ℕ) (o : Offer) → o ≡ offered s x k (take ((a + n) - a) (drop a h)) → o .byte ≤ n
 byte-within s x h a k n o e =
     let c : List ℕ = take ((a + n) - a) (drop a h) in
     rw e (omega (arith, offer-byte s x k c, length-take ((a + n) - a) (drop a h), add-sub-cancel-left a n))
 
 module _ (s : List ℕ) (x : Shape) (h : List ℕ) (at : ℕ) where
-  pub check-cut : entryAt h at ≡ Cut → Checked.Refused (refusal badList at 0) ≡ checkedAt s x h at
-  unfolding checkedAt
-  check-cut e = rw e
+  pub sheet-cut : entryAt h at ≡ Cut → SheetEntry.Refused (refusal badList at 0) ≡ sheetEntryAt s x h at
+  unfolding sheetEntryAt
+  sheet-cut e = rw e
 
   module _ (k n : ℕ) (e : entryAt h at ≡ Whole k n) (m : ℕ) (q : m ≡ n) (o : Offer) (p : o ≡ offered s x k (take m (drop (at + entryLead) h))) where
-    check-by : byOffer o at k n ≡ checkedAt s x h at
-    unfolding checkedAt
-    check-by = rw (e, p, q)
+    sheet-by : byOffer o at k n ≡ sheetEntryAt s x h at
+    unfolding sheetEntryAt
+    sheet-by = rw (e, p, q)
 
-    pub check-good : o .no ≡ 0 → Good k n ≡ checkedAt s x h at
-    check-good z = rw (z) at check-by
+    pub sheet-good : o .no ≡ 0 → Good k n ≡ sheetEntryAt s x h at
+    sheet-good z = rw (z) at sheet-by
 
-    pub check-low : (o .no ≡ 0 → ⊥) → o .no ≡ badByte → Checked.Refused (refusal (o .no) ((at + entryLead) + o .byte) (o .label)) ≡ checkedAt s x h at
-    check-low z b =
+    pub sheet-low : (o .no ≡ 0 → ⊥) → o .no ≡ badByte → SheetEntry.Refused (refusal (o .no) ((at + entryLead) + o .byte) (o .label)) ≡ sheetEntryAt s x h at
+    sheet-low z b =
         let a : (at + entryLead) + o .byte ≡ at + (entryLead + o .byte) = omega arith in
-        rw a (rw (ne-eqb (o .no) 0 z, eq-eqb (o .no) badByte b) at check-by)
+        rw a (rw (ne-eqb (o .no) 0 z, eq-eqb (o .no) badByte b) at sheet-by)
 
-    pub check-bad : (o .no ≡ 0 → ⊥) → (o .no ≡ badByte → ⊥) → Checked.Refused (refusal (o .no) at (o .label)) ≡ checkedAt s x h at
-    check-bad z b = rw (ne-eqb (o .no) 0 z, ne-eqb (o .no) badByte b, add-zero at) at check-by
+    pub sheet-bad : (o .no ≡ 0 → ⊥) → (o .no ≡ badByte → ⊥) → SheetEntry.Refused (refusal (o .no) at (o .label)) ≡ sheetEntryAt s x h at
+    sheet-bad z b = rw (ne-eqb (o .no) 0 z, ne-eqb (o .no) badByte b, add-zero at) at sheet-by
 
-good-length : (b : Bool) (r : Refusal) (k n k′ n′ : ℕ) → cond b (Good k′ n′) (Checked.Refused r) ≡ Good k n → n′ ≡ n
+good-length : (b : Bool) (r : Refusal) (k n k′ n′ : ℕ) → cond b (Good k′ n′) (SheetEntry.Refused r) ≡ Good k n → n′ ≡ n
 good-length true r k n k′ n′ e = cc
 good-length false r k n k′ n′ e = let z : _≡_ {A = ℕ} 0 1 = cc in absurd (omega arith)
 
 -- an entry that is good lies within the sheet
-pub check-within : (s : List ℕ) (x : Shape) (h : List ℕ) (at k n : ℕ) → checkedAt s x h at ≡ Good k n → at + (entryLead + n) ≤ length h
-unfolding checkedAt
-check-within s x h at k n e = go (entryAt h at) refl e
+pub sheet-within : (s : List ℕ) (x : Shape) (h : List ℕ) (at k n : ℕ) → sheetEntryAt s x h at ≡ Good k n → at + (entryLead + n) ≤ length h
+unfolding sheetEntryAt
+sheet-within s x h at k n e = go (entryAt h at) refl e
   where
-    go : (y : Head) → entryAt h at ≡ y → byHead s x h at y ≡ Good k n → at + (entryLead + n) ≤ length h
+    go : (y : Head) → entryAt h at ≡ y → sheetEntryBy s x h at y ≡ Good k n → at + (entryLead + n) ≤ length h
     go (Whole k′ n′) w q =
         let o : Offer = offered s x k′ (take n′ (drop (at + entryLead) h)) in
         omega (arith, good-length (eqb (o .no) 0) (refusal (o .no) (at + behind entryLead (offerSpot o)) (o .label)) k n k′ n′ q, whole-back h at w .within)
@@ -103,7 +103,7 @@ module _ (s : List ℕ) (x : Shape) (h : List ℕ) (n m at : ℕ) (v : Viewed) w
       go (suc i) = rw (le-leb (length h) at e)
 
   module _ (l : at < length h) (w : length h ≤ at + m) where
-    pub shown-bad : (r : Refusal) → checkedAt s x h at ≡ Checked.Refused r → Refused r ≡ shownFrom s x h n m at v
+    pub shown-bad : (r : Refusal) → sheetEntryAt s x h at ≡ SheetEntry.Refused r → Refused r ≡ shownFrom s x h n m at v
     unfolding shownFrom
     shown-bad r e = go m w
       where
@@ -111,7 +111,7 @@ module _ (s : List ℕ) (x : Shape) (h : List ℕ) (n m at : ℕ) (v : Viewed) w
         go zero w = absurd (omega arith)
         go (suc i) w = rw (lt-leb (length h) at l, e)
 
-    pub shown-next : (k len : ℕ) → checkedAt s x h at ≡ Good k len → (at′ : ℕ) → at′ ≡ at + (entryLead + len)
+    pub shown-next : (k len : ℕ) → sheetEntryAt s x h at ≡ Good k len → (at′ : ℕ) → at′ ≡ at + (entryLead + len)
         → (v′ : Viewed) → v′ ≡ newer v (part (at + entryLead) len) k n
         → shownFrom s x h n (pred m) at′ v′ ≡ shownFrom s x h n m at v
     unfolding shownFrom
@@ -121,7 +121,7 @@ module _ (s : List ℕ) (x : Shape) (h : List ℕ) (n m at : ℕ) (v : Viewed) w
         go zero w = absurd (omega arith)
         go (suc i) w = rw (lt-leb (length h) at l, e, p, q)
 
--- the part of the set that is shown where the sheet has no entry for the line
+-- the part of the set that is shown if the sheet has no entry for the line
 abbrev pub withSet : Part → Viewed → Viewed
 withSet p (Sheet q) = Sheet q
 withSet p (Set q) = Set p
@@ -136,7 +136,7 @@ newer-set p q v k n = go (eqb k n)
     go false = refl
 
 module _ (s : List ℕ) (x : Shape) (h : List ℕ) (n : ℕ) (p : Part) where
-  -- no entry looks at that part, so it may be put in before them or behind them
+  -- no entry looks at that part, so it may be put in before them or after them
   shown-set : (m at : ℕ) (v : Viewed) → withSet p (shownFrom s x h n m at v) ≡ shownFrom s x h n m at (withSet p v)
   unfolding shownFrom
   shown-set zero at v = go (leb (length h) at)
@@ -144,16 +144,16 @@ module _ (s : List ℕ) (x : Shape) (h : List ℕ) (n : ℕ) (p : Part) where
       go : (b : Bool) → withSet p (cond b v (Refused (refusal tooManyLines at 0))) ≡ cond b (withSet p v) (Refused (refusal tooManyLines at 0))
       go true = refl
       go false = refl
-  shown-set (suc m) at v = go (λ at′ v′. shown-set m at′ v′) (leb (length h) at) (checkedAt s x h at)
+  shown-set (suc m) at v = go (λ at′ v′. shown-set m at′ v′) (leb (length h) at) (sheetEntryAt s x h at)
     where
-      go : ((at′ : ℕ) (v′ : Viewed) → withSet p (shownFrom s x h n m at′ v′) ≡ shownFrom s x h n m at′ (withSet p v′)) → (b : Bool) (y : Checked)
-          → withSet p (cond b v (checkedThen y (λ k l. shownFrom s x h n m (at + (entryLead + l)) (newer v (part (at + entryLead) l) k n))))
-          ≡ cond b (withSet p v) (checkedThen y (λ k l. shownFrom s x h n m (at + (entryLead + l)) (newer (withSet p v) (part (at + entryLead) l) k n)))
+      go : ((at′ : ℕ) (v′ : Viewed) → withSet p (shownFrom s x h n m at′ v′) ≡ shownFrom s x h n m at′ (withSet p v′)) → (b : Bool) (y : SheetEntry)
+          → withSet p (cond b v (goodThen y (λ k l. shownFrom s x h n m (at + (entryLead + l)) (newer v (part (at + entryLead) l) k n))))
+          ≡ cond b (withSet p v) (goodThen y (λ k l. shownFrom s x h n m (at + (entryLead + l)) (newer (withSet p v) (part (at + entryLead) l) k n)))
       go ih true y = refl
       go ih false (Good k l) =
           ih (at + (entryLead + l)) (newer v (part (at + entryLead) l) k n)
           ∙ ap (shownFrom s x h n m (at + (entryLead + l))) (newer-set p (part (at + entryLead) l) v k n)
-      go ih false (Checked.Refused r) = refl
+      go ih false (SheetEntry.Refused r) = refl
 
 -- so what the sheet shows is looked at first
 pub under-by : (s : List ℕ) (x : Shape) (h : List ℕ) (n : ℕ) (v : Viewed) → shownBySheet s x h n ≡ v → withSet (setPart s n) v ≡ shownUnder s x h n

@@ -13,9 +13,9 @@ use Rattle.meaning.specs.Corrections.{fixed}
 use Rattle.byte_low.specs.Low.{firstLow}
 use Rattle.line_read.specs.Told.{toldLength, toldLabel}
 use Rattle.correct_offer.specs.declared.OneLine.{OneLine}
-use Rattle.correct_offer.specs.Offered.{oneLine, noLine, lineFrom, lineAfter, told, behindAll, offeredTo, offered}
+use Rattle.correct_offer.specs.Offered.{oneLine, noLine, lineFrom, lineAfter, told, afterAll, offeredTo, offered}
 
--- ---- a line, with k lines to skip before it: the length that is told at the offset is n
+-- ---- a line, with k lines to skip before it: the line at the offset gives the length n
 
 module _ (s : List ℕ) (at k n : ℕ) (e : n ≡ toldLength s at) where
   module _ (h : 0 < k) where
@@ -64,11 +64,11 @@ module _ (x : OneLine) (c : List ℕ) where
 -- ---- a content for a line by its number
 
 module _ (s : List ℕ) (x : Shape) (n : ℕ) (c : List ℕ) where
-  pub number-none : n < 1 → told noSuchLine 0 0 (behindAll (x .length)) ≡ offered s x n c
+  pub number-none : n < 1 → told noSuchLine 0 0 (afterAll (x .length)) ≡ offered s x n c
   unfolding offered
   number-none h = rw (lt-leb 1 n h)
 
-  pub number-beyond : x .lines < n → told noSuchLine 0 0 (behindAll (x .length)) ≡ offered s x n c
+  pub number-beyond : x .lines < n → told noSuchLine 0 0 (afterAll (x .length)) ≡ offered s x n c
   unfolding offered
   number-beyond h = rw (le-leb 1 n (omega arith), lt-leb n (x .lines) h)
 

@@ -1,7 +1,7 @@
--- `plan_index`: the plan of what `judge` answers.
+-- `plan_of`: the plan of what `judge` answers.
 use borrow.Author.Needs.{needs}
-use Rattle.gdt.proofs.plan_index.Statement.{statement}
-use Rattle.gdt.proofs.plan_index.Tie as tie
+use Rattle.gdt.proofs.plan_of.Statement.{statement}
+use Rattle.gdt.proofs.plan_of.Tie as tie
 
 judge-requires : tie.Need-judge-requires
 judge-requires c κs = search needs
@@ -12,5 +12,5 @@ plan-index-requires c κs = search needs
 returns : tie.Need-returns
 returns c = rw (← (c .before .judge .ensures)) (c .plan-index .ensures)
 
-pub plan-index-spec : {M : Type 1} → statement M
-plan-index-spec = tie.close (tie.spec judge-requires plan-index-requires returns)
+pub plan-of-spec : {M : Type 1} → statement M
+plan-of-spec = tie.close (tie.spec judge-requires plan-index-requires returns)

@@ -9,18 +9,18 @@ use Rattle.meaning.specs.declared.Judged.{Judged}
 use Rattle.meaning.specs.declared.Judged.the-variants.{Accepted, Refused as RefusedSet}
 use Rattle.meaning.specs.declared.Made.the-variants.{Done, Refused}
 use Rattle.meaning.specs.Refusals.{refusal, noRoom}
-use Rattle.face_replies.specs.declared.Plan.{Plan}
+use Rattle.face_replies.specs.declared.IndexPlan.{IndexPlan}
 use Rattle.face_replies.specs.Replies.{madeReply}
 
 -- a refusal: nothing is written
-abbrev pub noEntries : Refusal → Plan
+abbrev pub noEntries : Refusal → IndexPlan
 noEntries r = record { count = 0; reply = madeReply (Refused r) }
 
--- an entry for each line of an accepted set of this shape, where there is room
-unfoldable pub allEntries : Shape → ℕ → Plan
+-- an entry for each line of an accepted set of this shape, if there is room
+unfoldable pub allEntries : Shape → ℕ → IndexPlan
 allEntries x room = cond (leb (x .lines) room) (record { count = x .lines; reply = madeReply (Done (x .lines)) }) (noEntries (refusal noRoom (x .lines) 0))
 
 -- what is planned for a judged set
-unfoldable pub planIndex : Judged → ℕ → Plan
+unfoldable pub planIndex : Judged → ℕ → IndexPlan
 planIndex (RefusedSet r) room = noEntries r
 planIndex (Accepted x) room = allEntries x room

@@ -1,13 +1,13 @@
--- `check_entry`: a whole entry lies within the sheet, so its content can be lent; each return by the law of what speaks against it.
+-- `sheet_entry_at`: a whole entry lies within the sheet, so its content can be lent; each return by the law of what speaks against it.
 use mathlib.Core.Path.{sym, _∙_}
 use Prim.Native.Nat.{_+_}
 use native.Mathlib.Nat.{add-sub-cancel-left}
 use native.Mathlib.Omega.{arith}
 use borrow.Author.Needs.{needs}
 use Rattle.entry_read.proofs.HeadLaws.{whole-back}
-use Rattle.view_sheet.proofs.WalkLaws.{byte-within, check-cut, check-good, check-low, check-bad}
-use Rattle.view_sheet.proofs.check_entry.Statement.{statement}
-use Rattle.view_sheet.proofs.check_entry.Tie as tie
+use Rattle.view_sheet.proofs.SheetWalkLaws.{byte-within, sheet-cut, sheet-good, sheet-low, sheet-bad}
+use Rattle.view_sheet.proofs.sheet_entry_at.Statement.{statement}
+use Rattle.view_sheet.proofs.sheet_entry_at.Tie as tie
 
 entry-at-requires : tie.Need-entry-at-requires
 entry-at-requires c κs = search needs
@@ -54,7 +54,7 @@ judge-offer-requires c κs = search needs
 returns : tie.Need-returns
 returns c =
     let e = sym (c .before .before .before .before .before .before .before .entry-at .ensures) ∙ c .before .before .before .before .before .named .given .1 in
-    check-good _ _ _ _ _ _ e _ (add-sub-cancel-left _ _) _ (c .before .before .judge-offer .ensures) (c .if1 .taken)
+    sheet-good _ _ _ _ _ _ e _ (add-sub-cancel-left _ _) _ (c .before .before .judge-offer .ensures) (c .if1 .taken)
 
 add-bad-entry : tie.Need-add-bad-entry
 add-bad-entry c =
@@ -74,22 +74,22 @@ returns-2 : tie.Need-returns-2
 returns-2 c =
     let b = c .before .before .before .before in
     let e = sym (b .before .before .before .before .before .before .before .entry-at .ensures) ∙ b .before .before .before .before .before .named .given .1 in
-    c .bad-entry2 .ensures ∙ check-low _ _ _ _ _ _ e _ (add-sub-cancel-left _ _) _ (b .before .before .judge-offer .ensures) (b .if1 .left) (c .before .before .if2 .taken)
+    c .bad-entry2 .ensures ∙ sheet-low _ _ _ _ _ _ e _ (add-sub-cancel-left _ _) _ (b .before .before .judge-offer .ensures) (b .if1 .left) (c .before .before .if2 .taken)
 
 bad-entry-requires-3 : tie.Need-bad-entry-requires-3
 bad-entry-requires-3 c κs = search needs
 
 returns-3 : tie.Need-returns-3
-returns-3 c = c .bad-entry .ensures ∙ check-cut _ _ _ _ (sym (c .before .before .before .entry-at .ensures) ∙ c .before .enum-told .given .1)
+returns-3 c = c .bad-entry .ensures ∙ sheet-cut _ _ _ _ (sym (c .before .before .before .entry-at .ensures) ∙ c .before .enum-told .given .1)
 
 returns-4 : tie.Need-returns-4
 returns-4 c =
     let b = c .before .before .before .before .before in
     let e = sym (b .before .before .before .before .before .entry-at .ensures) ∙ b .before .before .before .named .given .1 in
-    c .bad-entry3 .ensures ∙ check-bad _ _ _ _ _ _ e _ (add-sub-cancel-left _ _) _ (b .judge-offer .ensures) (c .before .before .before .if1 .left) (c .before .if2 .left)
+    c .bad-entry3 .ensures ∙ sheet-bad _ _ _ _ _ _ e _ (add-sub-cancel-left _ _) _ (b .judge-offer .ensures) (c .before .before .before .if1 .left) (c .before .if2 .left)
 
-pub check-entry-spec : {M : Type 1} → statement M
-check-entry-spec =
+pub sheet-entry-at-spec : {M : Type 1} → statement M
+sheet-entry-at-spec =
     tie.close
     (tie.spec
     entry-at-requires

@@ -10,24 +10,24 @@ use Rattle.meaning.specs.declared.Made.the-variants.{Done}
 use Rattle.meaning.specs.Refusals.{refusal, noRoom}
 use Rattle.face_replies.specs.declared.MadeReply.{MadeReply}
 use Rattle.face_replies.specs.Replies.{madeReply}
-use Rattle.face_replies.specs.Plans.{noEntries, allEntries, planIndex}
+use Rattle.face_replies.specs.IndexPlans.{noEntries, allEntries, planIndex}
 
 module _ (x : Shape) (room : ℕ) where
   -- more lines than there is room for
-  pub plan-no-room : room < x .lines → noEntries (refusal noRoom (x .lines) 0) ≡ allEntries x room
+  pub index-no-room : room < x .lines → noEntries (refusal noRoom (x .lines) 0) ≡ allEntries x room
   unfolding allEntries
-  plan-no-room h = rw (lt-leb (x .lines) room h)
+  index-no-room h = rw (lt-leb (x .lines) room h)
 
   -- an entry for each line
-  pub plan-all : x .lines ≤ room → (reply : MadeReply) → reply ≡ madeReply (Done (x .lines)) → record { count = x .lines; reply = reply } ≡ allEntries x room
+  pub index-all : x .lines ≤ room → (reply : MadeReply) → reply ≡ madeReply (Done (x .lines)) → record { count = x .lines; reply = reply } ≡ allEntries x room
   unfolding allEntries
-  plan-all h reply q = rw (le-leb (x .lines) room h, q)
+  index-all h reply q = rw (le-leb (x .lines) room h, q)
 
 -- a set that is refused, and one that is accepted
-pub plan-refused : (j : Judged) (room : ℕ) (r : Refusal) → j ≡ RefusedSet r → noEntries r ≡ planIndex j room
+pub index-refused : (j : Judged) (room : ℕ) (r : Refusal) → j ≡ RefusedSet r → noEntries r ≡ planIndex j room
 unfolding planIndex
-plan-refused j room r e = rw e
+index-refused j room r e = rw e
 
-pub plan-accepted : (j : Judged) (room : ℕ) (x : Shape) → j ≡ Accepted x → allEntries x room ≡ planIndex j room
+pub index-accepted : (j : Judged) (room : ℕ) (x : Shape) → j ≡ Accepted x → allEntries x room ≡ planIndex j room
 unfolding planIndex
-plan-accepted j room x e = rw e
+index-accepted j room x e = rw e

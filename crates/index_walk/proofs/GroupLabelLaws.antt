@@ -1,4 +1,4 @@
--- Labels that stand for headers and members: what each `return` of `is_header`, `is_member`, `header_of` and `last_behind` has to show.
+-- Labels that stand for headers and members: what each `return` of `is_header`, `is_member`, `header_of` and `last_after` has to show.
 use mathlib.Core.Path.{_≡_, refl}
 use mathlib.Core.Bool.{Bool, true, false, _||_}
 use Prim.Native.Nat.{ℕ, _%_, _≤_, _<_}
@@ -7,7 +7,7 @@ use lib.Dec.{leb, eqb}
 use borrow.Author.Tests.{le-leb, lt-leb, leb-true, eq-eqb, ne-eqb}
 use Rattle.meaning.specs.Tables.{isPairLabel}
 use Rattle.meaning.proofs.Bools.{and-left, and-right}
-use Rattle.index_walk.specs.Walking.{isHeader, isMember, headerOf, lastBehind}
+use Rattle.index_walk.specs.Walking.{isHeader, isMember, headerOf, lastAfter}
 
 or-false : (a : Bool) → a || false ≡ a
 or-false true = refl
@@ -80,10 +80,10 @@ module _ (l last : ℕ) where
   unfolding headerOf
   of-other m = rw m
 
-  pub behind-header : (n : ℕ) → isHeader l ≡ true → lastBehind l n last ≡ n
-  unfolding lastBehind
-  behind-header n h = rw h
+  pub last-header : (n : ℕ) → isHeader l ≡ true → lastAfter l n last ≡ n
+  unfolding lastAfter
+  last-header n h = rw h
 
-  pub behind-other : (n : ℕ) → isHeader l ≡ false → lastBehind l n last ≡ last
-  unfolding lastBehind
-  behind-other n h = rw h
+  pub last-other : (n : ℕ) → isHeader l ≡ false → lastAfter l n last ≡ last
+  unfolding lastAfter
+  last-other n h = rw h
