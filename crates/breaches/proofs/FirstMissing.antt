@@ -20,7 +20,10 @@ use Rattle.keeps.specs.Keeps.{HasRow, AtSetLevel, Required, MemberOf, IsName, G
 use Rattle.keeps.proofs.TableFacts.{Paired, inside, below, above, paired, no-absurd, label-of, name-of, Regular, row-regular, row-label, one-row, not-name-row, not-odd-row, every-row, row-every}
 use Rattle.keeps.proofs.StateLaws.{stateAt, OpenAt, Opened, open-at, at-start, behind-odd, Stands, at-set-level, in-open, behind-name, role-top, role-open, role-odd}
 use Rattle.keeps.proofs.LabelLaws.{LabelFine, alone, member-plain, all-stand, all-behind}
-use Rattle.keeps.proofs.LackLaws.{Met, HasValue, needed-required, needed-8421, needed-8437, Why, by-row, by-value, by-8438, why, into, sorted, unsorted, chosen, unchosen, conditional-label, lackAt, step-lack, end-lack, header-there, header-row-label, ClearTo, set-has, groups-have, values-have-units, has-8437-with-8438, names-have-odds, group-before, seen-group, value-group, name-open}
+use Rattle.keeps.proofs.LackLaws.{Met, HasValue, needed-required, needed-8421, needed-8437, Why, by-row, by-value, by-8438, why, into, sorted}
+use Rattle.keeps.proofs.LackLaws.{unsorted, chosen, unchosen, conditional-label, lackAt, step-lack, end-lack, header-there, header-row-label, ClearTo}
+use Rattle.keeps.proofs.LackLaws.{set-has, groups-have, values-have-units, has-8437-with-8438, names-have-odds, group-before, seen-group, value-group}
+use Rattle.keeps.proofs.LackLaws.{name-open}
 use Rattle.breaches.specs.Breaches.{RequiredIn, always, with-value, with-8438, MissingBreach, of-set, of-group, of-name, missingRank, Rank, rank, Before}
 use Rattle.breaches.proofs.FirstLine.{same-head, head-append, none-to-next}
 

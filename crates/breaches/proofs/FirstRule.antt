@@ -24,7 +24,8 @@ use Rattle.meaning.proofs.RuleLaws.{line-fits}
 use Rattle.keeps.specs.Keeps.{HasRow, Repeats}
 use Rattle.keeps.proofs.TableFacts.{no-absurd, one-row, row-regular, not-0, not-6330, odd-row-odd}
 use Rattle.keeps.proofs.StateLaws.{roleBehind, stateAt, Behind, Stands, at-set-level, in-open, behind-name, role-top, role-open, role-odd}
-use Rattle.keeps.proofs.LabelLaws.{LabelFine, row-there, in-its-group, after-its-name, repeats-in-set, repeats-in-group, stands, open-header, open-name, again-top, again-member, again-odd, behind-fine}
+use Rattle.keeps.proofs.LabelLaws.{LabelFine, row-there, in-its-group, after-its-name, repeats-in-set, repeats-in-group, stands, open-header}
+use Rattle.keeps.proofs.LabelLaws.{open-name, again-top, again-member, again-odd, behind-fine}
 use Rattle.keeps.proofs.RulesExact.{typed, faultsAt, rules-step, rules-end, version-current, version-at}
 use Rattle.breaches.specs.Breaches.{Single, RuleBreach, not-in-set, stray-member, stray-odd, again-in-set, again-in-group, bad-content, other-version, ruleNumber}
 use Rattle.breaches.proofs.FirstLine.{same-head, head-append, ask-head, none-to-next}

@@ -16,7 +16,8 @@ use Rattle.meaning.specs.Lines.{lengthDigits, labelDigits, lineLead, cr, lf, mi
 use Rattle.meaning.specs.Tables.{single}
 use Rattle.meaning.specs.Kinds.{point}
 use Rattle.meaning.specs.FieldTable.{fitsLabel}
-use Rattle.meaning.specs.Refusals.{refusal, empty, badLength, cutLine, badEnd, badLabel, badByte, tooManyLines, noStart, unknownSet, noSum, notInSet, stray, repeated, badContent, otherVersion, missing, badSum}
+use Rattle.meaning.specs.Refusals.{refusal, empty, badLength, cutLine, badEnd, badLabel, badByte, tooManyLines, noStart, unknownSet, noSum, notInSet}
+use Rattle.meaning.specs.Refusals.{stray, repeated, badContent, otherVersion, missing, badSum}
 use Rattle.keeps.specs.Keeps.{LinesWellFormed, StartsSet, EndsBefore, HasRow, AtSetLevel, Required, MemberOf, IsName, IsOdd, InGroup, GroupHas}
 
 -- ---- 2 to 7: a line that starts after the lines fs

@@ -44,7 +44,8 @@ module _ (fs : List Field) (a b c : Bool) (e : startFaults fs ≡ startFaultsBy 
   real-set : Real (setFaults fs)
   unfolding setFaults ruleFaults sumFaults
   real-set =
-      rw e (real-append (startFaultsBy a b c ++ faultsAfterStart (profile fs) fs) _ (real-append (startFaultsBy a b c) (faultsAfterStart (profile fs) fs) (real-starts a b c) (real-after-start (profile fs) fs))
+      rw e (real-append (startFaultsBy a b c ++ faultsAfterStart (profile fs) fs) _
+      (real-append (startFaultsBy a b c) (faultsAfterStart (profile fs) fs) (real-starts a b c) (real-after-start (profile fs) fs))
       (real-ask (eqb (number (contentAtLine fs 1)) (size fs)) (atLine badSum 1 0) (λ z. omega arith)))
 
   set-found : firstOf (inSet fs) (setFaults fs)
@@ -101,7 +102,8 @@ cond-when false x y z h = refl
 second-is : (s : List ℕ) (settype : SetType) (total : ℕ) (f g : Field) (fs : List Field) (t : List ℕ) → Every Sound (f ∷ g ∷ fs) → s ≡ render (f ∷ g ∷ fs) t
     → lineSize f ≡ inSet (f ∷ g ∷ fs) 1 start
     → secondWalk s settype (lineSize f) total (length (f ∷ g ∷ fs))
-    ≡ cond (eqb (g .label) 8100) (orElse (firstOf (inSet (f ∷ g ∷ fs)) (faultsAfterStart (ofType settype) (f ∷ g ∷ fs))) (firstOf (inSet (f ∷ g ∷ fs)) (ask (eqb (number (g .content)) total) (atLine badSum 1 0))))
+    ≡ cond (eqb (g .label) 8100)
+    (orElse (firstOf (inSet (f ∷ g ∷ fs)) (faultsAfterStart (ofType settype) (f ∷ g ∷ fs))) (firstOf (inSet (f ∷ g ∷ fs)) (ask (eqb (number (g .content)) total) (atLine badSum 1 0))))
     (refusal noSum (lineSize f) 0)
 unfolding secondWalk secondBy
 second-is s settype total f g fs t h w e =
@@ -110,7 +112,8 @@ second-is s settype total f g fs t h w e =
     let p : Profile = ofType settype in
     let P : Refusal = firstOf (inSet all) (faultsAfterStart p all) in
     rw (le-leb 2 (length all) (omega arith), read-line s (lineSize f) g (render fs t) w′ (h .1 .0), pass-found s settype all t h w)
-    (cond-when (eqb (g .label) 8100) (orElse P (sumWalk s (lineSize f) total)) (orElse P (firstOf (inSet all) (ask (eqb (number (g .content)) total) (atLine badSum 1 0)))) (refusal noSum (lineSize f) 0)
+    (cond-when (eqb (g .label) 8100) (orElse P (sumWalk s (lineSize f) total))
+    (orElse P (firstOf (inSet all) (ask (eqb (number (g .content)) total) (atLine badSum 1 0)))) (refusal noSum (lineSize f) 0)
     (λ c. or-then P (λ z.
     let none : faultsAfterStart p all ≡ [] = first-none (inSet all) (faultsAfterStart p all) (real-after-start p all) z in
     let fit : fits p g ≡ true = second-fits p f g fs (append-none (rulesFrom p first 0 all) _ none .0) in
@@ -171,7 +174,8 @@ one-line s f t h w =
     let a : Bool = eqb (f .label) 8000 in
     let k : Known = typeNamed (f .content) in
     first-is s f [] t (size all) (length all) (h .0) w
-    ∙ by-tests all (parsed all t) refl (setFaults all) (real-set all a (isKnown k) false refl) (lineSize f) (place-one f []) (firstOf (inSet all) (faultsAfterStart (profile all) all)) (firstOf (inSet all) (sumFaults all)) s a k false refl
+    ∙ by-tests all (parsed all t) refl (setFaults all) (real-set all a (isKnown k) false refl) (lineSize f) (place-one f [])
+    (firstOf (inSet all) (faultsAfterStart (profile all) all)) (firstOf (inSet all) (sumFaults all)) s a k false refl
     (λ settype e. refl) (set-found all a (isKnown k) false refl)
 
 lines-are : (s : List ℕ) (f : Field) (fs : List Field) (t : List ℕ) → Every Sound (f ∷ fs) → s ≡ render (f ∷ fs) t

@@ -160,7 +160,8 @@ module _ (pl : ℕ → Spot → ℕ) (st : State) (ms : G.State) (s : Same pl st
     number-by : numbered (cond (eqb no 0) (contentNo (f .label) (f .content)) no) at (f .label) ≡ firstOf pl (lineRules (roleBy isTop isOurs r) p ms k f)
     number-by =
         sym (or-numbers no (contentNo (f .label) (f .content)) at (f .label))
-        ∙ (ap₂ orElse (sym (label-is pl isTop isOurs r ms k (f .label) at (getD (st .top) i false) (getD (st .members) i false) e (seen-so (st .top) (ms .top) (s .top)) (seen-so (st .members) (ms .members) (s .members))))
+        ∙ (ap₂ orElse (sym (label-is pl isTop isOurs r ms k (f .label) at (getD (st .top) i false)
+        (getD (st .members) i false) e (seen-so (st .top) (ms .top) (s .top)) (seen-so (st .members) (ms .members) (s .members))))
         (sym (content-is pl p k at f e))
         ∙ (sym (first-append pl (labelFaults (roleBy isTop isOurs r) ms k (f .label)) (contentFaults p k f) (real-label (roleBy isTop isOurs r) ms k (f .label)))
         ∙ ap (firstOf pl) (sym (rules-by isTop isOurs r p ms k f))))
@@ -173,7 +174,8 @@ module _ (pl : ℕ → Spot → ℕ) (st : State) (ms : G.State) (s : Same pl st
     unfolding lineNo labelNo placeNo nextState staysIn
     known-line = record {
       number-so = number-by ∙ ap (λ (o : Role). firstOf pl (lineRules o p ms k f)) (sym role-so);
-      state-so = λ z. subst (λ (o : Role). Same pl (nextState (At i r) st at (f .label)) (next o ms k (f .label))) (sym role-so) (next-by isTop isOurs (placed no (contentNo (f .label) (f .content)) at z));
+      state-so = λ z. subst (λ (o : Role). Same pl (nextState (At i r) st at (f .label)) (next o ms k (f .label)))
+          (sym role-so) (next-by isTop isOurs (placed no (contentNo (f .label) (f .content)) at z));
       stays-so = λ z. stays-by isTop isOurs (placed no (contentNo (f .label) (f .content)) at z) ∙ ap stays (sym role-so);
     }
 
@@ -215,7 +217,8 @@ module _ (settype : SetType) (pl : ℕ → Spot → ℕ) where
       → (found : Found) → LineSame pl (roleIn profileOf ms f) profileOf st ms k at f found
       → (F : State → Refusal → Refusal)
       → ((st′ : State) (ms′ : G.State) (lack′ : Refusal) → Same pl st′ ms′ → F st′ lack′ ≡ whole ms′ (k + 1) fs lack′)
-      → cond (eqb (lineNo found st (f .label) (f .content)) 0) (F (nextState found st at (f .label)) (lackThen (staysIn found) settype st lack)) (refusal (lineNo found st (f .label) (f .content)) at (f .label))
+      → cond (eqb (lineNo found st (f .label) (f .content)) 0) (F (nextState found st at (f .label)) (lackThen (staysIn found) settype st lack))
+      (refusal (lineNo found st (f .label) (f .content)) at (f .label))
       ≡ whole ms k (f ∷ fs) lack
   unfolding rulesFrom after groupsLacking
   pass-step f fs at k st ms lack sm found ls F ih = go (eqb no 0) refl
@@ -266,7 +269,8 @@ module _ (settype : SetType) (pl : ℕ → Spot → ℕ) where
   pub pass-line : (f : Field) (fs : List Field) (at k : ℕ) (st : State) (ms : G.State) (lack : Refusal) → Same pl st ms → at ≡ pl k start
       → (F : State → Refusal → Refusal)
       → ((st′ : State) (ms′ : G.State) (lack′ : Refusal) → Same pl st′ ms′ → F st′ lack′ ≡ whole ms′ (k + 1) fs lack′)
-      → cond (eqb (lineNo (rowOf settype (f .label)) st (f .label) (f .content)) 0) (F (nextState (rowOf settype (f .label)) st at (f .label)) (lackThen (staysIn (rowOf settype (f .label))) settype st lack))
+      → cond (eqb (lineNo (rowOf settype (f .label)) st (f .label) (f .content)) 0)
+      (F (nextState (rowOf settype (f .label)) st at (f .label)) (lackThen (staysIn (rowOf settype (f .label))) settype st lack))
       (refusal (lineNo (rowOf settype (f .label)) st (f .label) (f .content)) at (f .label))
       ≡ whole ms k (f ∷ fs) lack
   pass-line f fs at k st ms lack sm e F ih =

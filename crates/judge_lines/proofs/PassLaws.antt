@@ -34,7 +34,8 @@ use Rattle.judge_lines.specs.Pass.{passFrom, passSet}
 
 -- the content of a line is the part of the set that stands there
 pub step-line : {settype : SetType} {st : State} {lack : Refusal} {l : ℕ} {r : Step} {members top : List Bool} (s : List ℕ) (at size : ℕ) → 10 ≤ size
-    → Stepped (rowOf settype l) settype st lack at l (take (at + size - 2 - (at + 7)) (drop (at + lineLead) s)) r members top → Stepped (rowOf settype l) settype st lack at l (contentOf s at size) r members top
+    → Stepped (rowOf settype l) settype st lack at l (take (at + size - 2 - (at + 7)) (drop (at + lineLead) s)) r members top
+    → Stepped (rowOf settype l) settype st lack at l (contentOf s at size) r members top
 step-line {settype} {st} {lack} {l} {r} {members} {top} s at size h e =
     let m : at + size - 2 - (at + 7) ≡ size - 9 = omega arith in
     subst (λ (x : ℕ). Stepped (rowOf settype l) settype st lack at l (take x (drop (at + lineLead) s)) r members top) m e

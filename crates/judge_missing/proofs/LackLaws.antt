@@ -199,7 +199,8 @@ module _ (has : ℕ → Bool) (pl : ℕ → Spot → ℕ) (h k place : ℕ) (e :
 
 -- ---- the open group, and all groups
 
-pub open-is : (settype : SetType) (pl : ℕ → Spot → ℕ) (st : State) (ms : G.State) → Same pl st ms → openLack settype (st .header) (st .place) (st .members) ≡ firstOf pl (openLacking (table settype) ms)
+pub open-is : (settype : SetType) (pl : ℕ → Spot → ℕ) (st : State) (ms : G.State) → Same pl st ms
+    → openLack settype (st .header) (st .place) (st .members) ≡ firstOf pl (openLacking (table settype) ms)
 unfolding openLack openLacking
 open-is settype pl st ms s =
     ap (λ (h : ℕ). cond (eqb h noHeader) noRefusal (groupLack settype (seen (st .members)) h (st .place))) (s .header)

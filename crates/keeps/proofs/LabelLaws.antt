@@ -16,8 +16,10 @@ use Rattle.meaning.specs.Tables.{setLevel, isPairLabel, rowLabel, table, find}
 use Rattle.meaning.specs.Groups.{State, strayed, member, belongs, roleOf, role, labelFaults}
 use Rattle.meaning.proofs.FaultLaws.{ask-last}
 use Rattle.keeps.specs.Keeps.{HasRow, AtSetLevel, MemberOf, Repeats, IsOdd, InGroup, LabelsInTable, MembersInGroups, OddsAfterNames, OnceInSet, OnceInGroups, KeepsRules}
-use Rattle.keeps.proofs.TableFacts.{Paired, inside, below, above, paired, le-cases, ne-cases, no-absurd, label-of, odd-row-label, Regular, row-regular, row-label, one-row, not-0, not-6330, member-no-pair, odd-row-odd, odd-is-pair}
-use Rattle.keeps.proofs.StateLaws.{roleBehind, stateAt, OpenAt, Opened, open-at, at-start, behind-odd, Behind, behind-first, behind-next, Stands, at-set-level, in-open, behind-name, role-top, role-open, role-odd}
+use Rattle.keeps.proofs.TableFacts.{Paired, inside, below, above, paired, le-cases, ne-cases, no-absurd, label-of, odd-row-label, Regular}
+use Rattle.keeps.proofs.TableFacts.{row-regular, row-label, one-row, not-0, not-6330, member-no-pair, odd-row-odd, odd-is-pair}
+use Rattle.keeps.proofs.StateLaws.{roleBehind, stateAt, OpenAt, Opened, open-at, at-start, behind-odd, Behind, behind-first, behind-next}
+use Rattle.keeps.proofs.StateLaws.{Stands, at-set-level, in-open, behind-name, role-top, role-open, role-odd}
 
 module _ (t : SetType) where
   -- ---- a member is never at set level, no header and no label of a pair

@@ -20,8 +20,11 @@ use Rattle.meaning.specs.Missing.{onCondition, needed, rowsUnder, insert, ascen
 use Rattle.meaning.proofs.Bools.{or-right, Every}
 use Rattle.meaning.proofs.FaultLaws.{append-none, none-both, ask-none}
 use Rattle.keeps.specs.Keeps.{HasRow, AtSetLevel, Required, MemberOf, IsName, IsOdd, InGroup, GroupHas, SetComplete, KeepsRules}
-use Rattle.keeps.proofs.TableFacts.{or-cases, le-cases, lt-or-le, no-absurd, label-of, name-of, name-row-label, conditional, Regular, row-regular, row-label, one-row, no-row-0, only-6310, not-0, not-6330, not-name-row, not-odd-row, odd-row-odd, every-row, row-every}
-use Rattle.keeps.proofs.StateLaws.{roleBehind, stateAt, OpenAt, Opened, open-at, at-start, behind-odd, Stands, at-set-level, in-open, behind-name, role-top, role-open, role-odd, open-next-top, open-next-member}
+use Rattle.keeps.proofs.TableFacts.{or-cases, le-cases, lt-or-le, no-absurd, label-of, name-of, name-row-label, conditional, Regular}
+use Rattle.keeps.proofs.TableFacts.{row-regular, row-label, one-row, no-row-0, only-6310, not-0, not-6330, not-name-row, not-odd-row}
+use Rattle.keeps.proofs.TableFacts.{odd-row-odd, every-row, row-every}
+use Rattle.keeps.proofs.StateLaws.{roleBehind, stateAt, OpenAt, Opened, open-at, at-start, behind-odd, Stands, at-set-level, in-open}
+use Rattle.keeps.proofs.StateLaws.{behind-name, role-top, role-open, role-odd, open-next-top, open-next-member}
 use Rattle.keeps.proofs.LabelLaws.{alone, member-not-top, member-under, odd-not-top, between-group, all-stand, all-behind, table-kept, behind-kept, stand-kept}
 
 -- ---- no lack among some rows is that each row that is needed is there

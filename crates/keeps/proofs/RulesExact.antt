@@ -31,7 +31,8 @@ use Rattle.keeps.specs.Keeps.{StartsWith, ContentsFit, VersionIs0210, Gr
 use Rattle.keeps.proofs.TableFacts.{le-cases}
 use Rattle.keeps.proofs.StateLaws.{roleBehind, stateAt}
 use Rattle.keeps.proofs.LabelLaws.{table-kept, groups-kept, odds-kept, set-once, groups-once, labels-fine}
-use Rattle.keeps.proofs.LackLaws.{ClearTo, clear-all, no-lack, lack-none-all, after-all, set-has, groups-have, values-have-units, has-8437-with-8438, names-have-odds, set-lacks-none, groups-lack-none}
+use Rattle.keeps.proofs.LackLaws.{ClearTo, clear-all, no-lack, lack-none-all, after-all, set-has, groups-have, values-have-units}
+use Rattle.keeps.proofs.LackLaws.{has-8437-with-8438, names-have-odds, set-lacks-none, groups-lack-none}
 
 -- ---- the type that line 1 names
 

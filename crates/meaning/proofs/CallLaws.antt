@@ -55,7 +55,8 @@ set-list-set s list₀ list₁ out₀ out₁ x n answer j p q room u v =
     let a = accepted s (d .0) (d .1) in
     let l = done-call (list s (length list₀)) n p in
     let f : take n list₁ ≡ l .bytes = ap (take n) (q ∙ ap (λ (r : Reply (List ℕ)). bytesLeft r list₀) (l .is-done)) ∙ front-made (l .bytes) list₀ n (l .so-many) in
-    let w : write (take n list₁) (length out₀) ≡ done (take (x .length) s) = ap (λ (z : List ℕ). write z (length out₀)) f ∙ list-write s x (l .bytes) (length list₀) (length out₀) j (l .is-done) room in
+    let w : write (take n list₁) (length out₀) ≡ done (take (x .length) s) = ap (λ (z : List ℕ). write z (length out₀)) f
+    ∙ list-write s x (l .bytes) (length list₀) (length out₀) j (l .is-done) room in
     let m : length (take (x .length) s) ≡ x .length =
     omega (arith, length-take (x .length) s, ap (λ (y : Shape). y .length) (d .2), ap length (a .bytes), length-render (d .0 .fields) (d .0 .rest)) in (
       u ∙ (ap made w ∙ ap Done m),

@@ -60,7 +60,8 @@ real-rules p ms k (f ∷ fs) =
 real-lacking-of : (rs : List Row) (h k : ℕ) (has : ℕ → Bool) → Real (lackingOf rs h k has)
 unfolding lackingOf
 real-lacking-of [] h k has = tt
-real-lacking-of (r ∷ rs) h k has = real-rule (not (needed r has && not (has (r .label)))) (atLine missing k (missingLabel h (r .label))) (lackingOf rs h k has) (λ z. omega arith) (real-lacking-of rs h k has)
+real-lacking-of (r ∷ rs) h k has = real-rule (not (needed r has && not (has (r .label))))
+    (atLine missing k (missingLabel h (r .label))) (lackingOf rs h k has) (λ z. omega arith) (real-lacking-of rs h k has)
 
 pub real-lacking : (rs : List Row) (h k : ℕ) (has : ℕ → Bool) → Real (lacking rs h k has)
 unfolding lacking

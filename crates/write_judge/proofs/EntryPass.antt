@@ -51,7 +51,8 @@ module _ (settype : SetType) (st : State) (lack : Refusal) (at l : ℕ) (c : Lis
 
 -- the content as the code cuts it out
 pub step-entry : (l : List ℕ) (at m : ℕ) {settype : SetType} {st : State} {lack : Refusal} {label : ℕ} {r : Step} {members top : List Bool}
-    → Stepped (rowOf settype label) settype st lack at label (take (at + entryLead + m - (at + entryLead)) (drop (at + entryLead) l)) r members top → Stepped (rowOf settype label) settype st lack at label (listContent l at m) r members top
+    → Stepped (rowOf settype label) settype st lack at label (take (at + entryLead + m - (at + entryLead)) (drop (at + entryLead) l)) r members top
+    → Stepped (rowOf settype label) settype st lack at label (listContent l at m) r members top
 step-entry l at m {settype} {st} {lack} {label} {r} {members} {top} e =
     let w : at + entryLead + m - (at + entryLead) ≡ m = omega arith in
     subst (λ (n : ℕ). Stepped (rowOf settype label) settype st lack at label (take n (drop (at + entryLead) l)) r members top) w e

@@ -285,7 +285,8 @@ module _ {M : Type 1} (𝓤 : URA M) (H : Heap 𝓤) (A : Atoms 𝓤) (W : Given
       nothing ! $ move ! (1 ∷ 0 ∷ []) $ fjoin ! $ move ! (1 ∷ 0 ∷ []) $ fjoin ! $
       owned ! R.the-row (Is R.the-row) (LL.makes R.the-type R′.the-plain 𝓤 H A) (p .reply) _ (reply-fits p h) $ move ! (1 ∷ 0 ∷ []) $ done !
 
-  module _ (𝓣 : Tables 𝓤 H) (known-plan : Triple 𝓤 (𝓣 .C #plan-of) (Planning 𝓤 H A mem run)) (known-start : Triple 𝓤 (𝓣 .C #start) (Starting 𝓤 H A mem run)) (known-next : Triple 𝓤 (𝓣 .C #next-entry) (Stepping 𝓤 H A mem run)) where
+  module _ (𝓣 : Tables 𝓤 H) (known-plan : Triple 𝓤 (𝓣 .C #plan-of) (Planning 𝓤 H A mem run))
+      (known-start : Triple 𝓤 (𝓣 .C #start) (Starting 𝓤 H A mem run)) (known-next : Triple 𝓤 (𝓣 .C #next-entry) (Stepping 𝓤 H A mem run)) where
     -- ---- after the call of `plan_of`
     -- The locals stand at: l₀ the result, l₁ set, l₂ out, l₃ plan, l₄ walk, l₅ i, l₆ next, l₇ out's length, l₈ the loop's test, l₉ and l₁₀ the offset and the place of out[i].
     module _ (p : IndexPlan) (e : Planned p) (h : PlanFits p) (l₀ l₁ l₂ l₃ l₄ l₅ l₆ l₇ l₈ l₉ l₁₀ : ℕ) where
@@ -456,7 +457,8 @@ module _ {M : Type 1} (𝓤 : URA M) (H : Heap 𝓤) (A : Atoms 𝓤) (W : Given
 -- ---- the walk is the contract
 
 module _ {M : Type 1} (𝓤 : URA M) (H : Heap 𝓤) (A : Atoms 𝓤) (W : Given 𝓤 H A) (mem : Memory → SProp 𝓤) (run : Routine → Fun 𝓤) (𝓣 : Tables 𝓤 H)
-    (known-plan : Triple 𝓤 (𝓣 .C #plan-of) (Planning 𝓤 H A mem run)) (known-start : Triple 𝓤 (𝓣 .C #start) (Starting 𝓤 H A mem run)) (known-next : Triple 𝓤 (𝓣 .C #next-entry) (Stepping 𝓤 H A mem run)) where
+    (known-plan : Triple 𝓤 (𝓣 .C #plan-of) (Planning 𝓤 H A mem run)) (known-start : Triple 𝓤 (𝓣 .C #start) (Starting 𝓤 H A mem run))
+    (known-next : Triple 𝓤 (𝓣 .C #next-entry) (Stepping 𝓤 H A mem run)) where
   index-walks : Walks 𝓤 H A index.ended stayed (WpFn 𝓤 H (𝓣 .C) (𝓣 .Λ) code.function) (index.clauses 𝓤 H A mem run)
   index-walks =
       walked 𝓤 H A index.ended stayed (index.clauses 𝓤 H A mem run) (WpFn 𝓤 H (𝓣 .C) (𝓣 .Λ) code.function)

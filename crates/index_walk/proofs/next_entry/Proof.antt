@@ -47,10 +47,14 @@ add-t13 c = search needs
 
 returns-3 : tie.Need-returns-3
 returns-3 c =
-    let b2 = c .before .before in
-    let b4 = b2 .before .before in
-    next-told _ _ (omega (arith, b4 .before .if2 .left, b4 .before .before .if1 .left)) _ (b4 .told-length .ensures .0) _ (b2 .before .told-label .ensures)
-    _ (b2 .one-more .ensures) _ (c .before .last-after .ensures) _ (c .header-of .ensures)
+    let at-last-after = c .before in
+    let at-one-more = at-last-after .before in
+    let at-told-label = at-one-more .before in
+    let at-told-length = at-told-label .before in
+    let at-if2 = at-told-length .before in
+    let at-if1 = at-if2 .before in
+    next-told _ _ (omega (arith, at-if2 .if2 .left, at-if1 .if1 .left)) _ (at-told-length .told-length .ensures .0) _ (at-told-label .told-label .ensures)
+    _ (at-one-more .one-more .ensures) _ (at-last-after .last-after .ensures) _ (c .header-of .ensures)
 
 pub next-entry-spec : {M : Type 1} → statement M
 next-entry-spec =

@@ -27,7 +27,13 @@ again-no-requires-2 c κs = search needs
 
 returns-2 : tie.Need-returns-2
 unfolding placeNo
-returns-2 c = λ r e m. rw (sym (c .before .before .before .belongs-to .ensures r e) ∙ c .before .before .if2 .taken, e, m, ne-eqb _ _ (c .before .before .before .before .if1 .left), ← c .before .has2 .ensures) (c .again-no2 .ensures)
+returns-2 c =
+    let at-has2 = c .before in
+    let at-if2 = at-has2 .before in
+    let at-belongs-to = at-if2 .before in
+    let at-if1 = at-belongs-to .before in
+    λ r e m. rw (sym (at-belongs-to .belongs-to .ensures r e) ∙ at-if2 .if2 .taken, e, m, ne-eqb _ _ (at-if1 .if1 .left), ← at-has2 .has2 .ensures)
+    (c .again-no2 .ensures)
 
 returns-3 : tie.Need-returns-3
 unfolding placeNo

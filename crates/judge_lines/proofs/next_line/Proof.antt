@@ -19,7 +19,10 @@ enum-told : tie.Need-enum-told
 enum-told c = search needs
 
 returns-2 : tie.Need-returns-2
-returns-2 c = next-read _ _ _ (omega arith) (sym (c .before .before .before .usual-line .ensures) ∙ c .before .label .given .1)
+returns-2 c =
+    let at-label = c .before in
+    let at-usual-line = at-label .before .before in
+    next-read _ _ _ (omega arith) (sym (at-usual-line .usual-line .ensures) ∙ at-label .label .given .1)
 
 returns-3 : tie.Need-returns-3
 returns-3 c = next-unread _ _ _ (omega arith) (sym (c .before .before .usual-line .ensures) ∙ c .enum-told .given .1) 0

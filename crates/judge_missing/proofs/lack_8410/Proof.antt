@@ -18,14 +18,24 @@ lack-8437-requires c κs = search needs
 
 returns : tie.Need-returns
 unfolding lack8410 seen labelNumber rowsBefore fieldTable
-returns c = rw (sym (c .before .before .before .before .has-value .ensures) ∙ c .before .before .before .if1 .taken, sym (c .before .before .has .ensures) ∙ c .before .if2 .taken) (c .lack-8437 .ensures)
+returns c =
+    let at-if2 = c .before in
+    let at-has = at-if2 .before in
+    let at-if1 = at-has .before in
+    let at-has-value = at-if1 .before in
+    rw (sym (at-has-value .has-value .ensures) ∙ at-if1 .if1 .taken, sym (at-has .has .ensures) ∙ at-if2 .if2 .taken) (c .lack-8437 .ensures)
 
 missing-requires : tie.Need-missing-requires
 missing-requires c κs = search needs
 
 returns-2 : tie.Need-returns-2
 unfolding lack8410 seen labelNumber rowsBefore fieldTable
-returns-2 c = rw (sym (c .before .before .before .before .has-value .ensures) ∙ c .before .before .before .if1 .taken, sym (c .before .before .has .ensures) ∙ c .before .if2 .left) (c .missing .ensures)
+returns-2 c =
+    let at-if2 = c .before in
+    let at-has = at-if2 .before in
+    let at-if1 = at-has .before in
+    let at-has-value = at-if1 .before in
+    rw (sym (at-has-value .has-value .ensures) ∙ at-if1 .if1 .taken, sym (at-has .has .ensures) ∙ at-if2 .if2 .left) (c .missing .ensures)
 
 lack-8437-requires-2 : tie.Need-lack-8437-requires-2
 lack-8437-requires-2 c κs = search needs

@@ -18,14 +18,24 @@ none-requires c κs = search needs
 
 returns : tie.Need-returns
 unfolding lack8437 seen labelNumber rowsBefore fieldTable
-returns c = rw (sym (c .before .before .before .before .has .ensures) ∙ c .before .before .before .if1 .taken, sym (c .before .before .has2 .ensures) ∙ c .before .if2 .taken) (c .none .ensures)
+returns c =
+    let at-if2 = c .before in
+    let at-has2 = at-if2 .before in
+    let at-if1 = at-has2 .before in
+    let at-has = at-if1 .before in
+    rw (sym (at-has .has .ensures) ∙ at-if1 .if1 .taken, sym (at-has2 .has2 .ensures) ∙ at-if2 .if2 .taken) (c .none .ensures)
 
 missing-requires : tie.Need-missing-requires
 missing-requires c κs = search needs
 
 returns-2 : tie.Need-returns-2
 unfolding lack8437 seen labelNumber rowsBefore fieldTable
-returns-2 c = rw (sym (c .before .before .before .before .has .ensures) ∙ c .before .before .before .if1 .taken, sym (c .before .before .has2 .ensures) ∙ c .before .if2 .left) (c .missing .ensures)
+returns-2 c =
+    let at-if2 = c .before in
+    let at-has2 = at-if2 .before in
+    let at-if1 = at-has2 .before in
+    let at-has = at-if1 .before in
+    rw (sym (at-has .has .ensures) ∙ at-if1 .if1 .taken, sym (at-has2 .has2 .ensures) ∙ at-if2 .if2 .left) (c .missing .ensures)
 
 none-requires-2 : tie.Need-none-requires-2
 none-requires-2 c κs = search needs

@@ -41,12 +41,14 @@ loop-less : tie.Need-loop-less Inv-loop μ-loop
 loop-less c = search needs
 
 loop-again : tie.Need-loop-again Inv-loop μ-loop
-loop-again c = (
-  omega arith,
-  λ h.
-      let l = c .before .before .before .loop in
-      digits-further _ _ (l .i) _ (omega arith) (c .usual-byte .ensures (and-right (l .fit) _ h)) ∙ l .inv .1 (and-left (l .fit) _ h),
-)
+loop-again c =
+    let at-loop-test = c .before .before in
+    let at-loop = at-loop-test .before in (
+      omega arith,
+      λ h.
+          let l = at-loop .loop in
+          digits-further _ _ (l .i) _ (omega arith) (c .usual-byte .ensures (and-right (l .fit) _ h)) ∙ l .inv .1 (and-left (l .fit) _ h),
+    )
 
 returns : tie.Need-returns Inv-loop μ-loop
 returns c = λ e. let l = c .before .loop in sym (l .inv .1 e) ∙ sym (digits-done _ _ (l .i) _ (omega arith))

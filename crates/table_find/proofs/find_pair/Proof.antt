@@ -20,8 +20,11 @@ at-requires c κs = search needs
 returns : tie.Need-returns
 unfolding code findFrom labelNumber rowsBefore rows6310 fieldCode kindNumber fieldRowIn fieldTable
 returns c =
-    let p = sym (c .before .before .before .is-pair .ensures) ∙ c .before .before .if1 .taken in
-    rw (p, row-even _ p (c .before .if2 .taken)) (c .at .ensures)
+    let at-if2 = c .before in
+    let at-if1 = at-if2 .before in
+    let at-is-pair = at-if1 .before in
+    let p = sym (at-is-pair .is-pair .ensures) ∙ at-if1 .if1 .taken in
+    rw (p, row-even _ p (at-if2 .if2 .taken)) (c .at .ensures)
 
 at-requires-2 : tie.Need-at-requires-2
 at-requires-2 c κs = search needs
@@ -29,8 +32,11 @@ at-requires-2 c κs = search needs
 returns-2 : tie.Need-returns-2
 unfolding code findFrom labelNumber rowsBefore rows6310 fieldCode kindNumber fieldRowIn fieldTable
 returns-2 c =
-    let p = sym (c .before .before .before .is-pair .ensures) ∙ c .before .before .if1 .taken in
-    rw (p, row-odd _ p (c .before .if2 .left)) (c .at2 .ensures)
+    let at-if2 = c .before in
+    let at-if1 = at-if2 .before in
+    let at-is-pair = at-if1 .before in
+    let p = sym (at-is-pair .is-pair .ensures) ∙ at-if1 .if1 .taken in
+    rw (p, row-odd _ p (at-if2 .if2 .left)) (c .at2 .ensures)
 
 returns-3 : tie.Need-returns-3
 returns-3 c = rw (sym (c .before .is-pair .ensures) ∙ c .if1 .left)

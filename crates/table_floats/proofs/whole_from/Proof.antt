@@ -32,8 +32,11 @@ loop-less c = search needs
 
 loop-again : tie.Need-loop-again Inv-loop μ-loop
 loop-again c =
-    let l = c .before .before .before .before .loop in
-    sym (whole-more _ (l .i) (omega arith) (sym (c .before .is-digit .ensures) ∙ c .if1 .taken)) ∙ l .inv
+    let at-is-digit = c .before in
+    let at-loop-test = at-is-digit .before .before in
+    let at-loop = at-loop-test .before in
+    let l = at-loop .loop in
+    sym (whole-more _ (l .i) (omega arith) (sym (at-is-digit .is-digit .ensures) ∙ c .if1 .taken)) ∙ l .inv
 
 shared-slice-read-if2 : tie.Need-shared-slice-read-if2 Inv-loop μ-loop
 shared-slice-read-if2 c = search needs
@@ -46,13 +49,21 @@ decimals-from-requires c κs = search needs
 
 returns : tie.Need-returns Inv-loop μ-loop
 returns c =
-    let l = c .before .before .before .before .before .before .before .loop in
-    c .decimals-from .ensures ∙ (sym (whole-point _ (l .i) (omega arith) (c .before .if2 .taken)) ∙ l .inv)
+    let at-if2 = c .before in
+    let at-if1 = at-if2 .before .before in
+    let at-shared-slice-known2 = at-if1 .before .before in
+    let at-loop = at-shared-slice-known2 .before .before in
+    let l = at-loop .loop in
+    c .decimals-from .ensures ∙ (sym (whole-point _ (l .i) (omega arith) (at-if2 .if2 .taken)) ∙ l .inv)
 
 returns-2 : tie.Need-returns-2 Inv-loop μ-loop
 returns-2 c =
-    let l = c .before .before .before .before .before .before .loop in
-    sym (whole-stop _ (l .i) (omega arith) (sym (c .before .before .before .is-digit .ensures) ∙ c .before .before .if1 .left) (c .if2 .left)) ∙ l .inv
+    let at-if1 = c .before .before in
+    let at-is-digit = at-if1 .before in
+    let at-loop-test = at-is-digit .before .before in
+    let at-loop = at-loop-test .before in
+    let l = at-loop .loop in
+    sym (whole-stop _ (l .i) (omega arith) (sym (at-is-digit .is-digit .ensures) ∙ at-if1 .if1 .left) (c .if2 .left)) ∙ l .inv
 
 returns-3 : tie.Need-returns-3 Inv-loop μ-loop
 returns-3 c =

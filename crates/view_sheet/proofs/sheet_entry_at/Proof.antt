@@ -23,17 +23,25 @@ enum-known-named c = search needs
 
 add-content : tie.Need-add-content
 add-content c =
-    let a = c .before .before .before .before .before .before .args in
-    let e = sym (c .before .before .before .entry-at .ensures) ∙ c .before .named .given .1 in
+    let at-named = c .before in
+    let at-entry-at = at-named .before .before in
+    let at-shared-slice-known = at-entry-at .before .before in
+    let at-start = at-shared-slice-known .before in
+    let a = at-start .args in
+    let e = sym (at-entry-at .entry-at .ensures) ∙ at-named .named .given .1 in
     let w = whole-back (a .sheet .now) (a .at) e .within in
-    omega (arith, w, c .before .before .before .before .before .before .fits, c .before .before .before .before .before .before .good)
+    omega (arith, w, at-start .fits, at-start .good)
 
 add-end : tie.Need-add-end
 add-end c =
-    let a = c .before .before .before .before .before .before .args in
-    let e = sym (c .before .before .before .entry-at .ensures) ∙ c .before .named .given .1 in
+    let at-named = c .before in
+    let at-entry-at = at-named .before .before in
+    let at-shared-slice-known = at-entry-at .before .before in
+    let at-start = at-shared-slice-known .before in
+    let a = at-start .args in
+    let e = sym (at-entry-at .entry-at .ensures) ∙ at-named .named .given .1 in
     let w = whole-back (a .sheet .now) (a .at) e .within in
-    omega (arith, w, c .before .before .before .before .before .before .fits, c .before .before .before .before .before .before .good)
+    omega (arith, w, at-start .fits, at-start .good)
 
 sub-judge-offer : tie.Need-sub-judge-offer
 sub-judge-offer c = search needs
@@ -43,8 +51,12 @@ part-judge-offer-start c = search needs
 
 part-judge-offer-end : tie.Need-part-judge-offer-end
 part-judge-offer-end c =
-    let a = c .before .before .before .before .before .before .args in
-    let e = sym (c .before .before .before .entry-at .ensures) ∙ c .before .named .given .1 in
+    let at-named = c .before in
+    let at-entry-at = at-named .before .before in
+    let at-shared-slice-known = at-entry-at .before .before in
+    let at-start = at-shared-slice-known .before in
+    let a = at-start .args in
+    let e = sym (at-entry-at .entry-at .ensures) ∙ at-named .named .given .1 in
     let w = whole-back (a .sheet .now) (a .at) e .within in
     omega (arith, w)
 
@@ -53,40 +65,64 @@ judge-offer-requires c κs = search needs
 
 returns : tie.Need-returns
 returns c =
-    let e = sym (c .before .before .before .before .before .before .before .entry-at .ensures) ∙ c .before .before .before .before .before .named .given .1 in
-    sheet-good _ _ _ _ _ _ e _ (add-sub-cancel-left _ _) _ (c .before .before .judge-offer .ensures) (c .if1 .taken)
+    let at-judge-offer = c .before .before in
+    let at-judge-offer-arg = at-judge-offer .before in
+    let at-named = at-judge-offer-arg .before .before in
+    let at-entry-at = at-named .before .before in
+    let e = sym (at-entry-at .entry-at .ensures) ∙ at-named .named .given .1 in
+    sheet-good _ _ _ _ _ _ e _ (add-sub-cancel-left _ _) _ (at-judge-offer .judge-offer .ensures) (c .if1 .taken)
 
 add-bad-entry : tie.Need-add-bad-entry
 add-bad-entry c =
-    let b = c .before .before .before .before .before in
-    let a = b .before .before .before .before .before .before .before .before .args in
-    let e = sym (b .before .before .before .before .before .entry-at .ensures) ∙ b .before .before .before .named .given .1 in
+    let at-if2 = c .before in
+    let at-if1 = at-if2 .before .before in
+    let at-judge-offer = at-if1 .before .before in
+    let at-judge-offer-arg = at-judge-offer .before in
+    let at-named = at-judge-offer-arg .before .before in
+    let at-entry-at = at-named .before .before in
+    let at-shared-slice-known = at-entry-at .before .before in
+    let at-start = at-shared-slice-known .before in
+    let a = at-start .args in
+    let e = sym (at-entry-at .entry-at .ensures) ∙ at-named .named .given .1 in
     let w = whole-back (a .sheet .now) (a .at) e .within in
-    let q = b .before .before .before .named .given .0 in
-    let o = b .judge-offer in
+    let q = at-named .named .given .0 in
+    let o = at-judge-offer .judge-offer in
     let i = byte-within (a .set .now) (a .shape) (a .sheet .now) (a .at + 4) (q .0) (q .1 .0) (o .result) (o .ensures) in
-    omega (arith, w, i, b .before .before .before .before .before .before .before .before .fits, b .before .before .before .before .before .before .before .before .good)
+    omega (arith, w, i, at-start .fits, at-start .good)
 
 bad-entry-requires-2 : tie.Need-bad-entry-requires-2
 bad-entry-requires-2 c κs = search needs
 
 returns-2 : tie.Need-returns-2
 returns-2 c =
-    let b = c .before .before .before .before in
-    let e = sym (b .before .before .before .before .before .before .before .entry-at .ensures) ∙ b .before .before .before .before .before .named .given .1 in
-    c .bad-entry2 .ensures ∙ sheet-low _ _ _ _ _ _ e _ (add-sub-cancel-left _ _) _ (b .before .before .judge-offer .ensures) (b .if1 .left) (c .before .before .if2 .taken)
+    let at-if2 = c .before .before in
+    let at-if1 = at-if2 .before .before in
+    let at-judge-offer = at-if1 .before .before in
+    let at-judge-offer-arg = at-judge-offer .before in
+    let at-named = at-judge-offer-arg .before .before in
+    let at-entry-at = at-named .before .before in
+    let e = sym (at-entry-at .entry-at .ensures) ∙ at-named .named .given .1 in
+    c .bad-entry2 .ensures ∙ sheet-low _ _ _ _ _ _ e _ (add-sub-cancel-left _ _) _ (at-judge-offer .judge-offer .ensures) (at-if1 .if1 .left) (at-if2 .if2 .taken)
 
 bad-entry-requires-3 : tie.Need-bad-entry-requires-3
 bad-entry-requires-3 c κs = search needs
 
 returns-3 : tie.Need-returns-3
-returns-3 c = c .bad-entry .ensures ∙ sheet-cut _ _ _ _ (sym (c .before .before .before .entry-at .ensures) ∙ c .before .enum-told .given .1)
+returns-3 c =
+    let at-enum-told = c .before in
+    let at-entry-at = at-enum-told .before .before in
+    c .bad-entry .ensures ∙ sheet-cut _ _ _ _ (sym (at-entry-at .entry-at .ensures) ∙ at-enum-told .enum-told .given .1)
 
 returns-4 : tie.Need-returns-4
 returns-4 c =
-    let b = c .before .before .before .before .before in
-    let e = sym (b .before .before .before .before .before .entry-at .ensures) ∙ b .before .before .before .named .given .1 in
-    c .bad-entry3 .ensures ∙ sheet-bad _ _ _ _ _ _ e _ (add-sub-cancel-left _ _) _ (b .judge-offer .ensures) (c .before .before .before .if1 .left) (c .before .if2 .left)
+    let at-if2 = c .before in
+    let at-if1 = at-if2 .before .before in
+    let at-judge-offer = at-if1 .before .before in
+    let at-judge-offer-arg = at-judge-offer .before in
+    let at-named = at-judge-offer-arg .before .before in
+    let at-entry-at = at-named .before .before in
+    let e = sym (at-entry-at .entry-at .ensures) ∙ at-named .named .given .1 in
+    c .bad-entry3 .ensures ∙ sheet-bad _ _ _ _ _ _ e _ (add-sub-cancel-left _ _) _ (at-judge-offer .judge-offer .ensures) (at-if1 .if1 .left) (at-if2 .if2 .left)
 
 pub sheet-entry-at-spec : {M : Type 1} → statement M
 sheet-entry-at-spec =

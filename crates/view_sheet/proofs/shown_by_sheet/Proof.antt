@@ -28,46 +28,70 @@ enum-known-r c = search needs
 
 returns : tie.Need-returns Inv-loop μ-loop
 returns c =
-    let l = c .before .before .before .before .before .loop in
-    let e = sym (c .before .before .before .sheet-entry-at .ensures) ∙ c .before .r .given .1 in
-    shown-bad _ _ _ _ (l .inv .1) (l .at) (l .shown) (c .before .before .before .before .loop-test .taken) (l .inv .2) _ e ∙ l .inv .3
+    let at-r = c .before in
+    let at-sheet-entry-at = at-r .before .before in
+    let at-loop-test = at-sheet-entry-at .before in
+    let at-loop = at-loop-test .before in
+    let l = at-loop .loop in
+    let e = sym (at-sheet-entry-at .sheet-entry-at .ensures) ∙ at-r .r .given .1 in
+    shown-bad _ _ _ _ (l .inv .1) (l .at) (l .shown) (at-loop-test .loop-test .taken) (l .inv .2) _ e ∙ l .inv .3
 
 enum-known-named : tie.Need-enum-known-named Inv-loop μ-loop
 enum-known-named c = search needs
 
 add-place : tie.Need-add-place Inv-loop μ-loop
 add-place c =
-    let b = c .before .before .before .before .before in
-    let a = b .before .before .before .args in
-    let e = sym (c .before .before .before .sheet-entry-at .ensures) ∙ c .before .named .given .1 in
-    let w = sheet-within (a .set .now) (a .shape) (a .sheet .now) (b .loop .at) _ _ e in
-    omega (arith, w, b .before .before .before .fits, b .before .before .before .good)
+    let at-named = c .before in
+    let at-sheet-entry-at = at-named .before .before in
+    let at-loop = at-sheet-entry-at .before .before in
+    let at-shared-slice-known = at-loop .before .before in
+    let at-start = at-shared-slice-known .before in
+    let a = at-start .args in
+    let e = sym (at-sheet-entry-at .sheet-entry-at .ensures) ∙ at-named .named .given .1 in
+    let w = sheet-within (a .set .now) (a .shape) (a .sheet .now) (at-loop .loop .at) _ _ e in
+    omega (arith, w, at-start .fits, at-start .good)
 
 newer-part-requires : tie.Need-newer-part-requires Inv-loop μ-loop
 newer-part-requires c κs = search needs
 
 add-at : tie.Need-add-at Inv-loop μ-loop
 add-at c =
-    let b = c .before .before .before .before in
-    let a = b .before .before .before .before .before .args in
-    let e = sym (b .sheet-entry-at .ensures) ∙ c .before .before .named .given .1 in
-    let w = sheet-within (a .set .now) (a .shape) (a .sheet .now) (b .before .before .loop .at) _ _ e in
-    omega (arith, w, b .before .before .before .before .before .fits, b .before .before .before .before .before .good)
+    let at-named = c .before .before in
+    let at-sheet-entry-at = at-named .before .before in
+    let at-loop = at-sheet-entry-at .before .before in
+    let at-shared-slice-known = at-loop .before .before in
+    let at-start = at-shared-slice-known .before in
+    let a = at-start .args in
+    let e = sym (at-sheet-entry-at .sheet-entry-at .ensures) ∙ at-named .named .given .1 in
+    let w = sheet-within (a .set .now) (a .shape) (a .sheet .now) (at-loop .loop .at) _ _ e in
+    omega (arith, w, at-start .fits, at-start .good)
 
 loop-less : tie.Need-loop-less Inv-loop μ-loop
 loop-less c =
-    let a = c .before .before .before .before .before .before .before .before .before .args in
-    let e = sym (c .before .before .before .before .sheet-entry-at .ensures) ∙ c .before .before .named .given .1 in
-    let w = sheet-within (a .set .now) (a .shape) (a .sheet .now) (c .before .before .before .before .before .before .loop .at) _ _ e in
-    omega (arith, w, c .before .before .before .before .before .loop-test .taken)
+    let at-named = c .before .before in
+    let at-sheet-entry-at = at-named .before .before in
+    let at-loop-test = at-sheet-entry-at .before in
+    let at-loop = at-loop-test .before in
+    let at-shared-slice-known = at-loop .before .before in
+    let at-start = at-shared-slice-known .before in
+    let a = at-start .args in
+    let e = sym (at-sheet-entry-at .sheet-entry-at .ensures) ∙ at-named .named .given .1 in
+    let w = sheet-within (a .set .now) (a .shape) (a .sheet .now) (at-loop .loop .at) _ _ e in
+    omega (arith, w, at-loop-test .loop-test .taken)
 
 loop-again : tie.Need-loop-again Inv-loop μ-loop
 loop-again c =
-    let a = c .before .before .before .before .before .before .before .before .before .args in
-    let l = c .before .before .before .before .before .before .loop in
-    let t = c .before .before .before .before .before .loop-test .taken in
-    let e = sym (c .before .before .before .before .sheet-entry-at .ensures) ∙ c .before .before .named .given .1 in
-    let w = sheet-within (a .set .now) (a .shape) (a .sheet .now) (c .before .before .before .before .before .before .loop .at) _ _ e in (
+    let at-named = c .before .before in
+    let at-sheet-entry-at = at-named .before .before in
+    let at-loop-test = at-sheet-entry-at .before in
+    let at-loop = at-loop-test .before in
+    let at-shared-slice-known = at-loop .before .before in
+    let at-start = at-shared-slice-known .before in
+    let a = at-start .args in
+    let l = at-loop .loop in
+    let t = at-loop-test .loop-test .taken in
+    let e = sym (at-sheet-entry-at .sheet-entry-at .ensures) ∙ at-named .named .given .1 in
+    let w = sheet-within (a .set .now) (a .shape) (a .sheet .now) (at-loop .loop .at) _ _ e in (
       omega (arith, w),
       pred (l .inv .1),
       omega (arith, w, l .inv .2, t),
