@@ -46,14 +46,14 @@ all-same l f g h = ruled-same (checkFrom l 0 0 maxEntries) 0 f g (check-counts l
 
 module _ (settype : SetType) (at l : ℕ) (c : List ℕ) (t : Turn) (members top : List Bool) where
   pub turn-waits : (t .late .no ≡ 0 → ⊥) → Turned settype at l c t members top t members top
-  turn-waits h = record { waits = λ z. refl; told = λ z. absurd (h z); steps = λ z. absurd (h z) }
+  turn-waits h = record { waits = λ z. refl; late-is = λ z. absurd (h z); steps = λ z. absurd (h z) }
 
   pub turn-steps : t .late .no ≡ 0 → (r : Step) (members′ top′ : List Bool)
       → Stepped (rowOf settype l) settype (stateOf (t .group) members top) (t .group .lack) at l c r members′ top′
       → Turned settype at l c t members top (record { late = refusal (r .no) at l; group = r .group }) members′ top′
   turn-steps z r members′ top′ e = record {
     waits = λ h. absurd (h z);
-    told = λ h. refl;
+    late-is = λ h. refl;
     steps = λ h. record { number = e .number; state = e .state; lack-so = e .lack-so };
   }
 
@@ -109,7 +109,7 @@ module _ (l : List ℕ) (settype : SetType) (at n : ℕ) (h : at < length l) (g 
           pass-on l settype at _ _ label m (checked-head l at q) _ members′ top′ (e .steps z) x k ∙ sym (or-zero (r .late) (rest k) x)
       stepped z false y =
           let x : r .late .no ≡ 0 → ⊥ = eqb-false (r .late .no) 0 y in
-          pass-bad l settype at _ _ label m (checked-head l at q) _ members′ top′ (e .steps z) x k ∙ (sym (e .told z) ∙ sym (or-bad (r .late) (rest k) x))
+          pass-bad l settype at _ _ label m (checked-head l at q) _ members′ top′ (e .steps z) x k ∙ (sym (e .late-is z) ∙ sym (or-bad (r .late) (rest k) x))
 
       waiting : (b : Bool) → eqb (t .late .no) 0 ≡ b → orElse (t .late) here ≡ orElse (r .late) (rest k)
       waiting true y =

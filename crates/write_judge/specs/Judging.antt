@@ -82,7 +82,7 @@ row8100 = 32
 -- what the judging of an entry and the flags after it say: a refusal that waited still waits; else the entry's step, and its refusal if it has one
 pub record Turned (settype : SetType) (at l : ℕ) (c : List ℕ) (t : Turn) (members top : List Bool) (r : Turn) (members′ top′ : List Bool) : Type 0 where
   pub waits : (t .late .no ≡ 0 → ⊥) → r .late ≡ t .late
-  pub told : t .late .no ≡ 0 → r .late ≡ refusal (r .late .no) at l
+  pub late-is : t .late .no ≡ 0 → r .late ≡ refusal (r .late .no) at l
   pub steps : t .late .no ≡ 0
       → Stepped (rowOf settype l) settype (stateOf (t .group) members top) (t .group .lack) at l c (record { no = r .late .no; group = r .group }) members′ top′
 
