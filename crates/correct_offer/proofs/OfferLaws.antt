@@ -26,7 +26,7 @@ use Rattle.meaning.proofs.SetLaws.{accepted}
 use Rattle.meaning.proofs.CorrectionLaws.{Change, change}
 use Rattle.byte_low.specs.Low.{firstLow}
 use Rattle.line_read.specs.Told.{toldLength, toldLabel}
-use Rattle.line_read.proofs.Bridge.{read-line}
+use Rattle.line_read.proofs.LineMeaning.{read-line}
 use Rattle.line_read.proofs.ToldLaws.{read-told}
 use Rattle.correct_offer.specs.declared.OneLine.{OneLine}
 use Rattle.correct_offer.specs.declared.Offer.{Offer}
