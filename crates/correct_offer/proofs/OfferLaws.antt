@@ -253,7 +253,7 @@ offer-byte s x n c = go (leb 1 n && leb n (x .lines)) (fixed (y .label)) (leb (l
     go true false true e false = omega arith
     go true false false e f = omega (arith, leb-false (length c) low e)
 
--- such an offer is for a change, and its place is where the line stands
+-- if nothing speaks against the content, the change is right, and the offer has the place and the size of the line
 pub offer-good : (s : List ℕ) (d : Parsed) (n : ℕ) (c : List ℕ) → read s ≡ done d → let o = offered s (shape (d .fields)) n c in
     o .no ≡ 0 → Change (d .fields) n c × Stands s (d .fields) (pred n) (labelAtLine (d .fields) (pred n)) (o .at) (o .size)
 offer-good s d n c e q =
