@@ -1,4 +1,4 @@
--- The rules under the replacement of one content: what sees labels and profile alone stays, and the new content must fit by itself.
+-- The rules when one content is replaced: those that see labels and profile alone hold as before, and the new content must fit by itself.
 use mathlib.Core.Path.{_≡_, refl, sym, ap, _∙_}
 use mathlib.Core.Bool.{true}
 use mathlib.Core.List.{List, [], _∷_, cons≢nil}

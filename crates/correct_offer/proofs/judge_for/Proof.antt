@@ -1,7 +1,7 @@
 -- `judge_for`: each return by the law of the test that decides.
 use mathlib.Core.Path.{sym, _∙_}
 use borrow.Author.Needs.{needs}
-use Rattle.correct_offer.proofs.WalkLaws.{to-fixed, to-low, to-good, to-bad}
+use Rattle.correct_offer.proofs.OfferWalkLaws.{to-fixed, to-low, to-good, to-bad}
 use Rattle.correct_offer.proofs.judge_for.Statement.{statement}
 use Rattle.correct_offer.proofs.judge_for.Tie as tie
 

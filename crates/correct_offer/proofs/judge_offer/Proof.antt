@@ -3,7 +3,7 @@ use mathlib.Core.Path.{ap, _∙_}
 use borrow.Author.Needs.{needs}
 use Rattle.correct_offer.specs.declared.OneLine.{OneLine}
 use Rattle.correct_offer.specs.Offered.{offeredTo}
-use Rattle.correct_offer.proofs.WalkLaws.{number-none, number-beyond, number-there}
+use Rattle.correct_offer.proofs.OfferWalkLaws.{number-none, number-beyond, number-there}
 use Rattle.correct_offer.proofs.judge_offer.Statement.{statement}
 use Rattle.correct_offer.proofs.judge_offer.Tie as tie
 

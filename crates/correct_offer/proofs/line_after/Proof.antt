@@ -1,10 +1,10 @@
--- `line_after` is the walk `lineFrom`: the line behind those that are left is the line behind all.
+-- `line_after` is the walk `lineFrom`: the line after those that are left is the line after all.
 use mathlib.Core.Path.{_≡_, refl, _∙_}
 use native.Mathlib.Omega.{arith}
 use borrow.Author.Needs.{needs}
 use Rattle.line_read.proofs.ToldLaws.{told-there}
 use Rattle.correct_offer.specs.Offered.{lineFrom, lineAfter}
-use Rattle.correct_offer.proofs.WalkLaws.{line-lost, line-next, line-here}
+use Rattle.correct_offer.proofs.OfferWalkLaws.{line-lost, line-next, line-here}
 use Rattle.correct_offer.proofs.line_after.Statement.{statement}
 use Rattle.correct_offer.proofs.line_after.Tie as tie
 

@@ -8,14 +8,14 @@ use borrow.Author.Needs.{needs}
 use Rattle.correct_plan.proofs.plan_judged.Statement.{statement}
 use Rattle.correct_plan.proofs.plan_judged.Tie as tie
 
-refused-requires : tie.Need-refused-requires
-refused-requires c κs = search needs
+refused-plan-requires : tie.Need-refused-plan-requires
+refused-plan-requires c κs = search needs
 
 returns : tie.Need-returns
 returns c =
     let s = c .before .before .before .before .before in
     let a = s .args in
-    c .refused .ensures ∙ sym (plan-followed (a .set .now) (a .content .now) (a .room) (a .line) (a .shape) (s .pre) (c .before .if1 .taken))
+    c .refused-plan .ensures ∙ sym (plan-followed (a .set .now) (a .content .now) (a .room) (a .line) (a .shape) (s .pre) (c .before .if1 .taken))
 
 judge-offer-requires : tie.Need-judge-offer-requires
 judge-offer-requires c κs = search needs
@@ -23,8 +23,8 @@ judge-offer-requires c κs = search needs
 place-of-requires : tie.Need-place-of-requires
 place-of-requires c κs = search needs
 
-refused-requires-2 : tie.Need-refused-requires-2
-refused-requires-2 c κs = search needs
+refused-plan-requires-2 : tie.Need-refused-plan-requires-2
+refused-plan-requires-2 c κs = search needs
 
 returns-2 : tie.Need-returns-2
 returns-2 c =
@@ -33,7 +33,7 @@ returns-2 c =
     let o = c .before .before .before .before .judge-offer in
     let r = o .result in
     let h = c .before .before .before .before .before .if1 .left in
-    c .refused2 .ensures
+    c .refused-plan2 .ensures
     ∙ ap (λ (p : ℕ). Refused (refusal (r .no) p (r .label))) (c .before .place-of .ensures)
     ∙ sym (plan-against (a .set .now) (a .content .now) (a .room) (a .line) (a .shape) (s .pre) r h (o .ensures) (c .before .before .if2 .taken))
 
@@ -77,11 +77,11 @@ pub plan-judged-spec : {M : Type 1} → statement M
 plan-judged-spec =
     tie.close
     (tie.spec
-    refused-requires
+    refused-plan-requires
     returns
     judge-offer-requires
     place-of-requires
-    refused-requires-2
+    refused-plan-requires-2
     returns-2
     sub-old
     sub-total

@@ -1,4 +1,4 @@
--- `print_set` answers the length that `judge` tells, 0 for a refusal.
+-- `print_set` answers the length that `judge` gives, 0 for a refusal.
 use mathlib.Core.Path.{sym, ap, _∙_}
 use borrow.Author.Needs.{needs}
 use lib.ListN.{length}

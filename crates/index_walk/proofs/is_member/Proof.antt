@@ -1,7 +1,7 @@
 -- `is_member`: each return by the law of the label that its tests leave.
 use mathlib.Core.Path.{sym, _∙_}
 use borrow.Author.Needs.{needs}
-use Rattle.index_walk.proofs.LabelLaws.{member-above, member-pair, member-low, member-other}
+use Rattle.index_walk.proofs.GroupLabelLaws.{member-above, member-pair, member-low, member-other}
 use Rattle.index_walk.proofs.is_member.Statement.{statement}
 use Rattle.index_walk.proofs.is_member.Tie as tie
 

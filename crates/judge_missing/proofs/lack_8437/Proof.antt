@@ -1,8 +1,8 @@
--- `lack_8437` asks for 8437 where 8438 stands.
+-- `lack_8437` asks for 8437 if 8438 stands.
 use mathlib.Core.Path.{sym, _∙_}
 use borrow.Author.Needs.{needs}
 use Rattle.meaning.specs.FieldTable.{fieldTable}
-use Rattle.table_find.specs.LookUp.{numberOf, numberFrom}
+use Rattle.table_fields.specs.LabelNumbers.{labelNumber, rowsBefore}
 use Rattle.judge_missing.specs.Lacks.{lack8437, seen}
 use Rattle.judge_missing.proofs.lack_8437.Statement.{statement}
 use Rattle.judge_missing.proofs.lack_8437.Tie as tie
@@ -17,21 +17,21 @@ none-requires : tie.Need-none-requires
 none-requires c κs = search needs
 
 returns : tie.Need-returns
-unfolding lack8437 seen numberOf numberFrom fieldTable
+unfolding lack8437 seen labelNumber rowsBefore fieldTable
 returns c = rw (sym (c .before .before .before .before .has .ensures) ∙ c .before .before .before .if1 .taken, sym (c .before .before .has2 .ensures) ∙ c .before .if2 .taken) (c .none .ensures)
 
 missing-requires : tie.Need-missing-requires
 missing-requires c κs = search needs
 
 returns-2 : tie.Need-returns-2
-unfolding lack8437 seen numberOf numberFrom fieldTable
+unfolding lack8437 seen labelNumber rowsBefore fieldTable
 returns-2 c = rw (sym (c .before .before .before .before .has .ensures) ∙ c .before .before .before .if1 .taken, sym (c .before .before .has2 .ensures) ∙ c .before .if2 .left) (c .missing .ensures)
 
 none-requires-2 : tie.Need-none-requires-2
 none-requires-2 c κs = search needs
 
 returns-3 : tie.Need-returns-3
-unfolding lack8437 seen numberOf numberFrom fieldTable
+unfolding lack8437 seen labelNumber rowsBefore fieldTable
 returns-3 c = rw (sym (c .before .before .has .ensures) ∙ c .before .if1 .left) (c .none2 .ensures)
 
 pub lack-8437-spec : {M : Type 1} → statement M

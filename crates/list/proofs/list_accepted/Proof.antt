@@ -3,32 +3,32 @@ use mathlib.Core.Path.{refl, ap, _∙_}
 use native.Mathlib.Omega.{arith}
 use borrow.Author.Needs.{needs}
 use Rattle.meaning.specs.declared.Made.the-variants.{Refused}
-use Rattle.list.proofs.ListLaws.{entries-are, answer-full, answer-made}
+use Rattle.list.proofs.ListLaws.{listed-are, answer-full, answer-made}
 use Rattle.list.proofs.list_accepted.Statement.{statement}
 use Rattle.list.proofs.list_accepted.Tie as tie
 
 sub-need : tie.Need-sub-need
 sub-need c =
     let b3 = c .before .before .before in
-    let e = entries-are (b3 .args .set .now) (b3 .args .shape) (b3 .pre) in
+    let e = listed-are (b3 .args .set .now) (b3 .args .shape) (b3 .pre) in
     omega (arith, e .some, e .few, e .long)
 
 sub-need-2 : tie.Need-sub-need-2
 sub-need-2 c =
     let b4 = c .before .before .before .before in
-    let e = entries-are (b4 .args .set .now) (b4 .args .shape) (b4 .pre) in
+    let e = listed-are (b4 .args .set .now) (b4 .args .shape) (b4 .pre) in
     omega (arith, e .some, e .few, e .long)
 
 mul-need : tie.Need-mul-need
 mul-need c =
     let b4 = c .before .before .before .before in
-    let e = entries-are (b4 .args .set .now) (b4 .args .shape) (b4 .pre) in
+    let e = listed-are (b4 .args .set .now) (b4 .args .shape) (b4 .pre) in
     omega (arith, e .some, e .few, e .long)
 
 sub-need-3 : tie.Need-sub-need-3
 sub-need-3 c =
     let b4 = c .before .before .before .before in
-    let e = entries-are (b4 .args .set .now) (b4 .args .shape) (b4 .pre) in
+    let e = listed-are (b4 .args .set .now) (b4 .args .shape) (b4 .pre) in
     omega (arith, e .some, e .few, e .long)
 
 at-requires : tie.Need-at-requires
@@ -44,7 +44,7 @@ returns c =
 put-entries-requires : tie.Need-put-entries-requires
 put-entries-requires c κs =
     let b6 = c .before .before .before .before .before .before in
-    let e = entries-are (b6 .args .set .now) (b6 .args .shape) (b6 .pre) in
+    let e = listed-are (b6 .args .set .now) (b6 .args .shape) (b6 .pre) in
     (e .all, omega (arith, e .need, c .before .if1 .left))
 
 sub-clear : tie.Need-sub-clear

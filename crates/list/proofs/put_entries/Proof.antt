@@ -5,10 +5,10 @@ use Prim.Native.Nat.{ℕ, _+_, _-_, _≤_}
 use native.Mathlib.Omega.{arith}
 use borrow.Author.Needs.{needs}
 use lib.ListN.{length}
-use Rattle.line_read.proofs.Bridge.{read-back}
+use Rattle.line_read.proofs.LineMeaning.{read-back}
 use Rattle.byte_put.specs.Places.{over}
 use Rattle.byte_put.proofs.OverLaws.{over-none}
-use Rattle.list.specs.Listing.{AllRead, entriesFrom}
+use Rattle.list.specs.Listing.{AllRead, listedFrom}
 use Rattle.list.proofs.ListLaws.{all-told, all-within, content-length, entries-end, line-fits, line-short, put-turn}
 use Rattle.list.proofs.put_entries.Statement.{statement}
 use Rattle.list.proofs.put_entries.Tie as tie
@@ -16,8 +16,8 @@ use Rattle.list.proofs.put_entries.Tie as tie
 abbrev Inv-loop : tie.InvT-loop
 Inv-loop set lines out₀ at₀ to₀ k₀ out at to k =
     (k ≤ lines) × (at ≤ length set) × AllRead set at (lines - k) × (length out ≡ length out₀)
-    × (to + length (entriesFrom set at k (lines - k)) ≤ length out)
-    × (over to (entriesFrom set at k (lines - k)) out ≡ over 0 (entriesFrom set 0 0 lines) out₀)
+    × (to + length (listedFrom set at k (lines - k)) ≤ length out)
+    × (over to (listedFrom set at k (lines - k)) out ≡ over 0 (listedFrom set 0 0 lines) out₀)
 
 abbrev μ-loop : tie.MeasureT-loop
 μ-loop set lines out₀ at₀ to₀ k₀ out at to k = lines - k
@@ -30,8 +30,8 @@ loop-holds c =
       omega arith,
       subst (AllRead (a .set .now) 0) (sym z) (c .before .before .pre .0),
       refl,
-      omega (arith, ap (λ (n : ℕ). length (entriesFrom (a .set .now) 0 0 n)) z),
-      ap (λ (n : ℕ). over 0 (entriesFrom (a .set .now) 0 0 n) (a .out .now)) z,
+      omega (arith, ap (λ (n : ℕ). length (listedFrom (a .set .now) 0 0 n)) z),
+      ap (λ (n : ℕ). over 0 (listedFrom (a .set .now) 0 0 n) (a .out .now)) z,
     )
 
 told-length-requires : tie.Need-told-length-requires Inv-loop μ-loop

@@ -1,4 +1,4 @@
--- `put_entry`: three parts put one behind the other.
+-- `put_entry`: three parts put one after the other.
 use borrow.Author.Needs.{needs}
 use Rattle.list.proofs.ListLaws.{entry-put}
 use Rattle.list.proofs.put_entry.Statement.{statement}

@@ -1,4 +1,4 @@
--- The loop of `whole_from`: what is left passes exactly where the whole does.
+-- The loop of `whole_from`: what is left passes exactly if the whole does.
 use mathlib.Core.Path.{_≡_, refl, sym, _∙_}
 use Prim.Native.Nat.{_-_}
 use native.Mathlib.Omega.{arith}

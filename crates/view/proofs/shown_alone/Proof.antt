@@ -5,27 +5,27 @@ use Rattle.view.proofs.AloneLaws.{alone-follows, alone-zero, alone-beyo
 use Rattle.view.proofs.shown_alone.Statement.{statement}
 use Rattle.view.proofs.shown_alone.Tie as tie
 
-refused-requires : tie.Need-refused-requires
-refused-requires c κs = search needs
+refused-view-requires : tie.Need-refused-view-requires
+refused-view-requires c κs = search needs
 
 returns : tie.Need-returns
-returns c = c .refused .ensures ∙ alone-follows _ (c .before .before .before .before .before .args .shape) _ _ (c .before .if1 .taken)
+returns c = c .refused-view .ensures ∙ alone-follows _ (c .before .before .before .before .before .args .shape) _ _ (c .before .if1 .taken)
 
-refused-requires-2 : tie.Need-refused-requires-2
-refused-requires-2 c κs = search needs
+refused-view-requires-2 : tie.Need-refused-view-requires-2
+refused-view-requires-2 c κs = search needs
 
 returns-2 : tie.Need-returns-2
 returns-2 c =
     let x = c .before .before .before .before .before .before .args .shape in
-    c .refused2 .ensures ∙ alone-zero _ x _ _ (c .before .before .if1 .left) (c .before .if2 .taken)
+    c .refused-view2 .ensures ∙ alone-zero _ x _ _ (c .before .before .if1 .left) (c .before .if2 .taken)
 
-refused-requires-3 : tie.Need-refused-requires-3
-refused-requires-3 c κs = search needs
+refused-view-requires-3 : tie.Need-refused-view-requires-3
+refused-view-requires-3 c κs = search needs
 
 returns-3 : tie.Need-returns-3
 returns-3 c =
     let x = c .before .before .before .before .before .before .before .before .args .shape in
-    c .refused3 .ensures ∙ alone-beyond _ x _ _ (c .before .before .before .before .if1 .left) (c .before .before .before .if2 .left) (c .before .if3 .taken)
+    c .refused-view3 .ensures ∙ alone-beyond _ x _ _ (c .before .before .before .before .if1 .left) (c .before .before .before .if2 .left) (c .before .if3 .taken)
 
 shown-under-requires : tie.Need-shown-under-requires
 shown-under-requires c κs = search needs
@@ -39,11 +39,11 @@ pub shown-alone-spec : {M : Type 1} → statement M
 shown-alone-spec =
     tie.close
     (tie.spec
-    refused-requires
+    refused-view-requires
     returns
-    refused-requires-2
+    refused-view-requires-2
     returns-2
-    refused-requires-3
+    refused-view-requires-3
     returns-3
     shown-under-requires
     returns-4)

@@ -1,4 +1,4 @@
--- `viewed`: the walk behind `judge`, which shows what the definition says (AloneLaws).
+-- `viewed`: the walk after `judge`, which shows what the definition says (AloneLaws).
 use mathlib.Core.Path.{sym, _∙_}
 use borrow.Author.Needs.{needs}
 use Rattle.view.proofs.AloneLaws.{viewed-refused, viewed-accepted}

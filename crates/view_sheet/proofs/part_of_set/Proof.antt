@@ -5,7 +5,7 @@ use native.Mathlib.Omega.{arith}
 use borrow.Author.Needs.{needs}
 use Rattle.correct_offer.specs.declared.OneLine.{OneLine}
 use Rattle.view_sheet.specs.Showing.{setPart}
-use Rattle.view_sheet.proofs.WalkLaws.{line-inside}
+use Rattle.view_sheet.proofs.SheetWalkLaws.{line-inside}
 use Rattle.view_sheet.proofs.part_of_set.Statement.{statement}
 use Rattle.view_sheet.proofs.part_of_set.Tie as tie
 

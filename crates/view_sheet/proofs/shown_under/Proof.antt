@@ -1,8 +1,8 @@
--- `shown_under`: what the sheet shows, and the part of the set where it shows none.
+-- `shown_under`: what the sheet shows, and the part of the set if it shows none.
 use mathlib.Core.Path.{sym, ap, _∙_}
 use borrow.Author.Needs.{needs}
 use Rattle.meaning.specs.declared.Viewed.the-variants.{Set}
-use Rattle.view_sheet.proofs.WalkLaws.{under-by}
+use Rattle.view_sheet.proofs.SheetWalkLaws.{under-by}
 use Rattle.view_sheet.proofs.shown_under.Statement.{statement}
 use Rattle.view_sheet.proofs.shown_under.Tie as tie
 

@@ -1,6 +1,6 @@
 -- `finished`: a refusal that waits, then what is lacking.
 use borrow.Author.Needs.{needs}
-use Rattle.write_judge.proofs.OnceLaws.{ends-late, ends-lacking, ends-good}
+use Rattle.write_judge.proofs.ListOnceLaws.{ends-late, ends-lacking, ends-good}
 use Rattle.write_judge.proofs.finished.Statement.{statement}
 use Rattle.write_judge.proofs.finished.Tie as tie
 

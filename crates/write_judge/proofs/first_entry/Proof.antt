@@ -6,8 +6,8 @@ use Rattle.entry_read.proofs.HeadLaws.{whole-back}
 use Rattle.meaning.specs.declared.Refusal.{Refusal}
 use Rattle.meaning.specs.declared.SetType.the-variants.{T6300}
 use Rattle.meaning.specs.Answers.{noRefusal}
-use Rattle.write_judge.specs.Judging.{started, entriesLeft}
-use Rattle.write_judge.proofs.OnceLaws.{list-other, list-unknown, list-known}
+use Rattle.write_judge.specs.Judging.{started, judgedFrom}
+use Rattle.write_judge.proofs.ListOnceLaws.{list-other, list-unknown, list-known}
 use Rattle.write_judge.proofs.first_entry.Statement.{statement}
 use Rattle.write_judge.proofs.first_entry.Tie as tie
 
@@ -21,7 +21,7 @@ returns : tie.Need-returns
 returns c =
     let b4 = c .before .before .before .before in
     let a = b4 .args in
-    c .check-then .ensures ∙ (ap (λ (r : Refusal). entriesLeft (a .list .now) T6300 r started noRefusal 0 0) (c .before .at .ensures) ∙ list-other (a .list .now) (a .label) (a .bytes) (c .before .before .if1 .taken))
+    c .check-then .ensures ∙ (ap (λ (r : Refusal). judgedFrom (a .list .now) T6300 r started noRefusal 0 0) (c .before .at .ensures) ∙ list-other (a .list .now) (a .label) (a .bytes) (c .before .before .if1 .taken))
 
 add-end : tie.Need-add-end
 add-end c = omega (arith, whole-back (c .before .before .args .list .now) 0 (c .before .before .pre) .within, c .before .before .good)
@@ -56,7 +56,7 @@ returns-2 c =
     let b6 = b4 .before .before in
     let b8 = b6 .before .before in
     let a = b8 .args in
-    c .check-then2 .ensures ∙ (ap (λ (r : Refusal). entriesLeft (a .list .now) T6300 r started noRefusal 0 0) (c .before .at2 .ensures) ∙ list-unknown (a .list .now) (a .label) (a .bytes) (b6 .if1 .left) (sym (b4 .type-of .ensures) ∙ c .before .before .enum-told .given .1))
+    c .check-then2 .ensures ∙ (ap (λ (r : Refusal). judgedFrom (a .list .now) T6300 r started noRefusal 0 0) (c .before .at2 .ensures) ∙ list-unknown (a .list .now) (a .label) (a .bytes) (b6 .if1 .left) (sym (b4 .type-of .ensures) ∙ c .before .before .enum-told .given .1))
 
 none-requires : tie.Need-none-requires
 none-requires c κs = search needs

@@ -1,8 +1,8 @@
 -- `judge_entry`: a refusal that waits, or the step of the entry.
 use borrow.Author.Needs.{needs}
-use Rattle.write_judge.specs.Judging.{contentOf}
+use Rattle.write_judge.specs.Judging.{listContent}
 use Rattle.write_judge.proofs.EntryPass.{step-entry}
-use Rattle.write_judge.proofs.OnceLaws.{turn-waits, turn-steps}
+use Rattle.write_judge.proofs.ListOnceLaws.{turn-waits, turn-steps}
 use Rattle.write_judge.proofs.judge_entry.Statement.{statement}
 use Rattle.write_judge.proofs.judge_entry.Tie as tie
 
@@ -10,7 +10,7 @@ returns : tie.Need-returns
 returns c =
     let b4 = c .before .before .before .before in
     let a = b4 .args in
-    turn-waits (a .settype) (a .at) (a .label) (contentOf (a .list .now) (a .at) (a .bytes)) (a .turn) (a .members .now) (a .top .now) (c .if1 .taken)
+    turn-waits (a .settype) (a .at) (a .label) (listContent (a .list .now) (a .at) (a .bytes)) (a .turn) (a .members .now) (a .top .now) (c .if1 .taken)
 
 add-from : tie.Need-add-from
 add-from c = search needs
@@ -26,7 +26,7 @@ returns-2 c =
     let b5 = c .before .before .before .before .before in
     let b9 = b5 .before .before .before .before in
     let a = b9 .args in
-    turn-steps (a .settype) (a .at) (a .label) (contentOf (a .list .now) (a .at) (a .bytes)) (a .turn) (a .members .now) (a .top .now) (b5 .if1 .left) _ _ _ (step-entry (a .list .now) (a .at) (a .bytes) (c .before .step-at .ensures))
+    turn-steps (a .settype) (a .at) (a .label) (listContent (a .list .now) (a .at) (a .bytes)) (a .turn) (a .members .now) (a .top .now) (b5 .if1 .left) _ _ _ (step-entry (a .list .now) (a .at) (a .bytes) (c .before .step-at .ensures))
 
 pub judge-entry-spec : {M : Type 1} → statement M
 judge-entry-spec =

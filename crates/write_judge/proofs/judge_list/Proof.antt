@@ -1,8 +1,8 @@
 -- `judge_list`: a list that breaks off is only checked; else by the head of the first entry.
 use mathlib.Core.Path.{sym, ap, _∙_}
 use borrow.Author.Needs.{needs}
-use Rattle.write_judge.specs.declared.Checked.the-variants.{Refused}
-use Rattle.write_judge.proofs.OnceLaws.{list-cut, list-whole, list-broken}
+use Rattle.write_judge.specs.declared.ListJudged.the-variants.{Refused}
+use Rattle.write_judge.proofs.ListOnceLaws.{list-cut, list-whole, list-broken}
 use Rattle.write_judge.proofs.judge_list.Statement.{statement}
 use Rattle.write_judge.proofs.judge_list.Tie as tie
 

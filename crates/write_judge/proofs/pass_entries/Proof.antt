@@ -6,16 +6,16 @@ use borrow.Author.Needs.{needs}
 use lib.ListN.{length}
 use Rattle.meaning.specs.declared.Refusal.{Refusal}
 use Rattle.meaning.specs.Limits.{maxEntries}
-use Rattle.judge_missing.specs.Lacks.{stateOf}
-use Rattle.write_judge.specs.declared.Checked.the-variants.{Refused}
-use Rattle.write_judge.specs.Judging.{started, entriesLeft}
+use Rattle.judge_missing.specs.Lacks.{flaggedOf}
+use Rattle.write_judge.specs.declared.ListJudged.the-variants.{Refused}
+use Rattle.write_judge.specs.Judging.{started, judgedFrom}
 use Rattle.write_judge.proofs.CheckLaws.{checked-within}
-use Rattle.write_judge.proofs.OnceLaws.{left-end, left-full, left-unchecked, left-on}
+use Rattle.write_judge.proofs.ListOnceLaws.{left-end, left-full, left-unchecked, left-on}
 use Rattle.write_judge.proofs.pass_entries.Statement.{statement}
 use Rattle.write_judge.proofs.pass_entries.Tie as tie
 
 abbrev Inv-loop : tie.InvT-loop
-Inv-loop list settype start before members₀ top₀ turn₀ at₀ n₀ members top turn at n = (at ≤ length list) × (n ≤ maxEntries) × (entriesLeft list settype (turn .late) (stateOf (turn .group) members top) (turn .group .lack) at n ≡ entriesLeft list settype (turn₀ .late) (stateOf (turn₀ .group) members₀ top₀) (turn₀ .group .lack) start before)
+Inv-loop list settype start before members₀ top₀ turn₀ at₀ n₀ members top turn at n = (at ≤ length list) × (n ≤ maxEntries) × (judgedFrom list settype (turn .late) (flaggedOf (turn .group) members top) (turn .group .lack) at n ≡ judgedFrom list settype (turn₀ .late) (flaggedOf (turn₀ .group) members₀ top₀) (turn₀ .group .lack) start before)
 
 abbrev μ-loop : tie.MeasureT-loop
 μ-loop list settype start before members₀ top₀ turn₀ at₀ n₀ members top turn at n = maxEntries - n
@@ -42,7 +42,7 @@ returns c =
     let b6 = b4 .before .before in
     let a = b6 .args in
     let l = b3 .loop in
-    ap Refused (c .at .ensures) ∙ (left-full (a .list .now) (a .settype) (l .turn .late) (stateOf (l .turn .group) (l .members) (l .top)) (l .turn .group .lack) (l .at) (l .n) (c .before .before .loop-test .taken) (c .before .if1 .taken) ∙ (l .inv .2 ∙ ap (λ (r : Refusal). entriesLeft (a .list .now) (a .settype) (a .late) started r (a .start) (a .before)) (b4 .none .ensures)))
+    ap Refused (c .at .ensures) ∙ (left-full (a .list .now) (a .settype) (l .turn .late) (flaggedOf (l .turn .group) (l .members) (l .top)) (l .turn .group .lack) (l .at) (l .n) (c .before .before .loop-test .taken) (c .before .if1 .taken) ∙ (l .inv .2 ∙ ap (λ (r : Refusal). judgedFrom (a .list .now) (a .settype) (a .late) started r (a .start) (a .before)) (b4 .none .ensures)))
 
 check-entry-requires : tie.Need-check-entry-requires Inv-loop μ-loop
 check-entry-requires c κs = search needs
@@ -60,7 +60,7 @@ returns-2 c =
     let b9 = b7 .before .before in
     let a = b9 .args in
     let l = b6 .loop in
-    left-unchecked (a .list .now) (a .settype) (l .turn .late) (stateOf (l .turn .group) (l .members) (l .top)) (l .turn .group .lack) (l .at) (l .n) (b5 .loop-test .taken) (omega (arith, b4 .if1 .left)) (sym (b3 .check-entry .ensures) ∙ c .before .r .given .1) ∙ (l .inv .2 ∙ ap (λ (r : Refusal). entriesLeft (a .list .now) (a .settype) (a .late) started r (a .start) (a .before)) (b7 .none .ensures))
+    left-unchecked (a .list .now) (a .settype) (l .turn .late) (flaggedOf (l .turn .group) (l .members) (l .top)) (l .turn .group .lack) (l .at) (l .n) (b5 .loop-test .taken) (omega (arith, b4 .if1 .left)) (sym (b3 .check-entry .ensures) ∙ c .before .r .given .1) ∙ (l .inv .2 ∙ ap (λ (r : Refusal). judgedFrom (a .list .now) (a .settype) (a .late) started r (a .start) (a .before)) (b7 .none .ensures))
 
 enum-known-label : tie.Need-enum-known-label Inv-loop μ-loop
 enum-known-label c = search needs
@@ -122,7 +122,7 @@ returns-3 c =
     let b7 = b5 .before .before in
     let a = b7 .args in
     let l = b4 .loop in
-    c .finished .ensures ∙ (left-end (a .list .now) (a .settype) (l .turn .late) (stateOf (l .turn .group) (l .members) (l .top)) (l .turn .group .lack) (l .at) (l .n) (b3 .loop-test .left) ∙ (l .inv .2 ∙ ap (λ (r : Refusal). entriesLeft (a .list .now) (a .settype) (a .late) started r (a .start) (a .before)) (b5 .none .ensures)))
+    c .finished .ensures ∙ (left-end (a .list .now) (a .settype) (l .turn .late) (flaggedOf (l .turn .group) (l .members) (l .top)) (l .turn .group .lack) (l .at) (l .n) (b3 .loop-test .left) ∙ (l .inv .2 ∙ ap (λ (r : Refusal). judgedFrom (a .list .now) (a .settype) (a .late) started r (a .start) (a .before)) (b5 .none .ensures)))
 
 pub pass-entries-spec : {M : Type 1} → statement M
 pass-entries-spec =

@@ -1,4 +1,4 @@
--- `put_line`: four parts put one behind the other.
+-- `put_line`: four parts put one after the other.
 use Prim.Native.Nat.{_+_}
 use borrow.Author.Needs.{needs}
 use Rattle.byte_put.proofs.OverLaws.{over-lent}

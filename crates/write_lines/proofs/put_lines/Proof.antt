@@ -1,4 +1,4 @@
--- `put_lines`: the line of the entry, and behind the first that of the sum.
+-- `put_lines`: the line of the entry, and after the first that of the sum.
 use native.Mathlib.Omega.{arith}
 use borrow.Author.Needs.{needs}
 use lib.ListN.{length}

@@ -1,4 +1,4 @@
--- `put_sum`: four parts put one behind the other.
+-- `put_sum`: four parts put one after the other.
 use borrow.Author.Needs.{needs}
 use Rattle.meaning.specs.Digits.{digits}
 use Rattle.meaning.specs.Lists.{sumDigits}
