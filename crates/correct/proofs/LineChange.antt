@@ -13,7 +13,7 @@ use Rattle.meaning.specs.Corrections.{recontent, resum}
 use Rattle.meaning.proofs.LineLaws.{length-line, length-render, render-split}
 use Rattle.meaning.proofs.CorrectionLaws.{leaves}
 use Rattle.byte_put.specs.Places.{over}
-use Rattle.byte_put.proofs.LendLaws.{over-behind}
+use Rattle.byte_put.proofs.LendLaws.{over-after}
 use Rattle.correct_put.specs.Middle.{replaced, newTotal, sumPlace, recontented}
 use Rattle.correct_plan.proofs.TotalLaws.{Headed, size-at, total-is}
 
@@ -76,7 +76,7 @@ line-replaced p u t c f place used lp lu =
     ∙ ap (λ (m : ℕ). a ++ (c ++ (r ++ replicate m 0))) n
     ∙ append-assoc p (three ++ four) (c ++ (r ++ z)) in
     ap (over place (digits lengthDigits (length c + (lineLead + lineEnd)))) q
-    ∙ over-behind p (digits lengthDigits (length c + (lineLead + lineEnd))) (three ++ (four ++ (c ++ (r ++ z)))) place lp
+    ∙ over-after p (digits lengthDigits (length c + (lineLead + lineEnd))) (three ++ (four ++ (c ++ (r ++ z)))) place lp
 
 -- ---- the sum, after line 1 with its four digits
 sum-replaced : (f g : Field) (fs : List Field) (t : List ℕ) (n : ℕ) → length (f .content) ≡ 4 → length (g .content) ≡ sumDigits → g .label ≡ 8100
@@ -90,7 +90,7 @@ sum-replaced f g fs t n lf lg e =
     let s : render (f ∷ g ∷ fs) t ≡ p ++ (g .content ++ r) =
     ap (λ (x : List ℕ). lineThen f (x ++ (g .content ++ r))) l ∙ line-append f lead′ (g .content ++ r) in
     ap (over sumPlace (digits sumDigits n)) s
-    ∙ over-behind p (digits sumDigits n) (g .content ++ r) sumPlace (length-line f lead′ ∙ omega arith)
+    ∙ over-after p (digits sumDigits n) (g .content ++ r) sumPlace (length-line f lead′ ∙ omega arith)
     ∙ ap (λ (x : List ℕ). p ++ (digits sumDigits n ++ x)) (drop-at (g .content) r (length (digits sumDigits n)) lg)
     ∙ sym (line-append f lead′ (digits sumDigits n ++ r))
 

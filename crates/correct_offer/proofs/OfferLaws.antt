@@ -26,11 +26,11 @@ use Rattle.meaning.proofs.SetLaws.{accepted}
 use Rattle.meaning.proofs.CorrectionLaws.{Change, change}
 use Rattle.byte_low.specs.Low.{firstLow}
 use Rattle.line_read.specs.Told.{toldLength, toldLabel}
-use Rattle.line_read.proofs.Bridge.{read-line}
+use Rattle.line_read.proofs.LineMeaning.{read-line}
 use Rattle.line_read.proofs.ToldLaws.{read-told}
 use Rattle.correct_offer.specs.declared.OneLine.{OneLine}
 use Rattle.correct_offer.specs.declared.Offer.{Offer}
-use Rattle.correct_offer.specs.Offered.{oneLine, lineFrom, lineAfter, told, afterAll, offeredTo, offered, offerLine, offerSpot, offerFaults}
+use Rattle.correct_offer.specs.Offered.{oneLine, lineFrom, lineAfter, against, afterAll, offeredTo, offered, offerLine, offerSpot, offerFaults}
 
 -- ---- where a line stands
 
@@ -150,7 +150,7 @@ to-is x c lines n =
 
     go : (a b f : Bool)
         → cond (not a) (cond b (cond f [] (atLine badContent (pred n) (x .label) ∷ [])) (atByte badByte (pred n) low ∷ [])) (atLine fixedLine (pred n) (x .label) ∷ [])
-        ≡ (let o = cond a (told fixedLine 0 (x .label) x) (cond b (cond f (told 0 0 0 x) (told badContent 0 (x .label) x)) (told badByte low 0 x)) in
+        ≡ (let o = cond a (against fixedLine 0 (x .label) x) (cond b (cond f (against 0 0 0 x) (against badContent 0 (x .label) x)) (against badByte low 0 x)) in
         cond (eqb (o .no) 0) [] (record { no = o .no; line = offerLine o lines n; spot = offerSpot o; label = o .label } ∷ []))
     go true b f = refl
     go false false f = refl
@@ -172,7 +172,7 @@ offer-is s d n c e = go (leb 1 n && leb n (length fs)) refl
 
     go : (b : Bool) → leb 1 n && leb n (length fs) ≡ b
         → take 1 (ask b (atLine noSuchLine (length fs) 0) ++ more)
-        ≡ offerFaults (cond b (offeredTo (lineAfter s (pred n)) c) (told noSuchLine 0 0 (afterAll (size fs)))) (length fs) n
+        ≡ offerFaults (cond b (offeredTo (lineAfter s (pred n)) c) (against noSuchLine 0 0 (afterAll (size fs)))) (length fs) n
     go true q =
         let lo : 1 ≤ n = leb-true 1 n (and-left (leb 1 n) _ q) in
         let hi : n ≤ length fs = leb-true n (length fs) (and-right (leb 1 n) _ q) in
@@ -218,8 +218,8 @@ unfolding offeredTo
 to-same x c = go (fixed (x .label)) (leb (length c) (firstLow c 0 (length c))) (fitsLabel (x .label) c)
   where
     go : (a b f : Bool)
-        → SameLine x (cond a (told fixedLine 0 (x .label) x)
-        (cond b (cond f (told 0 0 0 x) (told badContent 0 (x .label) x)) (told badByte (firstLow c 0 (length c)) 0 x)))
+        → SameLine x (cond a (against fixedLine 0 (x .label) x)
+        (cond b (cond f (against 0 0 0 x) (against badContent 0 (x .label) x)) (against badByte (firstLow c 0 (length c)) 0 x)))
     go true b f = record { same-at = refl; same-size = refl; there = refl }
     go false false f = record { same-at = refl; same-size = refl; there = refl }
     go false true true = record { same-at = refl; same-size = refl; there = refl }
@@ -245,15 +245,15 @@ offer-byte s x n c = go (leb 1 n && leb n (x .lines)) (fixed (y .label)) (leb (l
     low = firstLow c 0 (length c)
 
     go : (t a b : Bool) → leb (length c) low ≡ b → (f : Bool)
-        → cond t (cond a (told fixedLine 0 (y .label) y) (cond b (cond f (told 0 0 0 y) (told badContent 0 (y .label) y)) (told badByte low 0 y)))
-        (told noSuchLine 0 0 (afterAll (x .length))) .byte ≤ length c
+        → cond t (cond a (against fixedLine 0 (y .label) y) (cond b (cond f (against 0 0 0 y) (against badContent 0 (y .label) y)) (against badByte low 0 y)))
+        (against noSuchLine 0 0 (afterAll (x .length))) .byte ≤ length c
     go false a b e f = omega arith
     go true true b e f = omega arith
     go true false true e true = omega arith
     go true false true e false = omega arith
     go true false false e f = omega (arith, leb-false (length c) low e)
 
--- such an offer is for a change, and its place is where the line stands
+-- if nothing speaks against the content, the change is right, and the offer has the place and the size of the line
 pub offer-good : (s : List ℕ) (d : Parsed) (n : ℕ) (c : List ℕ) → read s ≡ done d → let o = offered s (shape (d .fields)) n c in
     o .no ≡ 0 → Change (d .fields) n c × Stands s (d .fields) (pred n) (labelAtLine (d .fields) (pred n)) (o .at) (o .size)
 offer-good s d n c e q =
@@ -277,7 +277,7 @@ offer-at s d n c e = go (leb 1 n && leb n (length fs)) refl
     x = lineAfter s (pred n)
 
     go : (b : Bool) → leb 1 n && leb n (length fs) ≡ b
-        → let o = cond b (offeredTo x c) (told noSuchLine 0 0 (afterAll (size fs))) in o .at ≡ offset fs (offerLine o (length fs) n)
+        → let o = cond b (offeredTo x c) (against noSuchLine 0 0 (afterAll (size fs))) in o .at ≡ offset fs (offerLine o (length fs) n)
     go true q =
         let lo : 1 ≤ n = leb-true 1 n (and-left (leb 1 n) _ q) in
         let hi : n ≤ length fs = leb-true n (length fs) (and-right (leb 1 n) _ q) in

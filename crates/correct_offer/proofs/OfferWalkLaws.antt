@@ -13,7 +13,7 @@ use Rattle.meaning.specs.Corrections.{fixed}
 use Rattle.byte_low.specs.Low.{firstLow}
 use Rattle.line_read.specs.Told.{toldLength, toldLabel}
 use Rattle.correct_offer.specs.declared.OneLine.{OneLine}
-use Rattle.correct_offer.specs.Offered.{oneLine, noLine, lineFrom, lineAfter, told, afterAll, offeredTo, offered}
+use Rattle.correct_offer.specs.Offered.{oneLine, noLine, lineFrom, lineAfter, against, afterAll, offeredTo, offered}
 
 -- ---- a line, with k lines to skip before it: the line at the offset gives the length n
 
@@ -44,31 +44,31 @@ module _ (s : List ℕ) (at k n : ℕ) (e : n ≡ toldLength s at) where
 -- ---- a content for a line that is there
 
 module _ (x : OneLine) (c : List ℕ) where
-  pub to-fixed : fixed (x .label) ≡ true → told fixedLine 0 (x .label) x ≡ offeredTo x c
+  pub to-fixed : fixed (x .label) ≡ true → against fixedLine 0 (x .label) x ≡ offeredTo x c
   unfolding offeredTo
   to-fixed f = rw f
 
   module _ (f : fixed (x .label) ≡ false) (low : ℕ) (e : low ≡ firstLow c 0 (length c)) where
-    pub to-low : low < length c → told badByte low 0 x ≡ offeredTo x c
+    pub to-low : low < length c → against badByte low 0 x ≡ offeredTo x c
     unfolding offeredTo
     to-low h = rw (f, ← e, lt-leb (length c) low h)
 
-    pub to-good : length c ≤ low → fitsLabel (x .label) c ≡ true → told 0 0 0 x ≡ offeredTo x c
+    pub to-good : length c ≤ low → fitsLabel (x .label) c ≡ true → against 0 0 0 x ≡ offeredTo x c
     unfolding offeredTo
     to-good h g = rw (f, ← e, le-leb (length c) low h, g)
 
-    pub to-bad : length c ≤ low → fitsLabel (x .label) c ≡ false → told badContent 0 (x .label) x ≡ offeredTo x c
+    pub to-bad : length c ≤ low → fitsLabel (x .label) c ≡ false → against badContent 0 (x .label) x ≡ offeredTo x c
     unfolding offeredTo
     to-bad h g = rw (f, ← e, le-leb (length c) low h, g)
 
 -- ---- a content for a line by its number
 
 module _ (s : List ℕ) (x : Shape) (n : ℕ) (c : List ℕ) where
-  pub number-none : n < 1 → told noSuchLine 0 0 (afterAll (x .length)) ≡ offered s x n c
+  pub number-none : n < 1 → against noSuchLine 0 0 (afterAll (x .length)) ≡ offered s x n c
   unfolding offered
   number-none h = rw (lt-leb 1 n h)
 
-  pub number-beyond : x .lines < n → told noSuchLine 0 0 (afterAll (x .length)) ≡ offered s x n c
+  pub number-beyond : x .lines < n → against noSuchLine 0 0 (afterAll (x .length)) ≡ offered s x n c
   unfolding offered
   number-beyond h = rw (le-leb 1 n (omega arith), lt-leb n (x .lines) h)
 

@@ -34,8 +34,8 @@ lineAfter s k = lineFrom s 0 k
 
 -- ---- what speaks against a content
 
-abbrev pub told : ℕ → ℕ → ℕ → OneLine → Offer
-told n i l x = record { no = n; byte = i; label = l; at = x .at; size = x .size }
+abbrev pub against : ℕ → ℕ → ℕ → OneLine → Offer
+against n i l x = record { no = n; byte = i; label = l; at = x .at; size = x .size }
 
 -- after all lines of a set of n bytes
 abbrev pub afterAll : ℕ → OneLine
@@ -45,12 +45,12 @@ afterAll n = oneLine 0 n 0
 unfoldable pub offeredTo : OneLine → List ℕ → Offer
 offeredTo x c =
     let low = firstLow c 0 (length c) in
-    cond (fixed (x .label)) (told fixedLine 0 (x .label) x)
-    (cond (leb (length c) low) (cond (fitsLabel (x .label) c) (told 0 0 0 x) (told badContent 0 (x .label) x)) (told badByte low 0 x))
+    cond (fixed (x .label)) (against fixedLine 0 (x .label) x)
+    (cond (leb (length c) low) (cond (fitsLabel (x .label) c) (against 0 0 0 x) (against badContent 0 (x .label) x)) (against badByte low 0 x))
 
 -- a content for line number n of a set of this shape: 19 first
 unfoldable pub offered : List ℕ → Shape → ℕ → List ℕ → Offer
-offered s x n c = cond (leb 1 n && leb n (x .lines)) (offeredTo (lineAfter s (pred n)) c) (told noSuchLine 0 0 (afterAll (x .length)))
+offered s x n c = cond (leb 1 n && leb n (x .lines)) (offeredTo (lineAfter s (pred n)) c) (against noSuchLine 0 0 (afterAll (x .length)))
 
 -- ---- the fault that an offer stands for
 

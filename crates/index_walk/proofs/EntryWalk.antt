@@ -25,7 +25,7 @@ use Rattle.meaning.proofs.LineLaws.{Sound}
 use Rattle.meaning.proofs.RuleLaws.{ruled, begins-of}
 use Rattle.meaning.proofs.SetLaws.{accepted}
 use Rattle.line_read.specs.Told.{toldLength, toldLabel}
-use Rattle.line_read.proofs.Bridge.{read-line, read-back, reads-on}
+use Rattle.line_read.proofs.LineMeaning.{read-line, read-back, reads-on}
 use Rattle.line_read.proofs.ToldLaws.{read-told}
 use Rattle.index_walk.specs.declared.Walk.{Walk}
 use Rattle.index_walk.specs.declared.NextEntry.{NextEntry}

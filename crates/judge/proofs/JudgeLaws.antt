@@ -30,8 +30,8 @@ use Rattle.meaning.proofs.FieldLaws.{sum-fits}
 use Rattle.meaning.proofs.SetLaws.{scanned, second-fits, later-sound}
 use Rattle.line_read.specs.declared.Number.the-variants.{Is}
 use Rattle.line_read.specs.Number.{numberAt}
-use Rattle.line_read.proofs.Bridge.{asNumber, number-is, read-line, reads-content, reads-on}
-use Rattle.line_scan.proofs.Bridge.{summary, scan-is}
+use Rattle.line_read.proofs.LineMeaning.{asNumber, number-is, read-line, reads-content, reads-on}
+use Rattle.line_scan.proofs.ScanMeaning.{scanSummary, scan-is}
 use Rattle.meaning.proofs.FirstLaws.{firstOf, Real, first-append, real-append, real-ask, first-none, or-assoc, or-none, or-bad, or-then}
 use Rattle.meaning.proofs.RealLaws.{startFaultsBy, real-starts, faultsAfterStart, real-after-start, ofType}
 use Rattle.judge_start.specs.Sum.{sumWalk}
@@ -69,7 +69,7 @@ verdict-bad : (pl : ℕ → Spot → ℕ) (xs : List Fault) (d : Parsed) → (fi
 verdict-bad pl [] d h = absurd (h refl)
 verdict-bad pl (x ∷ xs) d h = refl
 
--- ---- 17, where line 2 fits
+-- ---- 17, if line 2 fits
 
 sum-is : (s : List ℕ) (at total : ℕ) (g : Field) (u : List ℕ) (pl : ℕ → Spot → ℕ) (p : Profile) → Sound g → drop at s ≡ lineThen g u → at ≡ pl 1 start
     → fits p (field 8100 (g .content)) ≡ true → sumWalk s at total ≡ firstOf pl (ask (eqb (number (g .content)) total) (atLine badSum 1 0))
@@ -124,7 +124,7 @@ place-one f fs = omega arith
 
 -- ---- 8 to 17
 
--- what the walk makes of the tests on lines 1 and 2: a says that line 1 is 8000, k which type it names, c that line 2 is 8100; P and Q are found behind them
+-- what the walk makes of the tests on lines 1 and 2: a says that line 1 is 8000, k which type it names, c that line 2 is 8100; P and Q are found after them
 module _ (all : List Field) (d : Parsed) (same : d .fields ≡ all) (xs : List Fault) (real : Real xs) (at : ℕ) (place : at ≡ inSet all 1 start) (P Q : Refusal) where
   -- a refusal that is found is the answer
   bad : (r : Refusal) → (r .no ≡ 0 → ⊥) → firstOf (inSet all) xs ≡ r → judged (verdict (inSet all) xs d) ≡ Judged.Refused r
@@ -137,13 +137,13 @@ module _ (all : List Field) (d : Parsed) (same : d .fields ≡ all) (xs : List F
   by-tests s false k c e x q = sym (bad (refusal noStart 0 0) (λ z. omega arith) (q ∙ or-bad (refusal noStart 0 0) (orElse P Q) (λ z. omega arith)))
   by-tests s true Nothing c e x q = sym (bad (refusal unknownSet 0 0) (λ z. omega arith) (q ∙ or-bad (refusal unknownSet 0 0) (orElse P Q) (λ z. omega arith)))
   by-tests s true (Of settype) c e x q =
-      ap (λ (r : Refusal). asJudged r settype (size all) (length all)) (x settype refl ∙ (behind c ∙ sym q))
+      ap (λ (r : Refusal). asJudged r settype (size all) (length all)) (x settype refl ∙ (second-so c ∙ sym q))
       ∙ (ap (λ (fs : List Field). asJudged (firstOf (inSet all) xs) settype (size fs) (length fs)) (sym same)
       ∙ sym (verdict-is (inSet all) xs d settype e real))
     where
-      behind : (c : Bool) → cond c (orElse P Q) (refusal noSum at 0) ≡ orElse (firstOf (inSet all) (ask c (atLine noSum 1 0))) (orElse P Q)
-      behind true = sym (or-none (orElse P Q))
-      behind false = ap (λ (y : ℕ). refusal noSum y 0) place ∙ sym (or-bad (refusal noSum (inSet all 1 start) 0) (orElse P Q) (λ z. omega arith))
+      second-so : (c : Bool) → cond c (orElse P Q) (refusal noSum at 0) ≡ orElse (firstOf (inSet all) (ask c (atLine noSum 1 0))) (orElse P Q)
+      second-so true = sym (or-none (orElse P Q))
+      second-so false = ap (λ (y : ℕ). refusal noSum y 0) place ∙ sym (or-bad (refusal noSum (inSet all 1 start) 0) (orElse P Q) (λ z. omega arith))
 
 -- line 1 as the walk reads it
 first-is : (s : List ℕ) (f : Field) (fs : List Field) (t : List ℕ) (total lines : ℕ) → Sound f → s ≡ render (f ∷ fs) t
@@ -188,7 +188,7 @@ pub judge-is : (s : List ℕ) → judgeWalk s ≡ judge s
 unfolding judgeWalk judge read
 judge-is s = rw (scan-is s) (go (scan s) refl)
   where
-    go : (r : Reply Parsed) → scan s ≡ r → judgedScan (summary r) (λ total n. linesWalk s total n) ≡ judged (byRules r)
+    go : (r : Reply Parsed) → scan s ≡ r → judgedScan (scanSummary r) (λ total n. linesWalk s total n) ≡ judged (byRules r)
     go (refused x) e = refl
     go (done d) e =
         let r = scanned s (d .fields) (d .rest) e in

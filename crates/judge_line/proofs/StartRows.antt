@@ -20,8 +20,8 @@ use Rattle.meaning.specs.Answers.{noRefusal, orElse}
 use Rattle.table_fields.specs.LabelNumbers.{labelNumber, rowsBefore}
 use Rattle.table_find.specs.LookUp.{Found, At, findFrom}
 use Rattle.judge_missing.specs.declared.Group.{Group}
-use Rattle.judge_missing.specs.Lacks.{noFlags, begin, openLack, firstLack}
-use Rattle.judge_line.specs.Steps.{rowOf, againNo, placeNo, labelNo, versionNo, contentNo, lineNo, nextState, staysIn, Stepped}
+use Rattle.judge_missing.specs.Lacks.{noFlags, noneSeen, openLack, firstLack}
+use Rattle.judge_line.specs.Steps.{rowOf, repeatedNo, placeNo, labelNo, versionNo, contentNo, lineNo, nextFlagged, staysIn, Stepped}
 
 -- the numbers and the rows of 8000 and 8100 in every table
 pub row-8000 : (settype : SetType) → rowOf settype 8000 ≡ At 31 (row 8000 setLevel single M)
@@ -57,8 +57,8 @@ abbrev pub startTop : List Bool
 startTop = set noFlags 31 true
 
 -- the step of line 1: a line 8000 that names a type is never refused
-pub start-step : (settype : SetType) (c : List ℕ) → typeNamed c ≡ Of settype → Stepped (rowOf settype 8000) settype begin noRefusal 0 8000 c (record { no = 0; group = startGroup }) noFlags startTop
-unfolding lineNo labelNo placeNo againNo contentNo versionNo nextState staysIn firstLack openLack orElse
+pub start-step : (settype : SetType) (c : List ℕ) → typeNamed c ≡ Of settype → Stepped (rowOf settype 8000) settype noneSeen noRefusal 0 8000 c (record { no = 0; group = startGroup }) noFlags startTop
+unfolding lineNo labelNo placeNo repeatedNo contentNo versionNo nextFlagged staysIn firstLack openLack orElse
 start-step settype c q =
-    subst (λ (o : Found). Stepped o settype begin noRefusal 0 8000 c (record { no = 0; group = startGroup }) noFlags startTop) (sym (row-8000 settype))
-    (record { number = rw (type-fits c settype q); state = λ z. refl; lack-so = λ z. refl })
+    subst (λ (o : Found). Stepped o settype noneSeen noRefusal 0 8000 c (record { no = 0; group = startGroup }) noFlags startTop) (sym (row-8000 settype))
+    (record { number = rw (type-fits c settype q); flagged-so = λ z. refl; lack-so = λ z. refl })

@@ -1,6 +1,6 @@
 // The pass over the lines of a set of a known type, each read once: 11 to 15 of each line, then 16.
 // Assumes of `pass` that line 1 was read and names the type, of `unless_unread` that the offset lies within the bytes and has at most 512 lines before it: only other crates here
-// call them, and they prove that. Each contract cites a walk of specs/; proofs/OnceLaws says what the loop stands for, proofs/PassLaws what the walks mean.
+// call them, and they prove that. Each contract cites a walk of specs/; proofs/LineLoopLaws says what the loop stands for, proofs/PassLaws what the walks mean.
 ghost use mathlib.Core.Path.{_≡_};
 ghost use Prim.Native.Nat.{_+_, _-_, _≤_};
 ghost use lib.ListN.{length};
@@ -8,9 +8,9 @@ ghost use Rattle.meaning.specs.declared.Known.the-variants.{Of};
 ghost use Rattle.meaning.specs.Limits.{maxLines};
 ghost use Rattle.meaning.specs.Rules.{typeNamed};
 ghost use Rattle.line_read.specs.declared.Line.the-variants.{Read};
-ghost use Rattle.line_read.specs.Line.{lineAt, contentOf};
+ghost use Rattle.line_read.specs.Line.{lineAt, lineContent};
 ghost use Rattle.line_scan.specs.Scan.{scanFrom, scanSet};
-ghost use Rattle.judge_missing.specs.Lacks.{finish, stateOf};
+ghost use Rattle.judge_missing.specs.Lacks.{finish, flaggedOf};
 ghost use Rattle.judge_line.specs.Steps.{rowOf, Stepped};
 ghost use Rattle.judge_lines.specs.Pass.{firstUnread, finishedScan, NextAt, passed};
 use judge_line::Step;
@@ -39,7 +39,7 @@ fn line_step(
     top: &mut [bool; ROWS],
 ) -> Step
     requires { ⌜ (10 ≤ size) × (at + size ≤ length (now s)) ⌝ }
-    ensures { λ r. ⌜ Stepped (rowOf settype label) settype (stateOf group (now (members .entry)) (now (top .entry))) (group .lack) at label (contentOf (now (s .entry)) at size) r (now (members .exit)) (now (top .exit)) ⌝ }
+    ensures { λ r. ⌜ Stepped (rowOf settype label) settype (flaggedOf group (now (members .entry)) (now (top .entry))) (group .lack) at label (lineContent (now (s .entry)) at size) r (now (members .exit)) (now (top .exit)) ⌝ }
 {
     let from = at + meaning::LINE_LEAD;
     let end = at + size - meaning::LINE_END;
@@ -60,7 +60,7 @@ pub fn unless_unread(s: &[u8], from: usize, before: usize, r: Refusal) -> Refusa
     }
 }
 
-// The line at an offset that has so many lines before it. Where no line of this set is read there its label is 8000, which starts another set.
+// The line at an offset that has `before` lines before it. If no line of this set is read there its label is 8000, which starts another set.
 fn next_line(s: &[u8], at: usize, before: usize) -> Next
     ensures { λ r. ⌜ NextAt (now (s .entry)) at before (r .label) (r .size) ⌝ }
 {
@@ -79,7 +79,7 @@ fn next_line(s: &[u8], at: usize, before: usize) -> Next
     }
 }
 
-// Behind a line that is the last to be read: the set ends there, and 16 is asked, or the first refusal by 7 and 2 to 6 is given.
+// After a line that is the last to be read: the set ends there, and 16 is asked, or the first refusal by 7 and 2 to 6 is given.
 fn ended(
     s: &[u8],
     settype: SetType,
@@ -90,7 +90,7 @@ fn ended(
     before: usize,
 ) -> Scan
     requires { ⌜ (from ≤ length (now s)) × (before ≤ maxLines) ⌝ }
-    ensures { λ r. ⌜ r ≡ finishedScan (finish settype (stateOf group (now (members .entry)) (now (top .entry))) (group .lack)) (scanFrom (now (s .entry)) from before (maxLines - before)) ⌝ }
+    ensures { λ r. ⌜ r ≡ finishedScan (finish settype (flaggedOf group (now (members .entry)) (now (top .entry))) (group .lack)) (scanFrom (now (s .entry)) from before (maxLines - before)) ⌝ }
 {
     match line_scan::scan_from(s, from, before) {
         Scan::Refused(unread) => Scan::Refused(unread),
@@ -105,9 +105,9 @@ fn ended(
 }
 
 // The lines of a set of this type, each read once: 11 to 15 of each, then 16. Line 1 ends at `start` and names the type: no rule refuses it. A refusal by 11 to 15 waits until the
-// lines behind it are read.
+// lines after it are read.
 pub fn pass(s: &[u8], settype: SetType, start: usize) -> Scan
-    requires { ⌜ (lineAt (now s) 0 ≡ Read 8000 start) × (typeNamed (contentOf (now s) 0 start) ≡ Of settype) ⌝ }
+    requires { ⌜ (lineAt (now s) 0 ≡ Read 8000 start) × (typeNamed (lineContent (now s) 0 start) ≡ Of settype) ⌝ }
     ensures { λ r. ⌜ r ≡ passed (now (s .entry)) settype (scanSet (now (s .entry))) ⌝ }
 {
     let mut members = [false; ROWS];

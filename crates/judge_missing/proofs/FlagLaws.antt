@@ -14,7 +14,7 @@ use Rattle.meaning.specs.Groups as G
 use Rattle.meaning.specs.Groups.{first}
 use Rattle.table_fields.specs.LabelNumbers.{labelNumber}
 use Rattle.table_fields.proofs.LabelNumberLaws.{one-number}
-use Rattle.judge_missing.specs.Lacks.{rowCount, noFlags, seen, State, begin}
+use Rattle.judge_missing.specs.Lacks.{rowCount, noFlags, seen, Flagged, noneSeen}
 
 -- the flags say which labels are among ls: for every label, also one without a row
 pub record Flags (on : List Bool) (ls : List ℕ) : Type 0 where
@@ -40,11 +40,11 @@ flags-none = record { long = length-replicate rowCount false; same = λ l. repli
 
 -- ---- the two states say the same
 
-pub record Same (pl : ℕ → Spot → ℕ) (st : State) (ms : G.State) : Type 0 where
+pub record Agrees (pl : ℕ → Spot → ℕ) (st : Flagged) (ms : G.State) : Type 0 where
   pub header : st .header ≡ ms .header
   pub place : st .place ≡ pl (ms .line) start
   pub members : Flags (st .members) (ms .members)
   pub top : Flags (st .top) (ms .top)
 
-pub begin-same : (pl : ℕ → Spot → ℕ) → 0 ≡ pl 0 start → Same pl begin first
-begin-same pl e = record { header = refl; place = e; members = flags-none; top = flags-none }
+pub none-agrees : (pl : ℕ → Spot → ℕ) → 0 ≡ pl 0 start → Agrees pl noneSeen first
+none-agrees pl e = record { header = refl; place = e; members = flags-none; top = flags-none }

@@ -31,9 +31,9 @@ use Rattle.meaning.proofs.RuleLaws.{ruled, begins-of}
 use Rattle.meaning.proofs.SetLaws.{Standing, accepted, sum-back}
 use Rattle.meaning.proofs.Demands.{judge-read}
 use Rattle.line_read.specs.declared.Line.the-variants.{Read}
-use Rattle.line_read.specs.Line.{lineAt, contentOf}
+use Rattle.line_read.specs.Line.{lineAt, lineContent}
 use Rattle.line_read.specs.Told.{toldLength, toldLabel}
-use Rattle.line_read.proofs.Bridge.{read-line, read-back, reads-content, reads-on}
+use Rattle.line_read.proofs.LineMeaning.{read-line, read-back, reads-content, reads-on}
 use Rattle.line_read.proofs.ToldLaws.{read-told}
 use Rattle.byte_put.specs.Places.{over}
 use Rattle.byte_put.proofs.LendLaws.{mid-tail, put-tail}
@@ -122,7 +122,7 @@ module _ (s : List ℕ) (at k n : ℕ) where
   unfolding listedFrom
   entries-end h = rw (none-left h)
 
-  pub entries-on : k < n → {l m : ℕ} → lineAt s at ≡ Read l m → listedFrom s at k (n - k) ≡ lineEntry k l (contentOf s at m) ++ listedFrom s (at + m) (k + 1) (n - (k + 1))
+  pub entries-on : k < n → {l m : ℕ} → lineAt s at ≡ Read l m → listedFrom s at k (n - k) ≡ lineEntry k l (lineContent s at m) ++ listedFrom s (at + m) (k + 1) (n - (k + 1))
   unfolding listedFrom
   entries-on h e = rw (one-more h, e)
 
@@ -182,7 +182,7 @@ module _ (s : List ℕ) where
         reads-content s 0 f (render (g ∷ fs) t) (h .0) w,
         other-entry 0 (f .label) (f .content) (λ e. omega arith),
         read-line s (0 + lineSize f) g (render fs t) w₁ (h .1 .0),
-        second-none (0 + 1) (g .label) (contentOf s (0 + lineSize f) (lineSize g)) (omega arith),
+        second-none (0 + 1) (g .label) (lineContent s (0 + lineSize f) (lineSize g)) (omega arith),
       ) (ap (λ (u : List ℕ). entryThen f [] ++ u) (later-entries fs t (0 + lineSize f + lineSize g) (0 + 1 + 1) (h .1 .1) w₂ (omega arith))
       ∙ entry-then f (putAll entryForm fs []))
 

@@ -9,7 +9,7 @@ use Rattle.meaning.specs.Field.{field}
 use Rattle.meaning.specs.Entries.{entryThen}
 use Rattle.line_read.specs.declared.Line.{Line}
 use Rattle.line_read.specs.declared.Line.the-variants.{Read, Refused}
-use Rattle.line_read.specs.Line.{lineAt, contentOf}
+use Rattle.line_read.specs.Line.{lineAt, lineContent}
 
 -- the n lines from an offset on are all read
 unfoldable pub AllRead : List ℕ → ℕ → ℕ → Type 0
@@ -28,4 +28,4 @@ listedBy (Refused r) f = []
 -- the entries of the n lines from an offset on, with k lines before them
 unfoldable pub listedFrom : List ℕ → ℕ → ℕ → ℕ → List ℕ
 listedFrom s at k zero = []
-listedFrom s at k (suc n) = listedBy (lineAt s at) (λ l m. let rest = listedFrom s (at + m) (k + 1) n in lineEntry k l (contentOf s at m) ++ rest)
+listedFrom s at k (suc n) = listedBy (lineAt s at) (λ l m. let rest = listedFrom s (at + m) (k + 1) n in lineEntry k l (lineContent s at m) ++ rest)

@@ -55,7 +55,7 @@ module _ (l sum : List ℕ) where
   lines-none at zero h = refl
   lines-none at (suc k) h = rw (le-leb (length l) at h)
 
-  -- no list has more entries than bytes
+  -- as many entries as bytes are enough: a larger count gives the same lines
   lines-enough : (k j at : ℕ) → length l ≤ at + k → length l ≤ at + j → linesFrom l sum at k ≡ linesFrom l sum at j
   unfolding linesFrom
   lines-enough zero j at h g = sym (lines-none at j (omega arith))

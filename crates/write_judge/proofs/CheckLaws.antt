@@ -24,7 +24,7 @@ use Rattle.meaning.proofs.PieceLaws.{piece-back}
 use Rattle.byte_low.specs.Low.{firstLow}
 use Rattle.entry_read.specs.declared.Head.{Head}
 use Rattle.entry_read.specs.declared.Head.the-variants.{Whole, Cut}
-use Rattle.entry_read.specs.Head.{entryAt, behindHead, headsEnd}
+use Rattle.entry_read.specs.Head.{entryAt, afterHead, headsEnd}
 use Rattle.entry_read.proofs.HeadLaws.{headOf, entry-is, whole-back}
 use Rattle.write_judge.specs.declared.Item.{Item}
 use Rattle.write_judge.specs.declared.Item.the-variants.{Read}
@@ -142,7 +142,7 @@ heads-refuse l (suc k) at n e = go (leb (length l) at) (entryAt l at) e (λ m. h
     by label m true false r q h = tt
     by label m false b r q h = tt
 
-    go : (b : Bool) (h : Head) → cond b true (behindHead h (λ m. headsEnd l (at + (entryLead + m)) k)) ≡ false
+    go : (b : Bool) (h : Head) → cond b true (afterHead h (λ m. headsEnd l (at + (entryLead + m)) k)) ≡ false
         → ((m : ℕ) → headsEnd l (at + (entryLead + m)) k ≡ false → Refuses (rest m))
         → Refuses (cond b (Done n) (afterEntry (byHead h (Item.Refused (refusal badList at 0)) (λ label m. checkContent l at label m)) rest))
     go true h q ih = let z : _≡_ {A = ℕ} 0 1 = cc in absurd (omega arith)

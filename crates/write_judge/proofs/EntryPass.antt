@@ -28,29 +28,29 @@ use Rattle.meaning.specs.Answers.{noRefusal, orElse}
 use Rattle.meaning.proofs.Bools.{and-left, and-right}
 use Rattle.entry_read.specs.declared.Head.the-variants.{Whole}
 use Rattle.entry_read.specs.Head.{entryAt}
-use Rattle.judge_missing.specs.Lacks.{State, noFlags, begin, lackUnder, groupLack, openLack, firstLack, stateOf}
+use Rattle.judge_missing.specs.Lacks.{Flagged, noFlags, noneSeen, lackUnder, groupLack, openLack, firstLack, flaggedOf}
 use Rattle.meaning.proofs.FirstLaws.{firstOf, Real, real-append}
-use Rattle.judge_missing.proofs.FlagLaws.{Same, begin-same}
+use Rattle.judge_missing.proofs.FlagLaws.{Agrees, none-agrees}
 use Rattle.judge_line.specs.declared.Step.{Step}
-use Rattle.judge_line.specs.Steps.{rowOf, againNo, placeNo, labelNo, versionNo, contentNo, lineNo, nextState, staysIn, Stepped}
+use Rattle.judge_line.specs.Steps.{rowOf, repeatedNo, placeNo, labelNo, versionNo, contentNo, lineNo, nextFlagged, staysIn, Stepped}
 use Rattle.meaning.proofs.RealLaws.{startFaultsBy, real-starts, faultsAfterStart, real-after-start, ofType}
 use Rattle.judge_line.proofs.StartRows.{row-8000, row-8100}
-use Rattle.judge_line.proofs.SameLaws.{whole, pass-line, pass-finish, whole-found}
+use Rattle.judge_line.proofs.StepMeaning.{passFinds, pass-line, pass-finish, pass-finds}
 use Rattle.write_judge.specs.Judging.{listContent, stepThen, entriesPass, row8000, started, byKnown, firstEntry, judgeEntries}
 use Rattle.write_judge.proofs.CheckLaws.{Reads}
 
 -- ---- one line, as the code takes it
 
-module _ (settype : SetType) (st : State) (lack : Refusal) (at l : ℕ) (c : List ℕ) (r : Step) (members top : List Bool)
-    (e : Stepped (rowOf settype l) settype st lack at l c r members top) (F : State → Refusal → Refusal) where
+module _ (settype : SetType) (st : Flagged) (lack : Refusal) (at l : ℕ) (c : List ℕ) (r : Step) (members top : List Bool)
+    (e : Stepped (rowOf settype l) settype st lack at l c r members top) (F : Flagged → Refusal → Refusal) where
   pub step-bad : (r .no ≡ 0 → ⊥) → stepThen settype st lack at l c F ≡ refusal (r .no) at l
   step-bad g = rw (← e .number, ne-eqb (r .no) 0 g)
 
-  pub step-on : r .no ≡ 0 → stepThen settype st lack at l c F ≡ F (stateOf (r .group) members top) (r .group .lack)
-  step-on g = rw (← e .number, g) (ap₂ F (sym (e .state g)) (sym (e .lack-so g)))
+  pub step-on : r .no ≡ 0 → stepThen settype st lack at l c F ≡ F (flaggedOf (r .group) members top) (r .group .lack)
+  step-on g = rw (← e .number, g) (ap₂ F (sym (e .flagged-so g)) (sym (e .lack-so g)))
 
 -- the content as the code cuts it out
-pub step-entry : (l : List ℕ) (at m : ℕ) {settype : SetType} {st : State} {lack : Refusal} {label : ℕ} {r : Step} {members top : List Bool}
+pub step-entry : (l : List ℕ) (at m : ℕ) {settype : SetType} {st : Flagged} {lack : Refusal} {label : ℕ} {r : Step} {members top : List Bool}
     → Stepped (rowOf settype label) settype st lack at label (take (at + entryLead + m - (at + entryLead)) (drop (at + entryLead) l)) r members top
     → Stepped (rowOf settype label) settype st lack at label (listContent l at m) r members top
 step-entry l at m {settype} {st} {lack} {label} {r} {members} {top} e =
@@ -59,9 +59,9 @@ step-entry l at m {settype} {st} {lack} {label} {r} {members} {top} e =
 
 -- ---- an entry after the first: it is refused, or the pass goes on
 
-module _ (l : List ℕ) (settype : SetType) (at : ℕ) (st : State) (lack : Refusal) (label m : ℕ) (q : entryAt l at ≡ Whole label m) (r : Step) (members top : List Bool)
+module _ (l : List ℕ) (settype : SetType) (at : ℕ) (st : Flagged) (lack : Refusal) (label m : ℕ) (q : entryAt l at ≡ Whole label m) (r : Step) (members top : List Bool)
     (e : Stepped (rowOf settype label) settype st lack at label (listContent l at m) r members top) where
-  abbrev rest : ℕ → State → Refusal → Refusal
+  abbrev rest : ℕ → Flagged → Refusal → Refusal
   rest n st′ lack′ = entriesPass l settype (at + (entryLead + m)) st′ lack′ n
 
   here : (n : ℕ) → entriesPass l settype at st lack (suc n) ≡ stepThen settype st lack at label (listContent l at m) (rest n)
@@ -71,7 +71,7 @@ module _ (l : List ℕ) (settype : SetType) (at : ℕ) (st : State) (lack : Refu
   pub pass-bad : (r .no ≡ 0 → ⊥) → (n : ℕ) → entriesPass l settype at st lack (suc n) ≡ refusal (r .no) at label
   pass-bad g n = here n ∙ step-bad settype st lack at label (listContent l at m) r members top e (rest n) g
 
-  pub pass-on : r .no ≡ 0 → (n : ℕ) → entriesPass l settype at st lack (suc n) ≡ entriesPass l settype (at + (entryLead + m)) (stateOf (r .group) members top) (r .group .lack) n
+  pub pass-on : r .no ≡ 0 → (n : ℕ) → entriesPass l settype at st lack (suc n) ≡ entriesPass l settype (at + (entryLead + m)) (flaggedOf (r .group) members top) (r .group .lack) n
   pass-on g n = here n ∙ step-on settype st lack at label (listContent l at m) r members top e (rest n) g
 
 -- ---- line 1 and line 2
@@ -94,15 +94,15 @@ unfolding fitsLabel fitsRow fieldRow fieldRowIn fieldTable rowLabel hasLength of
 type-fits c e = rw e
 
 -- after line 1
-abbrev begun : State
+abbrev begun : Flagged
 begun = record { header = 8000; place = 0; members = noFlags; top = set noFlags row8000 true }
 
-line-1 : (settype : SetType) (c : List ℕ) (F : State → Refusal → Refusal) → fitsLabel 8000 c ≡ true → stepThen settype begin noRefusal 0 8000 c F ≡ F begun noRefusal
-unfolding lineNo labelNo placeNo againNo contentNo versionNo nextState staysIn orElse openLack firstLack
+line-1 : (settype : SetType) (c : List ℕ) (F : Flagged → Refusal → Refusal) → fitsLabel 8000 c ≡ true → stepThen settype noneSeen noRefusal 0 8000 c F ≡ F begun noRefusal
+unfolding lineNo labelNo placeNo repeatedNo contentNo versionNo nextFlagged staysIn orElse openLack firstLack
 line-1 settype c F e = rw (row-8000 settype, e)
 
-line-2 : (settype : SetType) (c : List ℕ) (F : State → Refusal → Refusal) → fitsLabel 8100 c ≡ true → stepThen settype begun noRefusal 0 8100 c F ≡ F started noRefusal
-unfolding rowLabel lineNo labelNo placeNo againNo contentNo versionNo nextState staysIn orElse openLack firstLack groupLack lackUnder
+line-2 : (settype : SetType) (c : List ℕ) (F : Flagged → Refusal → Refusal) → fitsLabel 8100 c ≡ true → stepThen settype begun noRefusal 0 8100 c F ≡ F started noRefusal
+unfolding rowLabel lineNo labelNo placeNo repeatedNo contentNo versionNo nextFlagged staysIn orElse openLack firstLack groupLack lackUnder
 line-2 T6300 c F e = rw (row-8100 T6300, e)
 line-2 T6301 c F e = rw (row-8100 T6301, e)
 line-2 T6302 c F e = rw (row-8100 T6302, e)
@@ -142,8 +142,8 @@ list-next (x ∷ es) (suc j) f fs e =
 
 module _ (l : List ℕ) (settype : SetType) (es : List Field) where
   -- the entries fs, with j entries before them and so, with line 2, j + 1 lines: by induction on fs
-  later-found : (fs : List Field) (at j : ℕ) (st : State) (ms : G.State) (lack : Refusal) → Reads l at fs → at ≡ inList es (suc j) start → drop j es ≡ fs
-      → Same (inList es) st ms → entriesPass l settype at st lack (length fs) ≡ whole settype (inList es) ms (suc j) fs lack
+  later-found : (fs : List Field) (at j : ℕ) (st : Flagged) (ms : G.State) (lack : Refusal) → Reads l at fs → at ≡ inList es (suc j) start → drop j es ≡ fs
+      → Agrees (inList es) st ms → entriesPass l settype at st lack (length fs) ≡ passFinds settype (inList es) ms (suc j) fs lack
   unfolding entriesPass
   later-found [] at j st ms lack rd e d sm = pass-finish settype (inList es) (suc j) st ms lack refl sm
   later-found (f ∷ fs) at j st ms lack rd e d sm =
@@ -152,7 +152,7 @@ module _ (l : List ℕ) (settype : SetType) (es : List Field) where
       rw (rd .0, rd .1) (pass-line settype (inList es) f fs at (suc j) st ms lack sm e
       (λ st′ lack′. entriesPass l settype (at + (entryLead + length (f .content))) st′ lack′ (length fs))
       (λ st′ ms′ lack′ sm′. later-found fs (at + (entryLead + length (f .content))) (suc j) st′ ms′ lack′ (rd .2) p (nx .1) sm′
-      ∙ ap (λ (k : ℕ). whole settype (inList es) ms′ k fs lack′) (sym (add-one (suc j)))))
+      ∙ ap (λ (k : ℕ). passFinds settype (inList es) ms′ k fs lack′) (sym (add-one (suc j)))))
 
 -- all lines: line 1, line 2, and the others
 set-found : (l : List ℕ) (settype : SetType) (c : List ℕ) (fs : List Field) (sum : List ℕ) → Reads l 0 (field 8000 c ∷ fs) → fitsLabel 8000 c ≡ true → fitsLabel 8100 sum ≡ true
@@ -162,15 +162,15 @@ set-found l settype c fs sum rd g₁ g₂ =
     let es : List Field = field 8000 c ∷ fs in
     let p : entryLead + length c ≡ inList es 2 start = omega arith in
     let rd′ : Reads l (entryLead + length c) fs = subst (λ (a : ℕ). Reads l a fs) (omega arith) (rd .2) in
-    let others : State → Refusal → Refusal = λ st lack. entriesPass l settype (entryLead + length c) st lack (length fs) in
-    let both : stepThen settype begin noRefusal 0 8000 c (λ st lack. stepThen settype st lack 0 8100 sum others) ≡ others started noRefusal =
+    let others : Flagged → Refusal → Refusal = λ st lack. entriesPass l settype (entryLead + length c) st lack (length fs) in
+    let both : stepThen settype noneSeen noRefusal 0 8000 c (λ st lack. stepThen settype st lack 0 8100 sum others) ≡ others started noRefusal =
     line-1 settype c (λ st lack. stepThen settype st lack 0 8100 sum others) g₁ ∙ line-2 settype sum others g₂ in
     sym both ∙ (
-    pass-line settype (inList es) (field 8000 c) (field 8100 sum ∷ fs) 0 0 begin G.first noRefusal (begin-same (inList es) refl) refl
+    pass-line settype (inList es) (field 8000 c) (field 8100 sum ∷ fs) 0 0 noneSeen G.first noRefusal (none-agrees (inList es) refl) refl
     (λ st lack. stepThen settype st lack 0 8100 sum others)
     (λ st ms lack sm. pass-line settype (inList es) (field 8100 sum) fs 0 (0 + 1) st ms lack sm refl others
     (λ st′ ms′ lack′ sm′. later-found l settype es fs (entryLead + length c) 1 st′ ms′ lack′ rd′ p refl sm′))
-    ∙ whole-found settype (inList es) (field 8000 c ∷ field 8100 sum ∷ fs))
+    ∙ pass-finds settype (inList es) (field 8000 c ∷ field 8100 sum ∷ fs))
 
 -- "then 8, 9, and 11 to 16": the first fault of the entries, with the sum put in after the first
 pub entries-found : (l : List ℕ) (f : Field) (fs : List Field) (sum : List ℕ) → Reads l 0 (f ∷ fs) → fitsLabel 8100 sum ≡ true

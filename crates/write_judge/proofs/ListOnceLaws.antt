@@ -19,7 +19,7 @@ use Rattle.meaning.specs.Answers.{noRefusal, orElse}
 use Rattle.entry_read.specs.declared.Head.the-variants.{Whole, Cut}
 use Rattle.entry_read.specs.Head.{entryAt, headsEnd}
 use Rattle.entry_read.proofs.HeadLaws.{whole-back}
-use Rattle.judge_missing.specs.Lacks.{State, finish, stateOf}
+use Rattle.judge_missing.specs.Lacks.{Flagged, finish, flaggedOf}
 use Rattle.meaning.proofs.FirstLaws.{or-zero, or-bad}
 use Rattle.judge_line.specs.declared.Step.{Step}
 use Rattle.judge_line.specs.Steps.{rowOf, Stepped}
@@ -46,15 +46,15 @@ all-same l f g h = ruled-same (checkFrom l 0 0 maxEntries) 0 f g (check-counts l
 
 module _ (settype : SetType) (at l : ℕ) (c : List ℕ) (t : Turn) (members top : List Bool) where
   pub turn-waits : (t .late .no ≡ 0 → ⊥) → Turned settype at l c t members top t members top
-  turn-waits h = record { waits = λ z. refl; told = λ z. absurd (h z); steps = λ z. absurd (h z) }
+  turn-waits h = record { waits = λ z. refl; late-is = λ z. absurd (h z); steps = λ z. absurd (h z) }
 
   pub turn-steps : t .late .no ≡ 0 → (r : Step) (members′ top′ : List Bool)
-      → Stepped (rowOf settype l) settype (stateOf (t .group) members top) (t .group .lack) at l c r members′ top′
+      → Stepped (rowOf settype l) settype (flaggedOf (t .group) members top) (t .group .lack) at l c r members′ top′
       → Turned settype at l c t members top (record { late = refusal (r .no) at l; group = r .group }) members′ top′
   turn-steps z r members′ top′ e = record {
     waits = λ h. absurd (h z);
-    told = λ h. refl;
-    steps = λ h. record { number = e .number; state = e .state; lack-so = e .lack-so };
+    late-is = λ h. refl;
+    steps = λ h. record { number = e .number; flagged-so = e .flagged-so; lack-so = e .lack-so };
   }
 
 -- ---- after the last entry
@@ -75,7 +75,7 @@ module _ (late r q : Refusal) (n : ℕ) where
 
 -- ---- the loop: no entry is left, too many, an entry that breaks 21 or 6, an entry more
 
-module _ (l : List ℕ) (settype : SetType) (late : Refusal) (st : State) (lack : Refusal) (at n : ℕ) where
+module _ (l : List ℕ) (settype : SetType) (late : Refusal) (st : Flagged) (lack : Refusal) (at n : ℕ) where
   pub left-end : length l ≤ at → countUnless (orElse late (finish settype st lack)) n ≡ judgedFrom l settype late st lack at n
   unfolding judgedFrom entriesPass
   left-end h =
@@ -94,14 +94,14 @@ module _ (l : List ℕ) (settype : SetType) (late : Refusal) (st : State) (lack 
 module _ (l : List ℕ) (settype : SetType) (at n : ℕ) (h : at < length l) (g : n < maxEntries) (label m : ℕ) (q : checkEntry l at ≡ Read label m)
     (t : Turn) (members top : List Bool) (r : Turn) (members′ top′ : List Bool) (e : Turned settype at label (listContent l at m) t members top r members′ top′) where
   abbrev rest : ℕ → Refusal
-  rest k = entriesPass l settype (at + (entryLead + m)) (stateOf (r .group) members′ top′) (r .group .lack) k
+  rest k = entriesPass l settype (at + (entryLead + m)) (flaggedOf (r .group) members′ top′) (r .group .lack) k
 
   -- one entry of the pass
-  one : (k : ℕ) → orElse (t .late) (entriesPass l settype at (stateOf (t .group) members top) (t .group .lack) (suc k)) ≡ orElse (r .late) (rest k)
+  one : (k : ℕ) → orElse (t .late) (entriesPass l settype at (flaggedOf (t .group) members top) (t .group .lack) (suc k)) ≡ orElse (r .late) (rest k)
   one k = waiting (eqb (t .late .no) 0) refl
     where
       here : Refusal
-      here = entriesPass l settype at (stateOf (t .group) members top) (t .group .lack) (suc k)
+      here = entriesPass l settype at (flaggedOf (t .group) members top) (t .group .lack) (suc k)
 
       stepped : t .late .no ≡ 0 → (b : Bool) → eqb (r .late .no) 0 ≡ b → here ≡ orElse (r .late) (rest k)
       stepped z true y =
@@ -109,7 +109,7 @@ module _ (l : List ℕ) (settype : SetType) (at n : ℕ) (h : at < length l) (g 
           pass-on l settype at _ _ label m (checked-head l at q) _ members′ top′ (e .steps z) x k ∙ sym (or-zero (r .late) (rest k) x)
       stepped z false y =
           let x : r .late .no ≡ 0 → ⊥ = eqb-false (r .late .no) 0 y in
-          pass-bad l settype at _ _ label m (checked-head l at q) _ members′ top′ (e .steps z) x k ∙ (sym (e .told z) ∙ sym (or-bad (r .late) (rest k) x))
+          pass-bad l settype at _ _ label m (checked-head l at q) _ members′ top′ (e .steps z) x k ∙ (sym (e .late-is z) ∙ sym (or-bad (r .late) (rest k) x))
 
       waiting : (b : Bool) → eqb (t .late .no) 0 ≡ b → orElse (t .late) here ≡ orElse (r .late) (rest k)
       waiting true y =
@@ -120,13 +120,13 @@ module _ (l : List ℕ) (settype : SetType) (at n : ℕ) (h : at < length l) (g 
           let w : r .late ≡ t .late = e .waits x in
           or-bad (t .late) here x ∙ (sym w ∙ sym (or-bad (r .late) (rest k) (λ z. x (ap (λ (u : Refusal). u .no) (sym w) ∙ z))))
 
-  pub left-on : judgedFrom l settype (t .late) (stateOf (t .group) members top) (t .group .lack) at n
-      ≡ judgedFrom l settype (r .late) (stateOf (r .group) members′ top′) (r .group .lack) (at + (entryLead + m)) (n + 1)
+  pub left-on : judgedFrom l settype (t .late) (flaggedOf (t .group) members top) (t .group .lack) at n
+      ≡ judgedFrom l settype (r .late) (flaggedOf (r .group) members′ top′) (r .group .lack) (at + (entryLead + m)) (n + 1)
   unfolding judgedFrom
   left-on =
       rw (check-further l at n h g q)
       (ruled-same (checkFrom l (at + (entryLead + m)) (n + 1) (maxEntries - (n + 1))) (n + 1) _ _ (check-counts l (maxEntries - (n + 1)) (at + (entryLead + m)) (n + 1))
-      (λ k z. ap (λ (j : ℕ). orElse (t .late) (entriesPass l settype at (stateOf (t .group) members top) (t .group .lack) j)) (later k z) ∙ one (k - (n + 1))))
+      (λ k z. ap (λ (j : ℕ). orElse (t .late) (entriesPass l settype at (flaggedOf (t .group) members top) (t .group .lack) j)) (later k z) ∙ one (k - (n + 1))))
     where
       later : (k : ℕ) → n + 1 ≤ k → k - n ≡ suc (k - (n + 1))
       later k z = omega arith

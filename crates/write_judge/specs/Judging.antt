@@ -19,8 +19,8 @@ use Rattle.byte_low.specs.Low.{firstLow}
 use Rattle.entry_read.specs.declared.Head.{Head}
 use Rattle.entry_read.specs.declared.Head.the-variants.{Whole, Cut}
 use Rattle.entry_read.specs.Head.{entryAt}
-use Rattle.judge_missing.specs.Lacks.{State, noFlags, stateOf, finish}
-use Rattle.judge_line.specs.Steps.{rowOf, lineNo, nextState, staysIn, lackThen, Stepped}
+use Rattle.judge_missing.specs.Lacks.{Flagged, noFlags, flaggedOf, finish}
+use Rattle.judge_line.specs.Steps.{rowOf, lineNo, nextFlagged, staysIn, lackThen, Stepped}
 use Rattle.write_judge.specs.declared.Item.{Item}
 use Rattle.write_judge.specs.declared.Item.the-variants.{Read}
 use Rattle.write_judge.specs.declared.Turn.{Turn}
@@ -60,13 +60,13 @@ checkFrom l at n (suc k) = cond (leb (length l) at) (Done n) (afterEntry (checkE
 -- ---- 8, 9, 11 to 16
 
 -- one line: its refusal, or what follows with the state and the first group's lack after it
-abbrev pub stepThen : SetType → State → Refusal → ℕ → ℕ → List ℕ → (State → Refusal → Refusal) → Refusal
+abbrev pub stepThen : SetType → Flagged → Refusal → ℕ → ℕ → List ℕ → (Flagged → Refusal → Refusal) → Refusal
 stepThen settype st lack at l c F =
-    cond (eqb (lineNo (rowOf settype l) st l c) 0) (F (nextState (rowOf settype l) st at l) (lackThen (staysIn (rowOf settype l)) settype st lack))
+    cond (eqb (lineNo (rowOf settype l) st l c) 0) (F (nextFlagged (rowOf settype l) st at l) (lackThen (staysIn (rowOf settype l)) settype st lack))
     (refusal (lineNo (rowOf settype l) st l c) at l)
 
 -- 11 to 15 of the n entries from an offset on, and 16 after the last
-unfoldable pub entriesPass : List ℕ → SetType → ℕ → State → Refusal → ℕ → Refusal
+unfoldable pub entriesPass : List ℕ → SetType → ℕ → Flagged → Refusal → ℕ → Refusal
 entriesPass l settype at st lack zero = finish settype st lack
 entriesPass l settype at st lack (suc n) =
     byHead (entryAt l at) (refusal badList at 0) (λ label m.
@@ -82,12 +82,12 @@ row8100 = 32
 -- what the judging of an entry and the flags after it say: a refusal that waited still waits; else the entry's step, and its refusal if it has one
 pub record Turned (settype : SetType) (at l : ℕ) (c : List ℕ) (t : Turn) (members top : List Bool) (r : Turn) (members′ top′ : List Bool) : Type 0 where
   pub waits : (t .late .no ≡ 0 → ⊥) → r .late ≡ t .late
-  pub told : t .late .no ≡ 0 → r .late ≡ refusal (r .late .no) at l
+  pub late-is : t .late .no ≡ 0 → r .late ≡ refusal (r .late .no) at l
   pub steps : t .late .no ≡ 0
-      → Stepped (rowOf settype l) settype (stateOf (t .group) members top) (t .group .lack) at l c (record { no = r .late .no; group = r .group }) members′ top′
+      → Stepped (rowOf settype l) settype (flaggedOf (t .group) members top) (t .group .lack) at l c (record { no = r .late .no; group = r .group }) members′ top′
 
 -- after line 1 and line 2, which are never refused by 11 to 15
-abbrev pub started : State
+abbrev pub started : Flagged
 started = record { header = 8100; place = 0; members = noFlags; top = set (set noFlags row8000 true) row8100 true }
 
 abbrev pub byKnown : Known → Refusal → (SetType → Refusal) → Refusal
@@ -116,7 +116,7 @@ ruled (Done n) f = countUnless (f n) n
 ruled (Refused r) f = Refused r
 
 -- the entries from an offset on, with n before them: the check of them, and then a refusal that waits, else the rules
-unfoldable pub judgedFrom : List ℕ → SetType → Refusal → State → Refusal → ℕ → ℕ → ListJudged
+unfoldable pub judgedFrom : List ℕ → SetType → Refusal → Flagged → Refusal → ℕ → ℕ → ListJudged
 judgedFrom l settype late st lack at n = ruled (checkFrom l at n (maxEntries - n)) (λ m. orElse late (entriesPass l settype at st lack (m - n)))
 
 -- the whole list

@@ -10,7 +10,7 @@ ghost use Rattle.meaning.specs.Entries.{entryLead};
 ghost use Rattle.meaning.specs.Answers.{noRefusal, orElse};
 ghost use Rattle.entry_read.specs.declared.Head.the-variants.{Whole};
 ghost use Rattle.entry_read.specs.Head.{entryAt, headsEnd};
-ghost use Rattle.judge_missing.specs.Lacks.{finish, stateOf};
+ghost use Rattle.judge_missing.specs.Lacks.{finish, flaggedOf};
 ghost use Rattle.write_judge.specs.Judging.{listContent, checkEntry, checkFrom, Turned, started, firstEntry, countUnless, ruled, judgedFrom, judgedList};
 use entry_read::Head;
 use judge_missing::Group;
@@ -112,7 +112,7 @@ fn finished(
     top: &[bool; judge_missing::ROWS],
     n: usize,
 ) -> ListJudged
-    ensures { λ r. ⌜ r ≡ countUnless (orElse (turn .late) (finish settype (stateOf (turn .group) (now (members .entry)) (now (top .entry))) (turn .group .lack))) n ⌝ }
+    ensures { λ r. ⌜ r ≡ countUnless (orElse (turn .late) (finish settype (flaggedOf (turn .group) (now (members .entry)) (now (top .entry))) (turn .group .lack))) n ⌝ }
 {
     let late = turn.late;
     if late.no != 0 {

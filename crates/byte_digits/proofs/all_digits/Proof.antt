@@ -1,4 +1,4 @@
--- The loop of `all_digits`: the bytes left are digits exactly where all are.
+-- The loop of `all_digits`: the bytes left are digits exactly if all are.
 use mathlib.Core.Path.{_≡_, refl, sym, _∙_}
 use Prim.Native.Nat.{_-_}
 use native.Mathlib.Omega.{arith}

@@ -1,10 +1,10 @@
--- `clean_content`: the search among the bytes behind clean blocks finds what the search among all finds, and in the last block it finds nothing.
+-- `clean_content`: the search among the bytes after clean blocks finds what the search among all finds, and in the last block it finds nothing.
 use mathlib.Core.Path.{_≡_, refl, sym, _∙_}
 use Prim.Native.Nat.{_-_, _≤_}
 use native.Mathlib.Omega.{arith}
 use borrow.Author.Needs.{needs}
 use Rattle.byte_low.specs.Low.{firstLow}
-use Rattle.byte_low.proofs.Laws.{low-on, low-tail}
+use Rattle.byte_low.proofs.LowLaws.{low-on, low-tail}
 use Rattle.byte_low.proofs.clean_content.Statement.{statement}
 use Rattle.byte_low.proofs.clean_content.Tie as tie
 

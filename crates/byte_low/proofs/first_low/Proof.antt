@@ -1,10 +1,10 @@
--- `first_low` is the walk `firstLow`: the search among the bytes behind clean blocks finds what the search among all finds.
+-- `first_low` is the walk `firstLow`: the search among the bytes after clean blocks finds what the search among all finds.
 use mathlib.Core.Path.{_≡_, sym, ap, _∙_}
 use Prim.Native.Nat.{_-_, _≤_}
 use native.Mathlib.Omega.{arith}
 use borrow.Author.Needs.{needs}
 use Rattle.byte_low.specs.Low.{firstLow}
-use Rattle.byte_low.proofs.Laws.{low-on}
+use Rattle.byte_low.proofs.LowLaws.{low-on}
 use Rattle.byte_low.proofs.first_low.Statement.{statement}
 use Rattle.byte_low.proofs.first_low.Tie as tie
 

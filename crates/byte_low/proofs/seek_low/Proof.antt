@@ -4,7 +4,7 @@ use Prim.Native.Nat.{_-_, _≤_}
 use native.Mathlib.Omega.{arith}
 use borrow.Author.Needs.{needs}
 use Rattle.byte_low.specs.Low.{firstLow}
-use Rattle.byte_low.proofs.Laws.{low-here, low-further, low-end}
+use Rattle.byte_low.proofs.LowLaws.{low-here, low-further, low-end}
 use Rattle.byte_low.proofs.seek_low.Statement.{statement}
 use Rattle.byte_low.proofs.seek_low.Tie as tie
 

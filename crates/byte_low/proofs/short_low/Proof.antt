@@ -2,7 +2,7 @@
 use mathlib.Core.Path.{sym}
 use native.Mathlib.Omega.{arith}
 use borrow.Author.Needs.{needs}
-use Rattle.byte_low.proofs.Laws.{low-ends}
+use Rattle.byte_low.proofs.LowLaws.{low-ends}
 use Rattle.byte_low.proofs.short_low.Statement.{statement}
 use Rattle.byte_low.proofs.short_low.Tie as tie
 

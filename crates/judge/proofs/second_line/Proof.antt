@@ -4,7 +4,7 @@ use native.Mathlib.Omega.{arith}
 use borrow.Author.Needs.{needs}
 use Rattle.meaning.specs.declared.Refusal.{Refusal}
 use Rattle.meaning.specs.declared.Judged.{Judged}
-use Rattle.line_read.proofs.Bridge.{read-back}
+use Rattle.line_read.proofs.LineMeaning.{read-back}
 use Rattle.line_scan.specs.Scan.{scanFrom}
 use Rattle.judge_lines.specs.Pass.{firstUnread}
 use Rattle.judge.proofs.StartLaws.{second-none, second-other, second-summed}

@@ -1,8 +1,8 @@
--- `summed`: 17 behind what the pass found.
+-- `summed`: 17 after what the pass found.
 use mathlib.Core.Path.{sym, ap, _∙_}
 use native.Mathlib.Omega.{arith}
 use borrow.Author.Needs.{needs}
-use Rattle.line_read.proofs.Bridge.{read-back}
+use Rattle.line_read.proofs.LineMeaning.{read-back}
 use Rattle.line_scan.specs.declared.Scan.{Scan}
 use Rattle.line_scan.specs.Scan.{scanSet}
 use Rattle.judge_start.specs.Sum.{sumWalk}

@@ -2,7 +2,7 @@
 use mathlib.Core.Path.{refl, sym, _∙_}
 use native.Mathlib.Omega.{arith}
 use borrow.Author.Needs.{needs}
-use Rattle.table_find.proofs.CodeLaws.{code-nothing, coded}
+use Rattle.table_find.proofs.RowCodeLaws.{code-nothing, coded}
 use Rattle.judge_line.proofs.StepLaws.{row-at, step-unknown, step-misplaced, step-unfit, step-opened, member-pair, step-joined}
 use Rattle.judge_line.proofs.step_at.Statement.{statement}
 use Rattle.judge_line.proofs.step_at.Tie as tie

@@ -1,8 +1,8 @@
--- `ended`: what the scan finds, and 16 where it is done.
+-- `ended`: what the scan finds, and 16 if it is done.
 use mathlib.Core.Path.{sym, ap, _∙_}
 use borrow.Author.Needs.{needs}
 use Rattle.judge_lines.specs.Pass.{finishedScan}
-use Rattle.judge_lines.proofs.OnceLaws.{unless-bad, unless-good}
+use Rattle.judge_lines.proofs.LineLoopLaws.{unless-bad, unless-good}
 use Rattle.judge_lines.proofs.ended.Statement.{statement}
 use Rattle.judge_lines.proofs.ended.Tie as tie
 

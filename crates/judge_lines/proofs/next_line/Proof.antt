@@ -2,7 +2,7 @@
 use mathlib.Core.Path.{sym, _∙_}
 use native.Mathlib.Omega.{arith}
 use borrow.Author.Needs.{needs}
-use Rattle.judge_lines.proofs.OnceLaws.{next-full, next-read, next-unread}
+use Rattle.judge_lines.proofs.LineLoopLaws.{next-full, next-read, next-unread}
 use Rattle.judge_lines.proofs.next_line.Statement.{statement}
 use Rattle.judge_lines.proofs.next_line.Tie as tie
 

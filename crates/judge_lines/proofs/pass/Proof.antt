@@ -5,14 +5,14 @@ use borrow.Author.Needs.{needs}
 use Prim.Native.Nat.{_-_}
 use Rattle.meaning.specs.Limits.{maxLines}
 use Rattle.line_scan.specs.declared.Scan.the-variants.{Refused}
-use Rattle.judge_missing.specs.Lacks.{stateOf}
-use Rattle.judge_lines.proofs.OnceLaws.{Along, along-start, along-end, along-few, along-least, along-within, along-bad, along-on}
+use Rattle.judge_missing.specs.Lacks.{flaggedOf}
+use Rattle.judge_lines.proofs.LineLoopLaws.{Along, along-start, along-end, along-few, along-least, along-within, along-bad, along-on}
 use Rattle.judge_lines.proofs.pass.Statement.{statement}
 use Rattle.judge_lines.proofs.pass.Tie as tie
 
 abbrev Inv-loop : tie.InvT-loop
 Inv-loop s settype start members₀ top₀ group₀ at₀ lines₀ members top group at lines =
-    Along s settype at lines (stateOf group members top) (group .lack)
+    Along s settype at lines (flaggedOf group members top) (group .lack)
 
 abbrev μ-loop : tie.MeasureT-loop
 μ-loop s settype start members₀ top₀ group₀ at₀ lines₀ members top group at lines =

@@ -1,4 +1,4 @@
--- `lack_8410` asks for 8421 where a value or a limit stands, then for 8437.
+-- `lack_8410` asks for 8421 if a value or a limit stands, then for 8437.
 use mathlib.Core.Path.{sym, _∙_}
 use borrow.Author.Needs.{needs}
 use Rattle.meaning.specs.FieldTable.{fieldTable}

@@ -1,4 +1,4 @@
--- `lack_8437` asks for 8437 where 8438 stands.
+-- `lack_8437` asks for 8437 if 8438 stands.
 use mathlib.Core.Path.{sym, _∙_}
 use borrow.Author.Needs.{needs}
 use Rattle.meaning.specs.FieldTable.{fieldTable}

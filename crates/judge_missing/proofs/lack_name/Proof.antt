@@ -1,4 +1,4 @@
--- `lack_name` asks for the odd label behind the name.
+-- `lack_name` asks for the odd label after the name.
 use mathlib.Core.Path.{sym, _∙_}
 use borrow.Author.Needs.{needs}
 use Rattle.meaning.specs.FieldTable.{fieldTable}

@@ -4,7 +4,7 @@ use mathlib.Core.Logic.{⊎-elim}
 use borrow.Author.Needs.{needs}
 use Rattle.meaning.specs.Tables.{rowLabel}
 use Rattle.judge_missing.specs.Lacks.{lackUnder}
-use Rattle.judge_missing.proofs.Laws.{name-below, under-name, under-odd, under-other}
+use Rattle.judge_missing.proofs.HeaderLackLaws.{name-below, under-name, under-odd, under-other}
 use Rattle.judge_missing.proofs.lack_under.Statement.{statement}
 use Rattle.judge_missing.proofs.lack_under.Tie as tie
 

@@ -1,7 +1,7 @@
 -- `sum_at`: by what the five bytes of line 2 write.
 use mathlib.Core.Path.{sym, _∙_}
 use borrow.Author.Needs.{needs}
-use Rattle.judge_start.proofs.Laws.{sum-none, sum-right, sum-wrong}
+use Rattle.judge_start.proofs.TypeAndSumLaws.{sum-none, sum-right, sum-wrong}
 use Rattle.judge_start.proofs.sum_at.Statement.{statement}
 use Rattle.judge_start.proofs.sum_at.Tie as tie
 

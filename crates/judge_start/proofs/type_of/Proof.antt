@@ -1,7 +1,7 @@
 -- `type_of`: by what its four bytes write.
 use mathlib.Core.Path.{sym, _∙_}
 use borrow.Author.Needs.{needs}
-use Rattle.judge_start.proofs.Laws.{type-other, type-known, type-none}
+use Rattle.judge_start.proofs.TypeAndSumLaws.{type-other, type-known, type-none}
 use Rattle.judge_start.proofs.type_of.Statement.{statement}
 use Rattle.judge_start.proofs.type_of.Tie as tie
 

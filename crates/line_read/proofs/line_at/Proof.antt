@@ -3,7 +3,7 @@ use mathlib.Core.Path.{sym, _∙_}
 use native.Mathlib.Omega.{arith}
 use borrow.Author.Needs.{needs}
 use Rattle.line_read.specs.Line.{mustRead, lineAt}
-use Rattle.line_read.proofs.Laws.{number-within}
+use Rattle.line_read.proofs.LineWalkLaws.{number-within}
 use Rattle.line_read.proofs.line_at.Statement.{statement}
 use Rattle.line_read.proofs.line_at.Tie as tie
 

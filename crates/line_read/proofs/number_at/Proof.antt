@@ -1,18 +1,18 @@
--- `number_at` is the walk `numberAt`: behind the number so far, the bytes that are left write what all of them write.
+-- `number_at` is the walk `numberAt`: after the number so far, the bytes that are left write what all of them write.
 use mathlib.Core.Path.{_≡_, sym, ap, _∙_}
 use Prim.Native.Nat.{_-_, _^_, _≤_, _<_}
 use native.Mathlib.Nat.{one-le-pow}
 use native.Mathlib.Omega.{arith}
 use borrow.Author.Needs.{needs}
 use lib.Dec.{lit<}
-use Rattle.line_read.specs.Number.{numberFrom, numberAt}
-use Rattle.line_read.proofs.Laws.{number-long, number-cut, number-there, digit-below, digit-above, digit-further, digits-end, digits-small, digits-grow}
+use Rattle.line_read.specs.Number.{numberAfter, numberAt}
+use Rattle.line_read.proofs.LineWalkLaws.{number-long, number-cut, number-there, digit-below, digit-above, digit-further, digits-end, digits-small, digits-grow}
 use Rattle.line_read.proofs.number_at.Statement.{statement}
 use Rattle.line_read.proofs.number_at.Tie as tie
 
 abbrev Inv-loop : tie.InvT-loop
 Inv-loop s at k end i₀ number₀ i number =
-    (at ≤ i) × (i ≤ end) × (number < 10 ^ (i - at)) × (numberFrom s number i (end - i) ≡ numberAt s at k)
+    (at ≤ i) × (i ≤ end) × (number < 10 ^ (i - at)) × (numberAfter s number i (end - i) ≡ numberAt s at k)
 
 abbrev μ-loop : tie.MeasureT-loop
 μ-loop s at k end i₀ number₀ i number = end - i
@@ -37,7 +37,7 @@ loop-holds c = (
   omega arith,
   omega arith,
   one-le-pow _ 10 (lit< tt),
-  ap (numberFrom _ _ _) (omega arith) ∙ sym (number-there _ _ _ (omega arith) (omega arith)),
+  ap (numberAfter _ _ _) (omega arith) ∙ sym (number-there _ _ _ (omega arith) (omega arith)),
 )
 
 shared-slice-read-b : tie.Need-shared-slice-read-b Inv-loop μ-loop

@@ -3,7 +3,7 @@ use mathlib.Core.Path.{sym, _∙_}
 use native.Mathlib.Omega.{arith}
 use borrow.Author.Needs.{needs}
 use Rattle.line_read.specs.Line.{must, mustRead, sizedLine}
-use Rattle.line_read.proofs.Laws.{tests, line-short}
+use Rattle.line_read.proofs.LineWalkLaws.{tests, line-short}
 use Rattle.line_read.proofs.sized_line.Statement.{statement}
 use Rattle.line_read.proofs.sized_line.Tie as tie
 

@@ -1,4 +1,4 @@
--- `usual_lead`: while every byte so far is a usual one, the bytes of the first seven that are left are digits exactly where all are.
+-- `usual_lead`: while every byte so far is a usual one, the bytes of the first seven that are left are digits exactly if all are.
 use mathlib.Core.Path.{_≡_, sym, ap₂, _∙_}
 use mathlib.Core.Bool.{true}
 use Prim.Native.Nat.{ℕ, _+_, _-_, _≤_}
@@ -8,7 +8,7 @@ use lib.ListN.{take, drop}
 use Rattle.meaning.specs.Digits.{allDigits}
 use Rattle.meaning.specs.Lines.{lineLead}
 use Rattle.meaning.proofs.Bools.{and-left, and-right}
-use Rattle.line_read.proofs.Laws.{digits-further, digits-done}
+use Rattle.line_read.proofs.LineWalkLaws.{digits-further, digits-done}
 use Rattle.line_read.proofs.usual_lead.Statement.{statement}
 use Rattle.line_read.proofs.usual_lead.Tie as tie
 

@@ -5,10 +5,10 @@ use native.Mathlib.Omega.{arith}
 use borrow.Author.Needs.{needs}
 use lib.ListN.{length}
 use Rattle.meaning.specs.Limits.{maxLines}
-use Rattle.line_read.proofs.Bridge.{read-back}
+use Rattle.line_read.proofs.LineMeaning.{read-back}
 use Rattle.line_scan.specs.declared.Scan.the-variants.{Refused}
 use Rattle.line_scan.specs.Scan.{scanFrom}
-use Rattle.line_scan.proofs.Laws.{scan-done, scan-full, scan-bad, scan-further}
+use Rattle.line_scan.proofs.ScanWalkLaws.{scan-done, scan-full, scan-bad, scan-further}
 use Rattle.line_scan.proofs.scan_from.Statement.{statement}
 use Rattle.line_scan.proofs.scan_from.Tie as tie
 

@@ -1,4 +1,4 @@
--- The loop of `same_bytes`: what is left of the two is the same exactly where the two are.
+-- The loop of `same_bytes`: what is left of the two is the same exactly if the two are.
 use mathlib.Core.Path.{_≡_, refl, sym, _∙_}
 use Prim.Native.Nat.{_-_}
 use native.Mathlib.Omega.{arith}

@@ -6,7 +6,7 @@ use borrow.Author.Needs.{needs}
 use lib.ListN.{length}
 use Rattle.meaning.specs.declared.Refusal.{Refusal}
 use Rattle.meaning.specs.Limits.{maxEntries}
-use Rattle.judge_missing.specs.Lacks.{stateOf}
+use Rattle.judge_missing.specs.Lacks.{flaggedOf}
 use Rattle.write_judge.specs.declared.ListJudged.the-variants.{Refused}
 use Rattle.write_judge.specs.Judging.{started, judgedFrom}
 use Rattle.write_judge.proofs.CheckLaws.{checked-within}
@@ -18,8 +18,8 @@ abbrev Inv-loop : tie.InvT-loop
 Inv-loop list settype start before members₀ top₀ turn₀ at₀ n₀ members top turn at n =
     (at ≤ length list)
     × (n ≤ maxEntries)
-    × (judgedFrom list settype (turn .late) (stateOf (turn .group) members top) (turn .group .lack) at n ≡ judgedFrom list settype (turn₀ .late)
-    (stateOf (turn₀ .group) members₀ top₀) (turn₀ .group .lack) start before)
+    × (judgedFrom list settype (turn .late) (flaggedOf (turn .group) members top) (turn .group .lack) at n ≡ judgedFrom list settype (turn₀ .late)
+    (flaggedOf (turn₀ .group) members₀ top₀) (turn₀ .group .lack) start before)
 
 abbrev μ-loop : tie.MeasureT-loop
 μ-loop list settype start before members₀ top₀ turn₀ at₀ n₀ members top turn at n = maxEntries - n
@@ -49,7 +49,7 @@ returns c =
     let a = at-start .args in
     let l = at-loop .loop in
     ap Refused (c .at .ensures)
-    ∙ (left-full (a .list .now) (a .settype) (l .turn .late) (stateOf (l .turn .group) (l .members) (l .top)) (l .turn .group .lack) (l .at) (l .n)
+    ∙ (left-full (a .list .now) (a .settype) (l .turn .late) (flaggedOf (l .turn .group) (l .members) (l .top)) (l .turn .group .lack) (l .at) (l .n)
     (at-loop-test .loop-test .taken) (at-if1 .if1 .taken)
     ∙ (l .inv .2 ∙ ap (λ (r : Refusal). judgedFrom (a .list .now) (a .settype) (a .late) started r (a .start) (a .before)) (at-none .none .ensures)))
 
@@ -70,7 +70,7 @@ returns-2 c =
     let at-start = at-none .before .before in
     let a = at-start .args in
     let l = at-loop .loop in
-    left-unchecked (a .list .now) (a .settype) (l .turn .late) (stateOf (l .turn .group) (l .members) (l .top)) (l .turn .group .lack) (l .at) (l .n)
+    left-unchecked (a .list .now) (a .settype) (l .turn .late) (flaggedOf (l .turn .group) (l .members) (l .top)) (l .turn .group .lack) (l .at) (l .n)
     (at-loop-test .loop-test .taken) (omega (arith, at-if1 .if1 .left)) (sym (at-check-entry .check-entry .ensures) ∙ at-r .r .given .1)
     ∙ (l .inv .2 ∙ ap (λ (r : Refusal). judgedFrom (a .list .now) (a .settype) (a .late) started r (a .start) (a .before)) (at-none .none .ensures))
 
@@ -158,7 +158,7 @@ returns-3 c =
     let a = at-start .args in
     let l = at-loop .loop in
     c .finished .ensures
-    ∙ (left-end (a .list .now) (a .settype) (l .turn .late) (stateOf (l .turn .group) (l .members) (l .top)) (l .turn .group .lack) (l .at) (l .n) (at-loop-test .loop-test .left)
+    ∙ (left-end (a .list .now) (a .settype) (l .turn .late) (flaggedOf (l .turn .group) (l .members) (l .top)) (l .turn .group .lack) (l .at) (l .n) (at-loop-test .loop-test .left)
     ∙ (l .inv .2 ∙ ap (λ (r : Refusal). judgedFrom (a .list .now) (a .settype) (a .late) started r (a .start) (a .before)) (at-none .none .ensures)))
 
 pub pass-entries-spec : {M : Type 1} → statement M

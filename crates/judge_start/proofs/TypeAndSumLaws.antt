@@ -19,7 +19,7 @@ use Rattle.meaning.specs.Answers.{noRefusal}
 use Rattle.line_read.specs.declared.Number.{Number}
 use Rattle.line_read.specs.declared.Number.the-variants.{Is, None}
 use Rattle.line_read.specs.Number.{numberAt}
-use Rattle.line_read.proofs.Bridge.{asNumber, number-is}
+use Rattle.line_read.proofs.LineMeaning.{asNumber, number-is}
 use Rattle.judge_start.specs.Sum.{sumWalk}
 
 -- ---- 9: the type that a content names

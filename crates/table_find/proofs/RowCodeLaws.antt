@@ -8,11 +8,11 @@ use Rattle.meaning.specs.declared.Row.{Row}
 use Rattle.meaning.specs.declared.SetType.{SetType}
 use Rattle.meaning.specs.Tables.{table, rowLabel}
 use Rattle.meaning.specs.FieldTable.{fieldTable, fieldRowIn, fieldRow}
-use Rattle.table_fields.specs.Codes.{fieldCode}
-use Rattle.table_fields.proofs.CodeLaws.{row-small, code-some, code-fits}
-use Rattle.table_find.specs.LookUp.{Found, At, Nothing, findFrom}
-use Rattle.table_find.specs.Codes.{fields, numbers, occurrence, occurrences, rowCode, code, fieldIn, numberIn, manyIn, underIn}
-use Rattle.table_find.proofs.Laws.{found-row, row-below}
+use Rattle.table_fields.specs.FieldCodes.{fieldCode}
+use Rattle.table_fields.proofs.FieldCodeLaws.{row-small, code-some, code-fits}
+use Rattle.table_find.specs.LookUp.{Found, At, NoRow, findFrom}
+use Rattle.table_find.specs.RowCodes.{fieldCodes, labelNumbers, occurrence, occurrences, rowCode, code, fieldIn, numberIn, manyIn, underIn}
+use Rattle.table_find.proofs.FindLaws.{found-row, row-below}
 
 -- ---- a code and its parts
 
@@ -25,7 +25,7 @@ occurrence-back true = refl
 occurrence-back false = refl
 
 -- a code gives back what was put in
-module _ (number under : ℕ) (many : Bool) (field : ℕ) (n : number < numbers) (f : field < fields) where
+module _ (number under : ℕ) (many : Bool) (field : ℕ) (n : number < labelNumbers) (f : field < fieldCodes) where
   abbrev coding : ℕ
   coding = rowCode number under (occurrence many) field
 
@@ -40,18 +40,18 @@ module _ (number under : ℕ) (many : Bool) (field : ℕ) (n : number < numbers)
 
   row-many : manyIn coding ≡ many
   row-many =
-      let e : coding / (fields * numbers) % occurrences ≡ occurrence many = omega (arith, occurrence-below many) in
+      let e : coding / (fieldCodes * labelNumbers) % occurrences ≡ occurrence many = omega (arith, occurrence-below many) in
       rw e (occurrence-back many)
 
 -- ---- what is found, by its code
 
 -- 0 is the code of nothing
-none-coded : (o : Found) → code o ≡ 0 → o ≡ Nothing
+none-coded : (o : Found) → code o ≡ 0 → o ≡ NoRow
 unfolding code
-none-coded Nothing e = refl
+none-coded NoRow e = refl
 none-coded (At i r) e = absurd (omega (arith, code-some _ (row-small (r .label))))
 
--- what a code that is not 0 tells of a label's row
+-- what a code that is not 0 says of a label's row
 pub record Coded (settype : SetType) (l c : ℕ) : Type 0 where
   pub row : Row
   pub is : findFrom (table settype) (rowLabel l) ≡ At (numberIn c) row
@@ -61,15 +61,15 @@ pub record Coded (settype : SetType) (l c : ℕ) : Type 0 where
   pub below : numberIn c < 57
 
 module _ (settype : SetType) (l c : ℕ) (e : c ≡ code (findFrom (table settype) (rowLabel l))) where
-  pub code-nothing : c ≡ 0 → findFrom (table settype) (rowLabel l) ≡ Nothing
+  pub code-nothing : c ≡ 0 → findFrom (table settype) (rowLabel l) ≡ NoRow
   code-nothing z = none-coded (findFrom (table settype) (rowLabel l)) (sym e ∙ z)
 
   row-coded : (i : ℕ) (r : Row) → findFrom (table settype) (rowLabel l) ≡ At i r → Coded settype l c
   unfolding code fieldRow
   row-coded i r q =
       let below : i < 57 = row-below settype (rowLabel l) i r q in
-      let few : i < numbers = omega arith in
-      let small : fieldCode (fieldRowIn fieldTable (r .label)) < fields = code-fits _ (row-small (r .label)) in
+      let few : i < labelNumbers = omega arith in
+      let small : fieldCode (fieldRowIn fieldTable (r .label)) < fieldCodes = code-fits _ (row-small (r .label)) in
       let w : c ≡ rowCode i (r .under) (occurrence (r .many)) (fieldCode (fieldRowIn fieldTable (r .label))) = e ∙ ap code q in
       let n : numberIn c ≡ i = rw w (row-number i (r .under) (r .many) _ few small) in
       record {
@@ -87,5 +87,5 @@ module _ (settype : SetType) (l c : ℕ) (e : c ≡ code (findFrom (table settyp
   coded n = go (findFrom (table settype) (rowLabel l)) refl
     where
       go : (o : Found) → findFrom (table settype) (rowLabel l) ≡ o → Coded settype l c
-      go Nothing q = absurd (n (e ∙ ap code q))
+      go NoRow q = absurd (n (e ∙ ap code q))
       go (At i r) q = row-coded i r q

@@ -16,24 +16,24 @@ use Rattle.meaning.specs.Rules.{typeNamed}
 use Rattle.meaning.specs.Answers.{noRefusal}
 use Rattle.line_read.specs.declared.Line.{Line}
 use Rattle.line_read.specs.declared.Line.the-variants.{Read}
-use Rattle.line_read.specs.Line.{lineAt, contentOf}
-use Rattle.line_read.proofs.Bridge.{read-back}
+use Rattle.line_read.specs.Line.{lineAt, lineContent}
+use Rattle.line_read.proofs.LineMeaning.{read-back}
 use Rattle.line_scan.specs.declared.Scan.{Scan}
 use Rattle.line_scan.specs.declared.Scan.the-variants.{Done, Refused}
 use Rattle.line_scan.specs.Scan.{Stops, scanFrom, scanSet}
-use Rattle.line_scan.proofs.Laws.{scan-done, scan-further, scan-first, stops-full, stops-unread, Counts, scan-counts}
-use Rattle.line_scan.proofs.Bridge.{ends-read}
-use Rattle.judge_missing.specs.Lacks.{State, noFlags, begin, finish, stateOf}
+use Rattle.line_scan.proofs.ScanWalkLaws.{scan-done, scan-further, scan-first, stops-full, stops-unread, CountsFrom, scan-counts}
+use Rattle.line_scan.proofs.ScanMeaning.{ends-read}
+use Rattle.judge_missing.specs.Lacks.{Flagged, noFlags, noneSeen, finish, flaggedOf}
 use Rattle.judge_line.specs.declared.Step.{Step}
 use Rattle.judge_line.specs.Steps.{rowOf, Stepped}
 use Rattle.judge_line.proofs.StartRows.{startGroup, startTop, start-step}
-use Rattle.judge_lines.specs.Pass.{passFrom, firstUnread, doneUnless, NextAt, finishedScan, passed}
+use Rattle.judge_lines.specs.Pass.{passFrom, firstUnread, scanUnless, NextAt, finishedScan, passed}
 use Rattle.judge_lines.proofs.PassLaws.{pass-bad, pass-on}
 
 -- ---- the next line
 
 module _ (s : List ℕ) (at k : ℕ) where
-  -- where the line is read: another set starts, or it is one more line
+  -- if the line is read: another set starts, or it is one more line
   pub next-read : k < maxLines → {l n : ℕ} → lineAt s at ≡ Read l n → NextAt s at k l n
   next-read h q = record { line-read = λ z. (h, q); scan-stops = λ z. subst (Stops k) (sym (scan-done s at k (maxLines - k) (ends-read s at q ∙ eq-eqb _ 8000 z))) refl }
 
@@ -46,27 +46,27 @@ module _ (s : List ℕ) (at k : ℕ) where
 
 -- ---- at a line start: the scan from here on is the scan of the set, and the pass from here on is the pass over the set
 
-pub record Along (s : List ℕ) (settype : SetType) (at k : ℕ) (st : State) (lack : Refusal) : Type 0 where
+pub record Along (s : List ℕ) (settype : SetType) (at k : ℕ) (st : Flagged) (lack : Refusal) : Type 0 where
   pub within : at ≤ length s
   pub few : k ≤ maxLines
   pub scan-so : scanFrom s at k (maxLines - k) ≡ scanSet s
-  pub pass-so : (m : ℕ) → passFrom s settype at st lack m ≡ passFrom s settype 0 begin noRefusal (k + m)
+  pub pass-so : (m : ℕ) → passFrom s settype at st lack m ≡ passFrom s settype 0 noneSeen noRefusal (k + m)
 
--- behind line 1
-pub along-start : (s : List ℕ) (settype : SetType) (at : ℕ) → lineAt s 0 ≡ Read 8000 at → typeNamed (contentOf s 0 at) ≡ Of settype
-    → {lack : Refusal} → lack ≡ noRefusal → {top : List Bool} → top ≡ startTop → Along s settype at 1 (stateOf startGroup noFlags top) lack
+-- after line 1
+pub along-start : (s : List ℕ) (settype : SetType) (at : ℕ) → lineAt s 0 ≡ Read 8000 at → typeNamed (lineContent s 0 at) ≡ Of settype
+    → {lack : Refusal} → lack ≡ noRefusal → {top : List Bool} → top ≡ startTop → Along s settype at 1 (flaggedOf startGroup noFlags top) lack
 along-start s settype at q t {lack} e {top} f = rw (e, f) (record {
   within = omega (arith, read-back s 0 q .within);
   few = omega arith;
   scan-so = sym (scan-first s q);
   pass-so = λ m.
       let one : suc m ≡ 1 + m = omega arith in
-      sym (ap (passFrom s settype 0 begin noRefusal) (sym one)
-      ∙ (pass-on s settype 0 begin noRefusal 8000 at q (record { no = 0; group = startGroup }) noFlags startTop (start-step settype (contentOf s 0 at) t) refl m
-      ∙ ap (λ (x : ℕ). passFrom s settype x (stateOf startGroup noFlags startTop) noRefusal m) (zero-add at)));
+      sym (ap (passFrom s settype 0 noneSeen noRefusal) (sym one)
+      ∙ (pass-on s settype 0 noneSeen noRefusal 8000 at q (record { no = 0; group = startGroup }) noFlags startTop (start-step settype (lineContent s 0 at) t) refl m
+      ∙ ap (λ (x : ℕ). passFrom s settype x (flaggedOf startGroup noFlags startTop) noRefusal m) (zero-add at)));
 })
 
-module _ {s : List ℕ} {settype : SetType} {at k : ℕ} {st : State} {lack : Refusal} (a : Along s settype at k st lack) {l n : ℕ} (h : NextAt s at k l n) where
+module _ {s : List ℕ} {settype : SetType} {at k : ℕ} {st : Flagged} {lack : Refusal} (a : Along s settype at k st lack) {l n : ℕ} (h : NextAt s at k l n) where
   -- no line of the set is left
   pub along-end : l ≡ 8000 → finishedScan (finish settype st lack) (scanFrom s at k (maxLines - k)) ≡ passed s settype (scanSet s)
   unfolding passFrom
@@ -74,7 +74,7 @@ module _ {s : List ℕ} {settype : SetType} {at k : ℕ} {st : State} {lack : Re
     where
       go : (x : Scan) → Stops k x → finishedScan (finish settype st lack) x ≡ passed s settype x
       go (Refused u) c = refl
-      go (Done total lines) c = ap (λ (x : Refusal). doneUnless x total lines) (a .pass-so 0 ∙ ap (passFrom s settype 0 begin noRefusal) (add-zero k ∙ sym c))
+      go (Done total lines) c = ap (λ (x : Refusal). scanUnless x total lines) (a .pass-so 0 ∙ ap (passFrom s settype 0 noneSeen noRefusal) (add-zero k ∙ sym c))
 
   module _ (z : l ≡ 8000 → ⊥) where
     -- the line is read
@@ -90,38 +90,38 @@ module _ {s : List ℕ} {settype : SetType} {at k : ℕ} {st : State} {lack : Re
     pub along-within : at + n ≤ length s
     along-within = read-back s at line-so .within
 
-    -- the scan goes on behind it
-    scan-behind : scanFrom s (at + n) (k + 1) (maxLines - (k + 1)) ≡ scanSet s
-    scan-behind = sym (scan-further s at k along-few (ends-read s at line-so ∙ ne-eqb l 8000 z) line-so) ∙ a .scan-so
+    -- the scan goes on after it
+    scan-after : scanFrom s (at + n) (k + 1) (maxLines - (k + 1)) ≡ scanSet s
+    scan-after = sym (scan-further s at k along-few (ends-read s at line-so ∙ ne-eqb l 8000 z) line-so) ∙ a .scan-so
 
-    module _ (r : Step) (members top : List Bool) (e : Stepped (rowOf settype l) settype st lack at l (contentOf s at n) r members top) where
+    module _ (r : Step) (members top : List Bool) (e : Stepped (rowOf settype l) settype st lack at l (lineContent s at n) r members top) where
       pub along-bad : (r .no ≡ 0 → ⊥)
           → Refused (firstUnread (scanFrom s (at + n) (k + 1) (maxLines - (k + 1))) (refusal (r .no) at l)) ≡ passed s settype (scanSet s)
-      unfolding doneUnless
-      along-bad g = go (scanFrom s (at + n) (k + 1) (maxLines - (k + 1))) (scan-counts s (maxLines - (k + 1)) (at + n) (k + 1)) ∙ ap (passed s settype) scan-behind
+      unfolding scanUnless
+      along-bad g = go (scanFrom s (at + n) (k + 1) (maxLines - (k + 1))) (scan-counts s (maxLines - (k + 1)) (at + n) (k + 1)) ∙ ap (passed s settype) scan-after
         where
-          go : (x : Scan) → Counts (k + 1) x → Refused (firstUnread x (refusal (r .no) at l)) ≡ passed s settype x
+          go : (x : Scan) → CountsFrom (k + 1) x → Refused (firstUnread x (refusal (r .no) at l)) ≡ passed s settype x
           go (Refused u) c = refl
           go (Done total lines) c =
               let m : k + suc (lines - (k + 1)) ≡ lines = omega arith in
-              let w : passFrom s settype 0 begin noRefusal lines ≡ refusal (r .no) at l =
-              ap (passFrom s settype 0 begin noRefusal) (sym m) ∙ (sym (a .pass-so (suc (lines - (k + 1)))) ∙ pass-bad s settype at st lack l n line-so r members top e g (lines - (k + 1))) in
+              let w : passFrom s settype 0 noneSeen noRefusal lines ≡ refusal (r .no) at l =
+              ap (passFrom s settype 0 noneSeen noRefusal) (sym m) ∙ (sym (a .pass-so (suc (lines - (k + 1)))) ∙ pass-bad s settype at st lack l n line-so r members top e g (lines - (k + 1))) in
               sym (rw (w, ne-eqb (r .no) 0 g))
 
-      pub along-on : r .no ≡ 0 → Along s settype (at + n) (k + 1) (stateOf (r .group) members top) (r .group .lack)
+      pub along-on : r .no ≡ 0 → Along s settype (at + n) (k + 1) (flaggedOf (r .group) members top) (r .group .lack)
       along-on g = record {
         within = along-within;
         few = omega (arith, along-few);
-        scan-so = scan-behind;
-        pass-so = λ m. sym (pass-on s settype at st lack l n line-so r members top e g m) ∙ (a .pass-so (suc m) ∙ ap (passFrom s settype 0 begin noRefusal) (omega arith));
+        scan-so = scan-after;
+        pass-so = λ m. sym (pass-on s settype at st lack l n line-so r members top e g m) ∙ (a .pass-so (suc m) ∙ ap (passFrom s settype 0 noneSeen noRefusal) (omega arith));
       }
 
--- ---- behind the last line
+-- ---- after the last line
 
-pub unless-bad : (r q : Refusal) (total lines : ℕ) → r ≡ q → (r .no ≡ 0 → ⊥) → Refused r ≡ doneUnless q total lines
-unfolding doneUnless
+pub unless-bad : (r q : Refusal) (total lines : ℕ) → r ≡ q → (r .no ≡ 0 → ⊥) → Refused r ≡ scanUnless q total lines
+unfolding scanUnless
 unless-bad r q total lines e g = rw (← e, ne-eqb (r .no) 0 g)
 
-pub unless-good : (r q : Refusal) (total lines : ℕ) → r ≡ q → r .no ≡ 0 → Done total lines ≡ doneUnless q total lines
-unfolding doneUnless
+pub unless-good : (r q : Refusal) (total lines : ℕ) → r ≡ q → r .no ≡ 0 → Done total lines ≡ scanUnless q total lines
+unfolding scanUnless
 unless-good r q total lines e g = rw (← e, g)

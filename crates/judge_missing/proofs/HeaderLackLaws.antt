@@ -1,4 +1,4 @@
--- What the code's tests say of the walks, where the proof of a function needs more than its own tests.
+-- What the group of a header lacks, by the header itself: for the proof of `lack_under`.
 use mathlib.Core.Path.{_≡_, refl, sym, ap, _∙_}
 use mathlib.Core.Bool.{Bool, true, false, true≢false}
 use Prim.Native.Nat.{ℕ, _+_, _%_, _≤_, _<_}
@@ -22,7 +22,7 @@ module _ (h : ℕ) where
     unfolding lackUnder rowLabel
     under-name p e = rw (p, e)
 
-    -- nothing stands under the odd label behind a name, nor under any other label
+    -- nothing stands under the odd label after a name, nor under any other label
     pub under-odd : isPairLabel h ≡ true → (h % 2 ≡ 0 → ⊥) → noRefusal ≡ lackUnder (rowLabel h) has h place
     unfolding lackUnder rowLabel
     under-odd p n = rw (p, ne-eqb (6330 + h % 2) 8410 (λ q. omega arith), ne-eqb (6330 + h % 2) 6302 (λ q. omega arith), ne-eqb (6330 + h % 2) 6330 (λ q. n (omega arith)))

@@ -1,4 +1,4 @@
--- One line over its content and flags finds what the rules of `meaning` find over fields and labels, and leaves the same state: 11 to 15, and 16 behind the last line.
+-- One line over its content and flags finds what the rules of `meaning` find over fields and labels, and leaves the same state: 11 to 15, and 16 after the last line.
 use mathlib.Core.Path.{_≡_, refl, sym, ap, ap₂, _∙_, subst}
 use mathlib.Core.Bool.{Bool, true, false, cond, not, _||_}
 use mathlib.Core.List.{List, [], _∷_, _++_}
@@ -23,14 +23,14 @@ use Rattle.meaning.specs.Missing.{lacking, among, openLacking, stays, groupsLac
 use Rattle.meaning.specs.Rules.{Profile, roleIn, fits, current, contentFaults, contentRules, lineRules, rulesFrom}
 use Rattle.meaning.specs.Answers.{noRefusal, orElse}
 use Rattle.table_fields.specs.LabelNumbers.{labelNumber}
-use Rattle.table_find.specs.LookUp.{Found, At, Nothing, justRow}
-use Rattle.table_find.proofs.Laws.{find-is, found-number, row-below}
-use Rattle.judge_missing.specs.Lacks.{rowCount, State, noFlags, seen, openLack, firstLack, lackAll, requiredLabels, setLack, finish}
+use Rattle.table_find.specs.LookUp.{Found, At, NoRow, justRow}
+use Rattle.table_find.proofs.FindLaws.{find-is, found-number, row-below}
+use Rattle.judge_missing.specs.Lacks.{rowCount, Flagged, noFlags, seen, openLack, firstLack, lackAll, requiredLabels, setLack, finish}
 use Rattle.meaning.proofs.FirstLaws.{firstOf, first-append, or-assoc, or-none, or-bad}
 use Rattle.meaning.proofs.RealLaws.{real-label, real-line, real-rules, real-lacking, real-open, faultsAfterStart, ofType}
-use Rattle.judge_missing.proofs.FlagLaws.{Flags, flags-mark, flags-none, Same}
-use Rattle.judge_missing.proofs.LackLaws.{set-lack, open-is}
-use Rattle.judge_line.specs.Steps.{rowOf, againNo, placeNo, labelNo, versionNo, contentNo, lineNo, nextState, staysIn, lackThen}
+use Rattle.judge_missing.proofs.FlagLaws.{Flags, flags-mark, flags-none, Agrees}
+use Rattle.judge_missing.proofs.LackMeaning.{set-lack, open-is}
+use Rattle.judge_line.specs.Steps.{rowOf, repeatedNo, placeNo, labelNo, versionNo, contentNo, lineNo, nextFlagged, staysIn, lackThen}
 
 -- a number as a refusal of the line at `at` with label l; 0 is none
 abbrev numbered : ℕ → ℕ → ℕ → Refusal
@@ -55,19 +55,19 @@ abbrev roleBy : Bool → Bool → Row → Role
 roleBy a b r = cond a (atSetLevel r) (cond b (member r) strayed)
 
 abbrev labelNoBy : Bool → Bool → Bool → Bool → Bool → ℕ
-labelNoBy a b m t i = cond a (againNo m t) (cond b (againNo m i) stray)
+labelNoBy a b m t i = cond a (repeatedNo m t) (cond b (repeatedNo m i) stray)
 
-again-is : (pl : ℕ → Spot → ℕ) (m t : Bool) (k l at : ℕ) → at ≡ pl k start → firstOf pl (ask (m || not t) (atLine repeated k l)) ≡ numbered (againNo m t) at l
-unfolding againNo
-again-is pl true t k l at e = refl
-again-is pl false true k l at e = ap (λ (p : ℕ). refusal repeated p l) (sym e)
-again-is pl false false k l at e = refl
+repeated-is : (pl : ℕ → Spot → ℕ) (m t : Bool) (k l at : ℕ) → at ≡ pl k start → firstOf pl (ask (m || not t) (atLine repeated k l)) ≡ numbered (repeatedNo m t) at l
+unfolding repeatedNo
+repeated-is pl true t k l at e = refl
+repeated-is pl false true k l at e = ap (λ (p : ℕ). refusal repeated p l) (sym e)
+repeated-is pl false false k l at e = refl
 
 label-is : (pl : ℕ → Spot → ℕ) (a b : Bool) (r : Row) (ms : G.State) (k l at : ℕ) (t i : Bool) → at ≡ pl k start → t ≡ elem (r .label) (ms .top) → i ≡ elem (r .label) (ms .members)
     → firstOf pl (labelFaults (roleBy a b r) ms k l) ≡ numbered (labelNoBy a b (r .many) t i) at l
 unfolding labelFaults
-label-is pl true b r ms k l at t i e p q = rw (← p) (again-is pl (r .many) t k l at e)
-label-is pl false true r ms k l at t i e p q = rw (← q) (again-is pl (r .many) i k l at e)
+label-is pl true b r ms k l at t i e p q = rw (← p) (repeated-is pl (r .many) t k l at e)
+label-is pl false true r ms k l at t i e p q = rw (← q) (repeated-is pl (r .many) i k l at e)
 label-is pl false false r ms k l at t i e p q = ap (λ (x : ℕ). refusal stray x l) (sym e)
 
 content-is : (pl : ℕ → Spot → ℕ) (p : Profile) (k at : ℕ) (f : Field) → at ≡ pl k start → firstOf pl (contentFaults p k f) ≡ numbered (contentNo (f .label) (f .content)) at (f .label)
@@ -91,10 +91,10 @@ rules-by false false r p ms k f = refl
 
 -- ---- one line, by what the table has for it
 
--- what a line's number, next state and staying tell, where the states say the same
-record LineSame (pl : ℕ → Spot → ℕ) (o : Role) (p : Profile) (st : State) (ms : G.State) (k at : ℕ) (f : Field) (found : Found) : Type 0 where
+-- what a line's number, next state and staying are, if the states agree
+record LineAgrees (pl : ℕ → Spot → ℕ) (o : Role) (p : Profile) (st : Flagged) (ms : G.State) (k at : ℕ) (f : Field) (found : Found) : Type 0 where
   number-so : numbered (lineNo found st (f .label) (f .content)) at (f .label) ≡ firstOf pl (lineRules o p ms k f)
-  state-so : lineNo found st (f .label) (f .content) ≡ 0 → Same pl (nextState found st at (f .label)) (next o ms k (f .label))
+  state-so : lineNo found st (f .label) (f .content) ≡ 0 → Agrees pl (nextFlagged found st at (f .label)) (next o ms k (f .label))
   stays-so : lineNo found st (f .label) (f .content) ≡ 0 → staysIn found ≡ stays o
 
 -- a line that is not refused has its label in place
@@ -105,8 +105,8 @@ placed a b at = go (eqb a 0) refl
     go true e q = eqb-true a 0 e
     go false e q = q
 
-module _ (pl : ℕ → Spot → ℕ) (st : State) (ms : G.State) (s : Same pl st ms) (k at : ℕ) (e : at ≡ pl k start) (p : Profile) (f : Field) where
-  unknown-line : LineSame pl unknown p st ms k at f Nothing
+module _ (pl : ℕ → Spot → ℕ) (st : Flagged) (ms : G.State) (s : Agrees pl st ms) (k at : ℕ) (e : at ≡ pl k start) (p : Profile) (f : Field) where
+  unknown-line : LineAgrees pl unknown p st ms k at f NoRow
   unfolding lineNo labelNo lineRules labelFaults contentRules
   unknown-line = record {
     number-so = ap (λ (x : ℕ). refusal notInSet x (f .label)) e;
@@ -122,11 +122,11 @@ module _ (pl : ℕ → Spot → ℕ) (st : State) (ms : G.State) (s : Same pl st
     marked-so : (on : List Bool) (ls : List ℕ) → Flags on ls → Flags (set on i true) (r .label ∷ ls)
     marked-so on ls fl = subst (λ (n : ℕ). Flags (set on n true) (r .label ∷ ls)) (sym q) (flags-mark on ls (r .label) fl (omega arith))
 
-    opened-same : Same pl (record { header = f .label; place = at; members = noFlags; top = set (st .top) i true }) (G.opened ms r k (f .label))
-    opened-same = record { header = refl; place = e; members = flags-none; top = marked-so (st .top) (ms .top) (s .top) }
+    opened-agrees : Agrees pl (record { header = f .label; place = at; members = noFlags; top = set (st .top) i true }) (G.opened ms r k (f .label))
+    opened-agrees = record { header = refl; place = e; members = flags-none; top = marked-so (st .top) (ms .top) (s .top) }
 
-    joined-same : Same pl (record { header = cond (isPairLabel (f .label)) noHeader (st .header); place = st .place; members = set (st .members) i true; top = st .top }) (G.joined ms r (f .label))
-    joined-same = record {
+    joined-agrees : Agrees pl (record { header = cond (isPairLabel (f .label)) noHeader (st .header); place = st .place; members = set (st .members) i true; top = st .top }) (G.joined ms r (f .label))
+    joined-agrees = record {
       header = ap (λ (h : ℕ). cond (isPairLabel (f .label)) noHeader h) (s .header);
       place = s .place;
       members = marked-so (st .members) (ms .members) (s .members);
@@ -134,12 +134,12 @@ module _ (pl : ℕ → Spot → ℕ) (st : State) (ms : G.State) (s : Same pl st
     }
 
     next-by : (a b : Bool) → labelNoBy a b (r .many) (getD (st .top) i false) (getD (st .members) i false) ≡ 0
-        → Same pl (cond a (record { header = f .label; place = at; members = noFlags; top = set (st .top) i true })
+        → Agrees pl (cond a (record { header = f .label; place = at; members = noFlags; top = set (st .top) i true })
         (record { header = cond (isPairLabel (f .label)) noHeader (st .header); place = st .place; members = set (st .members) i true; top = st .top }))
         (next (roleBy a b r) ms k (f .label))
     unfolding next
-    next-by true b z = opened-same
-    next-by false true z = joined-same
+    next-by true b z = opened-agrees
+    next-by false true z = joined-agrees
     next-by false false z = absurd (omega arith)
 
     stays-by : (a b : Bool) → labelNoBy a b (r .many) (getD (st .top) i false) (getD (st .members) i false) ≡ 0 → not a ≡ stays (roleBy a b r)
@@ -170,23 +170,23 @@ module _ (pl : ℕ → Spot → ℕ) (st : State) (ms : G.State) (s : Same pl st
     unfolding role roleOf
     role-so = ap (λ (h : ℕ). roleBy isTop (belongs r h (f .label)) r) (sym (s .header))
 
-    known-line : LineSame pl (role (some r) (ms .header) (f .label)) p st ms k at f (At i r)
-    unfolding lineNo labelNo placeNo nextState staysIn
+    known-line : LineAgrees pl (role (some r) (ms .header) (f .label)) p st ms k at f (At i r)
+    unfolding lineNo labelNo placeNo nextFlagged staysIn
     known-line = record {
       number-so = number-by ∙ ap (λ (o : Role). firstOf pl (lineRules o p ms k f)) (sym role-so);
-      state-so = λ z. subst (λ (o : Role). Same pl (nextState (At i r) st at (f .label)) (next o ms k (f .label)))
+      state-so = λ z. subst (λ (o : Role). Agrees pl (nextFlagged (At i r) st at (f .label)) (next o ms k (f .label)))
           (sym role-so) (next-by isTop isOurs (placed no (contentNo (f .label) (f .content)) at z));
       stays-so = λ z. stays-by isTop isOurs (placed no (contentNo (f .label) (f .content)) at z) ∙ ap stays (sym role-so);
     }
 
-  line-same : (settype : SetType) (found : Found) → rowOf settype (f .label) ≡ found → LineSame pl (role (find (table settype) (f .label)) (ms .header) (f .label)) p st ms k at f found
+  line-agrees : (settype : SetType) (found : Found) → rowOf settype (f .label) ≡ found → LineAgrees pl (role (find (table settype) (f .label)) (ms .header) (f .label)) p st ms k at f found
   unfolding role
-  line-same settype Nothing q =
+  line-agrees settype NoRow q =
       let w : find (table settype) (f .label) ≡ none = find-is (table settype) (f .label) ∙ ap justRow q in
-      subst (λ (o : Option Row). LineSame pl (role o (ms .header) (f .label)) p st ms k at f Nothing) (sym w) unknown-line
-  line-same settype (At i r) q =
+      subst (λ (o : Option Row). LineAgrees pl (role o (ms .header) (f .label)) p st ms k at f NoRow) (sym w) unknown-line
+  line-agrees settype (At i r) q =
       let w : find (table settype) (f .label) ≡ some r = find-is (table settype) (f .label) ∙ ap justRow q in
-      subst (λ (o : Option Row). LineSame pl (role o (ms .header) (f .label)) p st ms k at f (At i r)) (sym w)
+      subst (λ (o : Option Row). LineAgrees pl (role o (ms .header) (f .label)) p st ms k at f (At i r)) (sym w)
       (known-line i r (found-number (table settype) (rowLabel (f .label)) i r q) (row-below settype (rowLabel (f .label)) i r q))
 
 -- ---- one line more
@@ -197,13 +197,13 @@ module _ (settype : SetType) (pl : ℕ → Spot → ℕ) where
   profileOf = record { setType = Of settype }
 
   -- 11 to 15 of the lines fs, then 16: set level, then groups and pairs
-  abbrev pub whole : G.State → ℕ → List Field → Refusal → Refusal
-  whole ms k fs lack =
+  abbrev pub passFinds : G.State → ℕ → List Field → Refusal → Refusal
+  passFinds ms k fs lack =
       orElse (firstOf pl (rulesFrom profileOf ms k fs))
       (orElse (firstOf pl (lacking (table settype) setLevel 0 (among (after (table settype) ms k (labels fs) .top))))
       (orElse lack (firstOf pl (groupsLacking (table settype) ms k (labels fs)))))
 
-  lack-joins : (st : State) (ms : G.State) → Same pl st ms → (lack : Refusal) (b : Bool) (m : List Fault)
+  lack-joins : (st : Flagged) (ms : G.State) → Agrees pl st ms → (lack : Refusal) (b : Bool) (m : List Fault)
       → orElse (lackThen b settype st lack) (firstOf pl m) ≡ orElse lack (firstOf pl (cond b [] (openLacking (table settype) ms) ++ m))
   unfolding firstLack
   lack-joins st ms sm lack true m = refl
@@ -212,14 +212,14 @@ module _ (settype : SetType) (pl : ℕ → Spot → ℕ) where
       ∙ ap (orElse lack) (ap (λ (x : Refusal). orElse x (firstOf pl m)) (open-is settype pl st ms sm)
       ∙ sym (first-append pl (openLacking (table settype) ms) m (real-open (table settype) ms)))
 
-  -- one line more, where the rest is known
-  pass-step : (f : Field) (fs : List Field) (at k : ℕ) (st : State) (ms : G.State) (lack : Refusal) → Same pl st ms
-      → (found : Found) → LineSame pl (roleIn profileOf ms f) profileOf st ms k at f found
-      → (F : State → Refusal → Refusal)
-      → ((st′ : State) (ms′ : G.State) (lack′ : Refusal) → Same pl st′ ms′ → F st′ lack′ ≡ whole ms′ (k + 1) fs lack′)
-      → cond (eqb (lineNo found st (f .label) (f .content)) 0) (F (nextState found st at (f .label)) (lackThen (staysIn found) settype st lack))
+  -- one line more, if the rest is known
+  pass-step : (f : Field) (fs : List Field) (at k : ℕ) (st : Flagged) (ms : G.State) (lack : Refusal) → Agrees pl st ms
+      → (found : Found) → LineAgrees pl (roleIn profileOf ms f) profileOf st ms k at f found
+      → (F : Flagged → Refusal → Refusal)
+      → ((st′ : Flagged) (ms′ : G.State) (lack′ : Refusal) → Agrees pl st′ ms′ → F st′ lack′ ≡ passFinds ms′ (k + 1) fs lack′)
+      → cond (eqb (lineNo found st (f .label) (f .content)) 0) (F (nextFlagged found st at (f .label)) (lackThen (staysIn found) settype st lack))
       (refusal (lineNo found st (f .label) (f .content)) at (f .label))
-      ≡ whole ms k (f ∷ fs) lack
+      ≡ passFinds ms k (f ∷ fs) lack
   unfolding rulesFrom after groupsLacking
   pass-step f fs at k st ms lack sm found ls F ih = go (eqb no 0) refl
     where
@@ -250,13 +250,13 @@ module _ (settype : SetType) (pl : ℕ → Spot → ℕ) where
       rules : firstOf pl (lr ++ rest) ≡ orElse (numbered no at (f .label)) (firstOf pl rest)
       rules = first-append pl lr rest (real-line (roleIn profileOf ms f) profileOf ms k f) ∙ ap (λ (x : Refusal). orElse x (firstOf pl rest)) (sym (ls .number-so))
 
-      go : (b : Bool) → eqb no 0 ≡ b → cond b (F (nextState found st at (f .label)) (lackThen (staysIn found) settype st lack)) (refusal no at (f .label))
+      go : (b : Bool) → eqb no 0 ≡ b → cond b (F (nextFlagged found st at (f .label)) (lackThen (staysIn found) settype st lack)) (refusal no at (f .label))
           ≡ orElse (firstOf pl (lr ++ rest)) (orElse tops (orElse lack (firstOf pl (groups ++ more))))
       go true q =
           let z : no ≡ 0 = eqb-true no 0 q in
           let r : firstOf pl (lr ++ rest) ≡ firstOf pl rest =
           rules ∙ (ap (λ (x : Refusal). orElse x (firstOf pl rest)) (numbered-none no at (f .label) z) ∙ or-none (firstOf pl rest)) in
-          ih (nextState found st at (f .label)) then (lackThen (staysIn found) settype st lack) (ls .state-so z)
+          ih (nextFlagged found st at (f .label)) then (lackThen (staysIn found) settype st lack) (ls .state-so z)
           ∙ ap₂ (λ (x y : Refusal). orElse x (orElse tops y)) (sym r)
           (ap (λ (b : Bool). orElse (lackThen b settype st lack) (firstOf pl more)) (ls .stays-so z) ∙ lack-joins st ms sm lack (stays o) more)
       go false q =
@@ -266,18 +266,18 @@ module _ (settype : SetType) (pl : ℕ → Spot → ℕ) where
           sym (ap (λ (x : Refusal). orElse x (orElse tops (orElse lack (firstOf pl (groups ++ more))))) r ∙ or-bad (refusal no at (f .label)) _ z)
 
   -- the same, with the line's row looked up
-  pub pass-line : (f : Field) (fs : List Field) (at k : ℕ) (st : State) (ms : G.State) (lack : Refusal) → Same pl st ms → at ≡ pl k start
-      → (F : State → Refusal → Refusal)
-      → ((st′ : State) (ms′ : G.State) (lack′ : Refusal) → Same pl st′ ms′ → F st′ lack′ ≡ whole ms′ (k + 1) fs lack′)
+  pub pass-line : (f : Field) (fs : List Field) (at k : ℕ) (st : Flagged) (ms : G.State) (lack : Refusal) → Agrees pl st ms → at ≡ pl k start
+      → (F : Flagged → Refusal → Refusal)
+      → ((st′ : Flagged) (ms′ : G.State) (lack′ : Refusal) → Agrees pl st′ ms′ → F st′ lack′ ≡ passFinds ms′ (k + 1) fs lack′)
       → cond (eqb (lineNo (rowOf settype (f .label)) st (f .label) (f .content)) 0)
-      (F (nextState (rowOf settype (f .label)) st at (f .label)) (lackThen (staysIn (rowOf settype (f .label))) settype st lack))
+      (F (nextFlagged (rowOf settype (f .label)) st at (f .label)) (lackThen (staysIn (rowOf settype (f .label))) settype st lack))
       (refusal (lineNo (rowOf settype (f .label)) st (f .label) (f .content)) at (f .label))
-      ≡ whole ms k (f ∷ fs) lack
+      ≡ passFinds ms k (f ∷ fs) lack
   pass-line f fs at k st ms lack sm e F ih =
-      pass-step f fs at k st ms lack sm (rowOf settype (f .label)) (line-same pl st ms sm k at e profileOf f settype (rowOf settype (f .label)) refl) F ih
+      pass-step f fs at k st ms lack sm (rowOf settype (f .label)) (line-agrees pl st ms sm k at e profileOf f settype (rowOf settype (f .label)) refl) F ih
 
-  -- behind the last line
-  pub pass-finish : (k : ℕ) (st : State) (ms : G.State) (lack : Refusal) → 0 ≡ pl 0 start → Same pl st ms → finish settype st lack ≡ whole ms k [] lack
+  -- after the last line
+  pub pass-finish : (k : ℕ) (st : Flagged) (ms : G.State) (lack : Refusal) → 0 ≡ pl 0 start → Agrees pl st ms → finish settype st lack ≡ passFinds ms k [] lack
   unfolding finish setLack firstLack rulesFrom after groupsLacking
   pass-finish k st ms lack z sm =
       ap₂ orElse
@@ -288,9 +288,9 @@ module _ (settype : SetType) (pl : ℕ → Spot → ℕ) where
 -- ---- all lines of a set
 
 -- what the pass finds over all lines of a set
-pub whole-found : (settype : SetType) (pl : ℕ → Spot → ℕ) (fs : List Field) → whole settype pl first 0 fs noRefusal ≡ firstOf pl (faultsAfterStart (ofType settype) fs)
+pub pass-finds : (settype : SetType) (pl : ℕ → Spot → ℕ) (fs : List Field) → passFinds settype pl first 0 fs noRefusal ≡ firstOf pl (faultsAfterStart (ofType settype) fs)
 unfolding missingFaults
-whole-found settype pl fs =
+pass-finds settype pl fs =
     let p : Profile = ofType settype in
     let tops : List Fault = lacking (table settype) setLevel 0 (among (after (table settype) first 0 (labels fs) .top)) in
     let groups : List Fault = groupsLacking (table settype) first 0 (labels fs) in

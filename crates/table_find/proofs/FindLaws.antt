@@ -16,8 +16,8 @@ use Rattle.meaning.proofs.Bools.{and-left, and-right}
 use Rattle.meaning.proofs.RowLaws.{allRows}
 use Rattle.table_fields.proofs.Arms.{NoneOf, none-beside}
 use Rattle.table_fields.specs.LabelNumbers.{rowsBefore, labelNumber}
-use Rattle.table_find.specs.LookUp.{At, Nothing, findFrom, justRow}
-use Rattle.table_find.specs.Codes.{code}
+use Rattle.table_find.specs.LookUp.{At, NoRow, findFrom, justRow}
+use Rattle.table_find.specs.RowCodes.{code}
 
 -- ---- the look-up with the number is the meaning's, without it
 
@@ -43,13 +43,13 @@ plainLabels [] = []
 plainLabels (r ∷ rs) = let rest = plainLabels rs in cond (isPairLabel (r .label)) rest (r .label ∷ rest)
 
 -- a label that is none of these, no name and no odd label is not found
-find-plain : (A : Type 0) (rs : List Row) (l : ℕ) → isPairLabel l ≡ false → NoneOf A l (plainLabels rs) → findFrom rs l ≡ Nothing
+find-plain : (A : Type 0) (rs : List Row) (l : ℕ) → isPairLabel l ≡ false → NoneOf A l (plainLabels rs) → findFrom rs l ≡ NoRow
 unfolding findFrom plainLabels
 find-plain A [] l p h = refl
 find-plain A (r ∷ rs) l p h = go (λ B g. find-plain B rs l p g) (isPairLabel (r .label)) refl h
   where
-    go : ((B : Type 0) → NoneOf B l (plainLabels rs) → findFrom rs l ≡ Nothing) → (b : Bool) → isPairLabel (r .label) ≡ b
-        → NoneOf A l (cond b (plainLabels rs) (r .label ∷ plainLabels rs)) → cond (eqb l (r .label)) (At (labelNumber (r .label)) r) (findFrom rs l) ≡ Nothing
+    go : ((B : Type 0) → NoneOf B l (plainLabels rs) → findFrom rs l ≡ NoRow) → (b : Bool) → isPairLabel (r .label) ≡ b
+        → NoneOf A l (cond b (plainLabels rs) (r .label ∷ plainLabels rs)) → cond (eqb l (r .label)) (At (labelNumber (r .label)) r) (findFrom rs l) ≡ NoRow
     go rest true q g = rw (ne-eqb l (r .label) (λ e. true≢false (sym q ∙ (ap isPairLabel (sym e) ∙ p)))) (rest A g)
     go rest false q g =
         rw (ne-eqb l (r .label) (none-beside (A × (l ≡ r .label → ⊥)) l (plainLabels rs) g .1)) (rest (A × (l ≡ r .label → ⊥)) g)
@@ -69,10 +69,10 @@ row-odd l p n = let e : l % 2 ≡ 1 = omega arith in rw (p, e)
 
 -- the last arm of a `match` on these labels
 module _ (A : Type 0) (rs : List Row) (l : ℕ) (h : NoneOf A l (plainLabels rs)) where
-  plain : isPairLabel l ≡ false → findFrom rs (rowLabel l) ≡ Nothing
+  plain : isPairLabel l ≡ false → findFrom rs (rowLabel l) ≡ NoRow
   plain p = rw (row-plain l p) (find-plain A rs l p h)
 
-  -- where the table has names
+  -- if the table has names
   pub find-pairs : code (findFrom rs (rowLabel l)) ≡ cond (isPairLabel l) (code (findFrom rs (rowLabel l))) 0
   unfolding code
   find-pairs = go (isPairLabel l) refl
@@ -81,18 +81,18 @@ module _ (A : Type 0) (rs : List Row) (l : ℕ) (h : NoneOf A l (plainLabels rs)
       go true p = refl
       go false p = ap code (plain p)
 
-  -- where it has none
-  pub find-none : findFrom rs 6330 ≡ Nothing → findFrom rs 6331 ≡ Nothing → findFrom rs (rowLabel l) ≡ Nothing
+  -- if it has none
+  pub find-none : findFrom rs 6330 ≡ NoRow → findFrom rs 6331 ≡ NoRow → findFrom rs (rowLabel l) ≡ NoRow
   find-none even odd = go (isPairLabel l) refl (eqb (l % 2) 0) refl
     where
-      go : (b : Bool) → isPairLabel l ≡ b → (d : Bool) → eqb (l % 2) 0 ≡ d → findFrom rs (rowLabel l) ≡ Nothing
+      go : (b : Bool) → isPairLabel l ≡ b → (d : Bool) → eqb (l % 2) 0 ≡ d → findFrom rs (rowLabel l) ≡ NoRow
       go false p d q = plain p
       go true p true q = ap (λ (k : ℕ). findFrom rs k) (row-even l p (eqb-true (l % 2) 0 q)) ∙ even
       go true p false q = ap (λ (k : ℕ). findFrom rs k) (row-odd l p (eqb-false (l % 2) 0 q)) ∙ odd
 
 -- ---- a row that is found
 
--- what a search tells of the row that it finds
+-- what a search says of the row that it finds
 record Place (rs : List Row) (l i : ℕ) (r : Row) : Type 0 where
   is : r .label ≡ l
   number : i ≡ labelNumber (r .label)

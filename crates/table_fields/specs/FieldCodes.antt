@@ -1,5 +1,5 @@
 -- A row of the field table as one number, its code, so that a look-up answers a number and no record.
--- That a code gives back what was put in is said by proofs/CodeLaws.
+-- That a code gives back what was put in is said by proofs/FieldCodeLaws.
 use mathlib.Core.Bool.{cond}
 use Prim.Native.Nat.{ℕ, _+_, _*_, _/_, _%_}
 use lib.Dec.{eqb}

@@ -13,10 +13,10 @@ use Rattle.meaning.proofs.LeftLaws.{one-more, none-left}
 use Rattle.line_read.specs.declared.Line.{Line}
 use Rattle.line_read.specs.declared.Line.the-variants.{Read}
 use Rattle.line_read.specs.Line.{lineAt}
-use Rattle.line_read.proofs.Bridge.{read-back}
+use Rattle.line_read.proofs.LineMeaning.{read-back}
 use Rattle.line_scan.specs.declared.Scan.{Scan}
 use Rattle.line_scan.specs.declared.Scan.the-variants.{Done, Refused}
-use Rattle.line_scan.specs.Scan.{endsAt, after, scanFrom, scanSet, Stops}
+use Rattle.line_scan.specs.Scan.{endsAt, scanAfter, scanFrom, scanSet, Stops}
 
 -- two tests that hold at the same time are one
 pub test-same : (a b : Bool) → (a ≡ true → b ≡ true) → (b ≡ true → a ≡ true) → a ≡ b
@@ -24,7 +24,7 @@ test-same true b f g = sym (f refl)
 test-same false true f g = g refl
 test-same false false f g = refl
 
--- ---- the scan with n lines behind it: the set ends, a 513th line starts, the line is refused, the line is read
+-- ---- the scan with n lines before it: the set ends, a 513th line starts, the line is refused, the line is read
 
 module _ (s : List ℕ) (at n : ℕ) where
   pub scan-done : (k : ℕ) → endsAt s at ≡ true → scanFrom s at n k ≡ Done at n
@@ -48,7 +48,7 @@ module _ (s : List ℕ) (at n : ℕ) where
 -- ---- a scan that reads no more
 
 module _ (s : List ℕ) (at k : ℕ) where
-  -- where 512 lines are read
+  -- if 512 lines are read
   pub stops-full : maxLines ≤ k → Stops k (scanFrom s at k (maxLines - k))
   stops-full h = go (endsAt s at) refl
     where
@@ -56,7 +56,7 @@ module _ (s : List ℕ) (at k : ℕ) where
       go true e = subst (Stops k) (sym (scan-done s at k (maxLines - k) e)) refl
       go false e = subst (Stops k) (sym (scan-full s at k h e)) tt
 
-  -- where the line is refused, or the set ends before it
+  -- if the line is refused, or the set ends before it
   pub stops-unread : k < maxLines → {r : Refusal} → lineAt s at ≡ Line.Refused r → Stops k (scanFrom s at k (maxLines - k))
   stops-unread h q = go (endsAt s at) refl
     where
@@ -66,25 +66,25 @@ module _ (s : List ℕ) (at k : ℕ) where
 
 -- ---- the lines that a scan counts, if it is done
 
-abbrev pub Counts : ℕ → Scan → Type 0
-Counts n (Done total lines) = n ≤ lines
-Counts n (Refused r) = Unit
+abbrev pub CountsFrom : ℕ → Scan → Type 0
+CountsFrom n (Done total lines) = n ≤ lines
+CountsFrom n (Refused r) = Unit
 
 -- a scan counts on from the lines before it
-pub scan-counts : (s : List ℕ) (k at n : ℕ) → Counts n (scanFrom s at n k)
+pub scan-counts : (s : List ℕ) (k at n : ℕ) → CountsFrom n (scanFrom s at n k)
 unfolding scanFrom
 scan-counts s zero at n = go (endsAt s at)
   where
-    go : (b : Bool) → Counts n (cond b (Done at n) (Refused (refusal tooManyLines at 0)))
+    go : (b : Bool) → CountsFrom n (cond b (Done at n) (Refused (refusal tooManyLines at 0)))
     go true = omega arith
     go false = tt
 scan-counts s (suc k) at n = go (endsAt s at) (lineAt s at) (λ m. scan-counts s k (at + m) (n + 1))
   where
-    fewer : (x : Scan) → Counts (n + 1) x → Counts n x
+    fewer : (x : Scan) → CountsFrom (n + 1) x → CountsFrom n x
     fewer (Done total lines) h = omega arith
     fewer (Refused r) h = tt
 
-    go : (b : Bool) (l : Line) → ((m : ℕ) → Counts (n + 1) (scanFrom s (at + m) (n + 1) k)) → Counts n (cond b (Done at n) (after l (λ m. scanFrom s (at + m) (n + 1) k)))
+    go : (b : Bool) (l : Line) → ((m : ℕ) → CountsFrom (n + 1) (scanFrom s (at + m) (n + 1) k)) → CountsFrom n (cond b (Done at n) (scanAfter l (λ m. scanFrom s (at + m) (n + 1) k)))
     go true l h = omega arith
     go false (Read l m) h = fewer (scanFrom s (at + m) (n + 1) k) (h m)
     go false (Line.Refused r) h = tt

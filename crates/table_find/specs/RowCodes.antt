@@ -1,18 +1,18 @@
 -- What a look-up finds as one number, its code: the code answers the row's number, its header, whether it repeats, and what its content must be.
--- That a code gives back what was put in is said by proofs/CodeLaws.
+-- That a code gives back what was put in is said by proofs/RowCodeLaws.
 use mathlib.Core.Bool.{Bool, true, false}
 use Prim.Native.Nat.{ℕ, _+_, _*_, _/_, _%_}
 use lib.Dec.{eqb}
 use Rattle.meaning.specs.FieldTable.{fieldTable, fieldRowIn}
-use Rattle.table_fields.specs.Codes.{fieldCode}
-use Rattle.table_find.specs.LookUp.{Found, At, Nothing}
+use Rattle.table_fields.specs.FieldCodes.{fieldCode}
+use Rattle.table_find.specs.LookUp.{Found, At, NoRow}
 
 -- every field's code is below this, every row's number below that
-abbrev pub fields : ℕ
-fields = 65536
+abbrev pub fieldCodes : ℕ
+fieldCodes = 65536
 
-abbrev pub numbers : ℕ
-numbers = 256
+abbrev pub labelNumbers : ℕ
+labelNumbers = 256
 
 -- occurrence 1 and n as numbers
 abbrev pub occurrence : Bool → ℕ
@@ -24,22 +24,22 @@ occurrences = 2
 
 -- the code of a row, of its number, its header, its occurrence and the code of its field
 abbrev pub rowCode : ℕ → ℕ → ℕ → ℕ → ℕ
-rowCode number under many field = field + fields * (number + numbers * (many + occurrences * under))
+rowCode number under many field = field + fieldCodes * (number + labelNumbers * (many + occurrences * under))
 
 -- the code of what is found, 0 for nothing
 unfoldable pub code : Found → ℕ
-code Nothing = 0
+code NoRow = 0
 code (At i r) = rowCode i (r .under) (occurrence (r .many)) (fieldCode (fieldRowIn fieldTable (r .label)))
 
 -- the parts of a code
 abbrev pub fieldIn : ℕ → ℕ
-fieldIn c = c % fields
+fieldIn c = c % fieldCodes
 
 abbrev pub numberIn : ℕ → ℕ
-numberIn c = c / fields % numbers
+numberIn c = c / fieldCodes % labelNumbers
 
 abbrev pub manyIn : ℕ → Bool
-manyIn c = eqb (c / (fields * numbers) % occurrences) 1
+manyIn c = eqb (c / (fieldCodes * labelNumbers) % occurrences) 1
 
 abbrev pub underIn : ℕ → ℕ
-underIn c = c / (fields * numbers * occurrences)
+underIn c = c / (fieldCodes * labelNumbers * occurrences)

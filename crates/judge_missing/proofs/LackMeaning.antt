@@ -18,8 +18,8 @@ use Rattle.meaning.specs.Answers.{noRefusal}
 use Rattle.meaning.specs.Groups as G
 use Rattle.meaning.specs.Groups.{noHeader}
 use Rattle.meaning.proofs.Bools.{and-left, and-right}
-use Rattle.judge_missing.specs.Lacks.{lacks, lackHere, valued, lack8437, lack8410, lack6302, lackName, lackUnder, groupLack, lackAll, requiredLabels, State, seen, openLack}
-use Rattle.judge_missing.proofs.FlagLaws.{Same}
+use Rattle.judge_missing.specs.Lacks.{lacks, lackHere, valued, lack8437, lack8410, lack6302, lackName, lackUnder, groupLack, lackAll, requiredLabels, Flagged, seen, openLack}
+use Rattle.judge_missing.proofs.FlagLaws.{Agrees}
 use Rattle.meaning.proofs.FirstLaws.{firstOf, first-rule}
 
 -- ---- set level
@@ -199,7 +199,7 @@ module _ (has : ℕ → Bool) (pl : ℕ → Spot → ℕ) (h k place : ℕ) (e :
 
 -- ---- the open group, and all groups
 
-pub open-is : (settype : SetType) (pl : ℕ → Spot → ℕ) (st : State) (ms : G.State) → Same pl st ms
+pub open-is : (settype : SetType) (pl : ℕ → Spot → ℕ) (st : Flagged) (ms : G.State) → Agrees pl st ms
     → openLack settype (st .header) (st .place) (st .members) ≡ firstOf pl (openLacking (table settype) ms)
 unfolding openLack openLacking
 open-is settype pl st ms s =

@@ -15,7 +15,7 @@ use Rattle.meaning.proofs.Bools.{and-right, byte-then}
 use Rattle.meaning.proofs.LeftLaws.{one-more, none-left}
 use Rattle.line_read.specs.declared.Number.the-variants.{Is, None}
 use Rattle.line_read.specs.declared.Line.{Line}
-use Rattle.line_read.specs.Number.{numberFrom, numberAt, mostDigits}
+use Rattle.line_read.specs.Number.{numberAfter, numberAt, mostDigits}
 use Rattle.line_read.specs.Line.{must, sizedLine}
 
 -- what a branch of the code knows, as the tests of the walks have it
@@ -27,13 +27,13 @@ pub ruleset tests = (le-leb, lt-leb, eq-eqb, ne-eqb)
 pub digits-small : {n j : ℕ} → j ≤ 8 → n < 10 ^ j → n < 100000000
 digits-small h b = lt-of-lt-of-le b (pow-le-pow-right (lit< tt) h)
 
--- a number of so many digits has one digit more behind the next one
+-- a number has one digit more after the next one
 pub digits-grow : {n d at i : ℕ} → at ≤ i → n < 10 ^ (i - at) → d ≤ 9 → n * 10 + d < 10 ^ (i + 1 - at)
 digits-grow {n} {d} {at} {i} h b g =
     let q : i + 1 - at ≡ suc (i - at) = omega arith in
     rw (q, pow-suc) (omega arith)
 
--- ---- a number: no number where the bytes are too many or not all there, else their digits
+-- ---- a number: no number if the bytes are too many or not all there, else their digits
 
 module _ (s : List ℕ) (at k : ℕ) where
   pub number-long : mostDigits < k → numberAt s at k ≡ None
@@ -44,7 +44,7 @@ module _ (s : List ℕ) (at k : ℕ) where
   unfolding numberAt
   number-cut g h = search tests
 
-  pub number-there : k ≤ mostDigits → at + k ≤ length s → numberAt s at k ≡ numberFrom s 0 at k
+  pub number-there : k ≤ mostDigits → at + k ≤ length s → numberAt s at k ≡ numberAfter s 0 at k
   unfolding numberAt
   number-there g h = search tests
 
@@ -53,30 +53,30 @@ module _ (s : List ℕ) (at k : ℕ) where
   unfolding numberAt
   number-within {n} e = go (leb k mostDigits && leb (at + k) (length s)) refl e
     where
-      go : (b : Bool) → leb k mostDigits && leb (at + k) (length s) ≡ b → cond b (numberFrom s 0 at k) None ≡ Is n → at + k ≤ length s
+      go : (b : Bool) → leb k mostDigits && leb (at + k) (length s) ≡ b → cond b (numberAfter s 0 at k) None ≡ Is n → at + k ≤ length s
       go true q h = leb-true (at + k) (length s) (and-right (leb k mostDigits) _ q)
       go false q h = let z : _≡_ {A = ℕ} 0 1 = cc in absurd (omega arith)
 
--- its digits, one byte more; where no byte is left
+-- its digits, one byte more; no byte left
 module _ (s : List ℕ) (n i e : ℕ) (h : i < e) where
-  pub digit-below : getD s i 0 < digitZero → numberFrom s n i (e - i) ≡ None
-  unfolding numberFrom
+  pub digit-below : getD s i 0 < digitZero → numberAfter s n i (e - i) ≡ None
+  unfolding numberAfter
   digit-below b = rw (one-more h) (search tests)
 
-  pub digit-above : digitZero ≤ getD s i 0 → digitNine < getD s i 0 → numberFrom s n i (e - i) ≡ None
-  unfolding numberFrom
+  pub digit-above : digitZero ≤ getD s i 0 → digitNine < getD s i 0 → numberAfter s n i (e - i) ≡ None
+  unfolding numberAfter
   digit-above a b = rw (one-more h) (search tests)
 
   pub digit-further : digitZero ≤ getD s i 0 → getD s i 0 ≤ digitNine
-      → numberFrom s n i (e - i) ≡ numberFrom s (n * 10 + (getD s i 0 - digitZero)) (i + 1) (e - (i + 1))
-  unfolding numberFrom
+      → numberAfter s n i (e - i) ≡ numberAfter s (n * 10 + (getD s i 0 - digitZero)) (i + 1) (e - (i + 1))
+  unfolding numberAfter
   digit-further a b = rw (one-more h) (search tests)
 
-pub digits-end : (s : List ℕ) (n i e : ℕ) → e ≤ i → numberFrom s n i (e - i) ≡ Is n
-unfolding numberFrom
+pub digits-end : (s : List ℕ) (n i e : ℕ) → e ≤ i → numberAfter s n i (e - i) ≡ Is n
+unfolding numberAfter
 digits-end s n i e h = rw (none-left h)
 
--- whether they are digits, one byte more, which is one if it is among them; where no byte is left
+-- whether they are digits, one byte more, which is one if it is among them; no byte left
 module _ (s : List ℕ) (at i k : ℕ) where
   pub digits-further : at + k ≤ length s → (i < k → digit (getD s (at + i) 0) ≡ true)
       → allDigits (take (k - (i + 1)) (drop (at + (i + 1)) s)) ≡ allDigits (take (k - i) (drop (at + i) s))

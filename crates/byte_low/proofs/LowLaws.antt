@@ -12,7 +12,7 @@ use Rattle.meaning.specs.Lines.{leastByte}
 use Rattle.meaning.proofs.LeftLaws.{one-more, none-left}
 use Rattle.byte_low.specs.Low.{firstLow}
 
--- ---- the first byte under 20h, one byte more; where no byte is left
+-- ---- the first byte under 20h, one byte more; no byte left
 
 module _ (s : List ℕ) (i e : ℕ) (h : i < e) where
   pub low-here : getD s i 0 < leastByte → firstLow s i (e - i) ≡ i
@@ -54,16 +54,16 @@ module _ (s : List ℕ) where
       let n : at + suc k ≡ at + 1 + k = omega arith in
       (rw (low-first k at e) at e) ∙ n
 
-  -- it goes on behind j bytes that it passes over
-  low-behind : (j k at : ℕ) → firstLow s at j ≡ at + j → firstLow s at (j + k) ≡ firstLow s (at + j) k
+  -- it goes on after j bytes that it passes over
+  low-after : (j k at : ℕ) → firstLow s at j ≡ at + j → firstLow s at (j + k) ≡ firstLow s (at + j) k
   unfolding firstLow
-  low-behind zero k at e = rw (zero-add k, add-zero at)
-  low-behind (suc j) k at e =
+  low-after zero k at e = rw (zero-add k, add-zero at)
+  low-after (suc j) k at e =
       let n : suc j + k ≡ suc (j + k) = omega arith in
       let m : at + suc j ≡ at + 1 + j = omega arith in
-      rw (n, m, low-first j at e) (low-behind j k (at + 1) (low-others j at e))
+      rw (n, m, low-first j at e) (low-after j k (at + 1) (low-others j at e))
 
-  -- it passes over the last of some bytes where it passes over all
+  -- it passes over the last of some bytes if it passes over all
   low-last : (j k at : ℕ) → firstLow s at (j + k) ≡ at + (j + k) → firstLow s (at + j) k ≡ at + (j + k)
   low-last zero k at e = rw (add-zero at, zero-add k) (rw (zero-add k) at e)
   low-last (suc j) k at e =
@@ -72,11 +72,11 @@ module _ (s : List ℕ) where
       let z : at + suc (j + k) ≡ at + 1 + (j + k) = omega arith in
       rw (n, m, z) (low-last j k (at + 1) (low-others (j + k) at (rw n at e)))
 
-  -- a block that it passes over: it goes on behind the block
+  -- a block that it passes over: it goes on after the block
   pub low-on : (b i e : ℕ) → i + b ≤ e → firstLow s i b ≡ i + b → firstLow s i (e - i) ≡ firstLow s (i + b) (e - (i + b))
   low-on b i e h q =
       let n : e - i ≡ b + (e - (i + b)) = omega arith in
-      rw n (low-behind b (e - (i + b)) i q)
+      rw n (low-after b (e - (i + b)) i q)
 
   -- the last block, which it passes over: it passes over the bytes in it
   pub low-tail : (b i e : ℕ) → b ≤ e → e ≤ i + b → i ≤ e → firstLow s (e - b) b ≡ e - b + b → firstLow s i (e - i) ≡ e

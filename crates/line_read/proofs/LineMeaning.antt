@@ -1,4 +1,4 @@
--- What the walks mean: over an offset they are the definitions of `meaning` over the bytes from there on. Then what a line that was read tells.
+-- What the walks mean: over an offset they are the definitions of `meaning` over the bytes from there on. Then what a line says that was read.
 use mathlib.Core.Path.{_≡_, refl, sym, ap, _∙_}
 use mathlib.Core.Bool.{Bool, true, false, cond, _&&_}
 use mathlib.Core.List.{List, [], _∷_, _++_}
@@ -22,12 +22,12 @@ use Rattle.line_read.specs.declared.Number.{Number}
 use Rattle.line_read.specs.declared.Number.the-variants.{Is, None}
 use Rattle.line_read.specs.declared.Line.{Line}
 use Rattle.line_read.specs.declared.Line.the-variants.{Read, Refused}
-use Rattle.line_read.specs.Number.{numberFrom, numberAt, mostDigits}
-use Rattle.line_read.specs.Line.{must, mustRead, labelledLine, sizedLine, lineAt, contentOf}
+use Rattle.line_read.specs.Number.{numberAfter, numberAt, mostDigits}
+use Rattle.line_read.specs.Line.{must, mustRead, labelledLine, sizedLine, lineAt, lineContent}
 
 -- ---- numbers
 
--- the number where the test holds
+-- the number if the test holds
 abbrev pub asNumber : Bool → ℕ → Number
 asNumber true n = Is n
 asNumber false n = None
@@ -37,21 +37,21 @@ digit-then true r c n e = e
 digit-then false r c n e = refl
 
 digits-are : (s : List ℕ) (k at n : ℕ) → at + k ≤ length s
-    → numberFrom s n at k ≡ asNumber (allDigits (take k (drop at s))) (D.numberFrom n (take k (drop at s)))
-unfolding numberFrom
+    → numberAfter s n at k ≡ asNumber (allDigits (take k (drop at s))) (D.numberFrom n (take k (drop at s)))
+unfolding numberAfter
 digits-are s zero at n h = refl
 digits-are s (suc k) at n h =
     let ih = digits-are s k (at + 1) (n * 10 + (getD s at 0 - digitZero)) (omega arith) in
     rw (byte-then s at (omega arith)) (digit-then (digit (getD s at 0)) _ (allDigits (take k (drop (at + 1) s))) _ ih)
 
--- A number is read where k bytes remain and all of them are digits.
+-- A number is read if k bytes remain and all of them are digits.
 pub number-is : (s : List ℕ) (at k : ℕ) → 1 ≤ k → k ≤ mostDigits
     → numberAt s at k ≡ asNumber (leb k (length (drop at s)) && allDigits (take k (drop at s))) (number (take k (drop at s)))
 unfolding numberAt
 number-is s at k l h = rw (le-leb k mostDigits h) (go (leb (at + k) (length s)) refl)
   where
     go : (b : Bool) → leb (at + k) (length s) ≡ b
-        → cond b (numberFrom s 0 at k) None ≡ asNumber (leb k (length (drop at s)) && allDigits (take k (drop at s))) (number (take k (drop at s)))
+        → cond b (numberAfter s 0 at k) None ≡ asNumber (leb k (length (drop at s)) && allDigits (take k (drop at s))) (number (take k (drop at s)))
     go true e =
         let a : at + k ≤ length s = leb-true (at + k) (length s) e in
         rw (le-leb k (length (drop at s)) (omega (arith, length-drop at s))) (digits-are s k at 0 a)
@@ -62,13 +62,13 @@ number-is s at k l h = rw (le-leb k mostDigits h) (go (leb (at + k) (length s)) 
 -- ---- one line
 
 -- the line at an offset whose bytes have these faults: "the first fault in this order is the answer" (the label of a line's fault is 0)
-abbrev pub judgedLine : ℕ → List Fault → Line → Line
-judgedLine at [] l = l
-judgedLine at (x ∷ xs) l = Refused (refusal (x .no) (at + behind lineLead (x .spot)) (x .label))
+abbrev pub lineByFaults : ℕ → List Fault → Line → Line
+lineByFaults at [] l = l
+lineByFaults at (x ∷ xs) l = Refused (refusal (x .no) (at + behind lineLead (x .spot)) (x .label))
 
--- a rule of the walk is a rule of the meaning where both test the same, and where both go on alike if the test holds
-rule-is : (a b : Bool) (n at : ℕ) (l m : Line) (xs : List Fault) → a ≡ b → (b ≡ true → l ≡ judgedLine at xs m)
-    → must a n at l ≡ judgedLine at (ask b (atLine n 0 0) ++ xs) m
+-- a rule of the walk is a rule of the meaning if both test the same, and both go on alike once the test holds
+rule-is : (a b : Bool) (n at : ℕ) (l m : Line) (xs : List Fault) → a ≡ b → (b ≡ true → l ≡ lineByFaults at xs m)
+    → must a n at l ≡ lineByFaults at (ask b (atLine n 0 0) ++ xs) m
 unfolding must
 rule-is a true n at l m xs e h = rw e (h refl)
 rule-is a false n at l m xs e h = rw (e, add-zero at)
@@ -84,9 +84,9 @@ must-and true true c n at l = refl
 must-and true false c n at l = refl
 must-and false b c n at l = refl
 
--- the first byte under 20h of a part of a content is the first fault of that part, which stands at offset a, behind i bytes of the content
+-- the first byte under 20h of a part of a content is the first fault of that part, which stands at offset a, after i bytes of the content
 low-is : (s : List ℕ) (k a at i : ℕ) (l : Line) → a ≡ at + (lineLead + i) → a + k ≤ length s
-    → must (leb (a + k) (firstLow s a k)) badByte (firstLow s a k) l ≡ judgedLine at (lowBytes 0 i (take k (drop a s))) l
+    → must (leb (a + k) (firstLow s a k)) badByte (firstLow s a k) l ≡ lineByFaults at (lowBytes 0 i (take k (drop a s))) l
 unfolding firstLow must
 low-is s zero a at i l e h = rw (add-zero a, le-leb a a (omega arith))
 low-is s (suc k) a at i l e h =
@@ -99,14 +99,14 @@ low-is s (suc k) a at i l e h =
     rest : List Fault
     rest = lowBytes 0 (suc i) (take k (drop (a + 1) s))
 
-    go : (b : Bool) → must (leb ((a + 1) + k) low) badByte low l ≡ judgedLine at rest l
-        → must (leb ((a + 1) + k) (cond b low a)) badByte (cond b low a) l ≡ judgedLine at (ask b (atByte badByte 0 i) ++ rest) l
+    go : (b : Bool) → must (leb ((a + 1) + k) low) badByte low l ≡ lineByFaults at rest l
+        → must (leb ((a + 1) + k) (cond b low a)) badByte (cond b low a) l ≡ lineByFaults at (ask b (atByte badByte 0 i) ++ rest) l
     go true ih = ih
     go false ih = rw (lt-leb ((a + 1) + k) a (omega arith), e)
 
 module _ (s : List ℕ) (at : ℕ) where
   content-is : (n label : ℕ) → minLineBytes ≤ n → at + n ≤ length s
-      → labelledLine s at n label ≡ judgedLine at (lowBytes 0 0 (take (n - (lineLead + lineEnd)) (drop lineLead (drop at s)))) (Read label n)
+      → labelledLine s at n label ≡ lineByFaults at (lowBytes 0 0 (take (n - (lineLead + lineEnd)) (drop lineLead (drop at s)))) (Read label n)
   unfolding labelledLine
   content-is n label h g =
       rw (drop-drop lineLead at s) (low-is s (n - (lineLead + lineEnd)) (at + lineLead) at 0 (Read label n) refl (omega arith))
@@ -118,9 +118,9 @@ module _ (s : List ℕ) (at : ℕ) where
       rw (number-is s (at + lengthDigits) labelDigits (omega arith) (omega arith), ← drop-drop lengthDigits at s)
       (rw (le-leb labelDigits (length (drop lengthDigits d)) (omega (arith, length-drop lengthDigits d))) (must-number (labelOk d) (labelAt d) n at f))
 
-  -- The line at an offset: its label and size where the bytes from there on have no fault, else the refusal of their first fault. The walk's rules are
+  -- The line at an offset: its label and size if the bytes from there on have no fault, else the refusal of their first fault. The walk's rules are
   -- those of `lineFaults` one by one; the last two rest on what the length and the whole line have shown.
-  pub line-is : lineAt s at ≡ judgedLine at (lineFaults (drop at s)) (Read (labelAt (drop at s)) (sizeAt (drop at s)))
+  pub line-is : lineAt s at ≡ lineByFaults at (lineFaults (drop at s)) (Read (labelAt (drop at s)) (sizeAt (drop at s)))
   unfolding lineAt sizedLine lineFaults
   line-is =
       let d : List ℕ = drop at s in
@@ -138,7 +138,7 @@ module _ (s : List ℕ) (at : ℕ) where
 
 -- ---- a line that was read, and a line that was written
 
--- what a line that was read at an offset tells of the bytes there
+-- what a line that was read at an offset says of the bytes there
 pub record ReadAt (s : List ℕ) (at label size : ℕ) : Type 0 where
   pub no-fault : lineFaults (drop at s) ≡ []
   pub label-so : label ≡ labelAt (drop at s)
@@ -154,7 +154,7 @@ read-back s at {label} {size} e = go (lineFaults (drop at s)) refl (sym (line-is
     d : List ℕ
     d = drop at s
 
-    go : (xs : List Fault) → lineFaults d ≡ xs → judgedLine at xs (Read (labelAt d) (sizeAt d)) ≡ Read label size → ReadAt s at label size
+    go : (xs : List Fault) → lineFaults d ≡ xs → lineByFaults at xs (Read (labelAt d) (sizeAt d)) ≡ Read label size → ReadAt s at label size
     go [] q h =
         let w = whole d q in
         let l : label ≡ labelAt d = cc in
@@ -186,7 +186,7 @@ read-line s at f t e h = line-is s at ∙ rw (e, faults-line f t h, label-line f
 
 -- a line that was written at an offset: its content, and what follows it
 module _ (s : List ℕ) (at : ℕ) (f : Field) (u : List ℕ) (h : Sound f) (w : drop at s ≡ lineThen f u) where
-  pub reads-content : contentOf s at (lineSize f) ≡ f .content
+  pub reads-content : lineContent s at (lineSize f) ≡ f .content
   reads-content =
       ap (take (lineSize f - 9)) (sym (drop-drop 7 at s) ∙ ap (drop 7) w)
       ∙ (ap (λ (m : ℕ). take (m - 9) (drop 7 (lineThen f u))) (sym (size-line f u h)) ∙ content-line f u h)

@@ -11,21 +11,21 @@ use Rattle.meaning.specs.declared.Kind.{Kind}
 use Rattle.meaning.specs.declared.Kind.the-variants.{Alnum, Num, Float, Rule020, Rule008, Rule090, Rule112, Rule116, Charset, Version}
 use Rattle.meaning.specs.FieldTable.{fieldTable, fieldRowIn, noRow}
 use Rattle.meaning.proofs.Bools.{and-left, and-right}
-use Rattle.table_fields.specs.Codes.{leasts, mosts, kindNumber, kindOf, fieldCode, leastIn, mostIn, kindIn}
+use Rattle.table_fields.specs.FieldCodes.{leasts, mosts, kindNumber, kindOf, fieldCode, leastIn, mostIn, kindIn}
 use Rattle.table_fields.proofs.Arms.{NoneOf, none-beside}
 
 -- ---- a label that has no row
 
 -- the labels of field rows
-abbrev pub labelsOf : List FieldRow → List ℕ
-labelsOf xs = map (λ (x : FieldRow). x .label) xs
+abbrev pub fieldLabels : List FieldRow → List ℕ
+fieldLabels xs = map (λ (x : FieldRow). x .label) xs
 
 -- a label that is none of a table's has no row there
-pub field-none : (A : Type 0) (xs : List FieldRow) (l : ℕ) → NoneOf A l (labelsOf xs) → fieldRowIn xs l ≡ noRow
+pub field-none : (A : Type 0) (xs : List FieldRow) (l : ℕ) → NoneOf A l (fieldLabels xs) → fieldRowIn xs l ≡ noRow
 unfolding fieldRowIn
 field-none A [] l h = refl
 field-none A (x ∷ xs) l h =
-    rw (ne-eqb l (x .label) (none-beside (A × (l ≡ x .label → ⊥)) l (labelsOf xs) h .1)) (field-none (A × (l ≡ x .label → ⊥)) xs l h)
+    rw (ne-eqb l (x .label) (none-beside (A × (l ≡ x .label → ⊥)) l (fieldLabels xs) h .1)) (field-none (A × (l ≡ x .label → ⊥)) xs l h)
 
 -- ---- every row is small
 
