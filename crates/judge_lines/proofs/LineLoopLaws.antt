@@ -27,22 +27,27 @@ use Rattle.judge_missing.specs.Lacks.{Flagged, noFlags, noneSeen, finish, flagg
 use Rattle.judge_line.specs.declared.Step.{Step}
 use Rattle.judge_line.specs.Steps.{rowOf, Stepped}
 use Rattle.judge_line.proofs.StartRows.{startGroup, startTop, start-step}
-use Rattle.judge_lines.specs.Pass.{passFrom, firstUnread, scanUnless, NextAt, finishedScan, passed}
+use Rattle.judge_lines.specs.declared.LineOrEnd.{LineOrEnd}
+use Rattle.judge_lines.specs.Pass.{passFrom, firstUnread, scanUnless, StandsAt, finishedScan, passed}
 use Rattle.judge_lines.proofs.PassLaws.{pass-bad, pass-on}
 
--- ---- the next line
+-- ---- what stands at a line start
 
 module _ (s : List ℕ) (at k : ℕ) where
-  -- if the line is read: another set starts, or it is one more line
-  pub next-read : k < maxLines → {l n : ℕ} → lineAt s at ≡ Read l n → NextAt s at k l n
-  next-read h q = record { line-read = λ z. (h, q); scan-stops = λ z. subst (Stops k) (sym (scan-done s at k (maxLines - k) (ends-read s at q ∙ eq-eqb _ 8000 z))) refl }
+  -- no line of this set: 512 lines are read, the line is refused, or it starts another set
+  pub end-full : maxLines ≤ k → StandsAt s at k LineOrEnd.End
+  end-full h = stops-full s at k h
 
-  -- no line of this set
-  pub next-full : maxLines ≤ k → (n : ℕ) → NextAt s at k 8000 n
-  next-full h n = record { line-read = λ z. absurd (z refl); scan-stops = λ z. stops-full s at k h }
+  module _ (h : k < maxLines) where
+    pub end-unread : {r : Refusal} → lineAt s at ≡ Line.Refused r → StandsAt s at k LineOrEnd.End
+    end-unread q = stops-unread s at k h q
 
-  pub next-unread : k < maxLines → {r : Refusal} → lineAt s at ≡ Line.Refused r → (n : ℕ) → NextAt s at k 8000 n
-  next-unread h q n = record { line-read = λ z. absurd (z refl); scan-stops = λ z. stops-unread s at k h q }
+    pub end-start : {l n : ℕ} → lineAt s at ≡ Read l n → l ≡ 8000 → StandsAt s at k LineOrEnd.End
+    end-start q z = subst (Stops k) (sym (scan-done s at k (maxLines - k) (ends-read s at q ∙ eq-eqb _ 8000 z))) refl
+
+    -- one more line
+    pub line-next : {l n : ℕ} → lineAt s at ≡ Read l n → (l ≡ 8000 → ⊥) → StandsAt s at k (LineOrEnd.Line l n)
+    line-next q z = (h, q, z)
 
 -- ---- at a line start: the scan from here on is the scan of the set, and the pass from here on is the pass over the set
 
@@ -66,23 +71,26 @@ along-start s settype at q t {lack} e {top} f = rw (e, f) (record {
       ∙ ap (λ (x : ℕ). passFrom s settype x (flaggedOf startGroup noFlags startTop) noRefusal m) (zero-add at)));
 })
 
-module _ {s : List ℕ} {settype : SetType} {at k : ℕ} {st : Flagged} {lack : Refusal} (a : Along s settype at k st lack) {l n : ℕ} (h : NextAt s at k l n) where
+module _ {s : List ℕ} {settype : SetType} {at k : ℕ} {st : Flagged} {lack : Refusal} (a : Along s settype at k st lack) {x : LineOrEnd} (h : StandsAt s at k x) where
   -- no line of the set is left
-  pub along-end : l ≡ 8000 → finishedScan (finish settype st lack) (scanFrom s at k (maxLines - k)) ≡ passed s settype (scanSet s)
+  pub along-end : x ≡ LineOrEnd.End → finishedScan (finish settype st lack) (scanFrom s at k (maxLines - k)) ≡ passed s settype (scanSet s)
   unfolding passFrom
-  along-end z = go (scanFrom s at k (maxLines - k)) (h .scan-stops z) ∙ ap (passed s settype) (a .scan-so)
+  along-end e = go (scanFrom s at k (maxLines - k)) (subst (StandsAt s at k) e h) ∙ ap (passed s settype) (a .scan-so)
     where
       go : (x : Scan) → Stops k x → finishedScan (finish settype st lack) x ≡ passed s settype x
       go (Refused u) c = refl
       go (Done total lines) c = ap (λ (x : Refusal). scanUnless x total lines) (a .pass-so 0 ∙ ap (passFrom s settype 0 noneSeen noRefusal) (add-zero k ∙ sym c))
 
-  module _ (z : l ≡ 8000 → ⊥) where
+  module _ {l n : ℕ} (e : x ≡ LineOrEnd.Line l n) where
+    found : StandsAt s at k (LineOrEnd.Line l n)
+    found = subst (StandsAt s at k) e h
+
     -- the line is read
     line-so : lineAt s at ≡ Read l n
-    line-so = h .line-read z .1
+    line-so = found .1
 
     pub along-few : k < maxLines
-    along-few = h .line-read z .0
+    along-few = found .0
 
     pub along-least : 10 ≤ n
     along-least = read-back s at line-so .least
@@ -92,9 +100,9 @@ module _ {s : List ℕ} {settype : SetType} {at k : ℕ} {st : Flagged} {lack : 
 
     -- the scan goes on after it
     scan-after : scanFrom s (at + n) (k + 1) (maxLines - (k + 1)) ≡ scanSet s
-    scan-after = sym (scan-further s at k along-few (ends-read s at line-so ∙ ne-eqb l 8000 z) line-so) ∙ a .scan-so
+    scan-after = sym (scan-further s at k along-few (ends-read s at line-so ∙ ne-eqb l 8000 (found .2)) line-so) ∙ a .scan-so
 
-    module _ (r : Step) (members top : List Bool) (e : Stepped (rowOf settype l) settype st lack at l (lineContent s at n) r members top) where
+    module _ (r : Step) (members top : List Bool) (q : Stepped (rowOf settype l) settype st lack at l (lineContent s at n) r members top) where
       pub along-bad : (r .no ≡ 0 → ⊥)
           → Refused (firstUnread (scanFrom s (at + n) (k + 1) (maxLines - (k + 1))) (refusal (r .no) at l)) ≡ passed s settype (scanSet s)
       unfolding scanUnless
@@ -105,7 +113,7 @@ module _ {s : List ℕ} {settype : SetType} {at k : ℕ} {st : Flagged} {lack : 
           go (Done total lines) c =
               let m : k + suc (lines - (k + 1)) ≡ lines = omega arith in
               let w : passFrom s settype 0 noneSeen noRefusal lines ≡ refusal (r .no) at l =
-              ap (passFrom s settype 0 noneSeen noRefusal) (sym m) ∙ (sym (a .pass-so (suc (lines - (k + 1)))) ∙ pass-bad s settype at st lack l n line-so r members top e g (lines - (k + 1))) in
+              ap (passFrom s settype 0 noneSeen noRefusal) (sym m) ∙ (sym (a .pass-so (suc (lines - (k + 1)))) ∙ pass-bad s settype at st lack l n line-so r members top q g (lines - (k + 1))) in
               sym (rw (w, ne-eqb (r .no) 0 g))
 
       pub along-on : r .no ≡ 0 → Along s settype (at + n) (k + 1) (flaggedOf (r .group) members top) (r .group .lack)
@@ -113,7 +121,7 @@ module _ {s : List ℕ} {settype : SetType} {at k : ℕ} {st : Flagged} {lack : 
         within = along-within;
         few = omega (arith, along-few);
         scan-so = scan-after;
-        pass-so = λ m. sym (pass-on s settype at st lack l n line-so r members top e g m) ∙ (a .pass-so (suc m) ∙ ap (passFrom s settype 0 noneSeen noRefusal) (omega arith));
+        pass-so = λ m. sym (pass-on s settype at st lack l n line-so r members top q g m) ∙ (a .pass-so (suc m) ∙ ap (passFrom s settype 0 noneSeen noRefusal) (omega arith));
       }
 
 -- ---- after the last line

@@ -17,6 +17,7 @@ use Rattle.line_scan.specs.declared.Scan.the-variants.{Done}
 use Rattle.line_scan.specs.Scan.{scanFrom, Stops}
 use Rattle.judge_missing.specs.Lacks.{Flagged, noneSeen, finish}
 use Rattle.judge_line.specs.Steps.{rowOf, lineNo, nextFlagged, staysIn, lackThen}
+use Rattle.judge_lines.specs.declared.LineOrEnd.{LineOrEnd}
 
 -- ---- the pass
 
@@ -48,10 +49,10 @@ firstUnread (Scan.Refused q) r = q
 unfoldable pub scanUnless : Refusal → ℕ → ℕ → Scan
 scanUnless r total lines = cond (eqb (r .no) 0) (Done total lines) (Scan.Refused r)
 
--- what is known of a line that has k lines before it: its label and size, if it is a line of the set; else the label is 8000
-pub record NextAt (s : List ℕ) (at k l n : ℕ) : Type 0 where
-  pub line-read : (l ≡ 8000 → ⊥) → (k < maxLines) × (lineAt s at ≡ Read l n)
-  pub scan-stops : l ≡ 8000 → Stops k (scanFrom s at k (maxLines - k))
+-- what is found at a line start that has k lines before it: a line of the set, or that a scan reads no more from there on
+abbrev pub StandsAt : List ℕ → ℕ → ℕ → LineOrEnd → Type 0
+StandsAt s at k (LineOrEnd.Line l n) = (k < maxLines) × (lineAt s at ≡ Read l n) × (l ≡ 8000 → ⊥)
+StandsAt s at k LineOrEnd.End = Stops k (scanFrom s at k (maxLines - k))
 
 -- 16 after a scan that is done
 abbrev pub finishedScan : Refusal → Scan → Scan

@@ -12,7 +12,7 @@ ghost use Rattle.line_read.specs.Line.{lineAt, lineContent};
 ghost use Rattle.line_scan.specs.Scan.{scanFrom, scanSet};
 ghost use Rattle.judge_missing.specs.Lacks.{finish, flaggedOf};
 ghost use Rattle.judge_line.specs.Steps.{rowOf, Stepped};
-ghost use Rattle.judge_lines.specs.Pass.{firstUnread, finishedScan, NextAt, passed};
+ghost use Rattle.judge_lines.specs.Pass.{firstUnread, finishedScan, StandsAt, passed};
 use judge_line::Step;
 use judge_missing::Group;
 use judge_missing::ROWS;
@@ -21,10 +21,12 @@ use line_scan::Scan;
 use meaning::Refusal;
 use meaning::SetType;
 
-// The next line: its label and its whole length.
-struct Next {
-    label: usize,
-    size: usize,
+// What stands at a line start.
+enum LineOrEnd {
+    // A line of this set: its label and its whole length.
+    Line { label: usize, size: usize },
+    // No line of this set: the set ends there, or the line is refused by 7 or 2 to 6.
+    End,
 }
 
 // The step of the line of `size` bytes at an offset.
@@ -60,22 +62,21 @@ pub fn unless_unread(s: &[u8], from: usize, before: usize, r: Refusal) -> Refusa
     }
 }
 
-// The line at an offset that has `before` lines before it. If no line of this set is read there its label is 8000, which starts another set.
-fn next_line(s: &[u8], at: usize, before: usize) -> Next
-    ensures { λ r. ⌜ NextAt (now (s .entry)) at before (r .label) (r .size) ⌝ }
+// What stands at an offset that has `before` lines before it. A line 8000 starts another set.
+fn next_line(s: &[u8], at: usize, before: usize) -> LineOrEnd
+    ensures { λ r. ⌜ StandsAt (now (s .entry)) at before r ⌝ }
 {
     if SetType::LINES <= before {
-        return Next {
-            label: meaning::LABEL_8000,
-            size: 0,
-        };
+        return LineOrEnd::End;
     }
     match line_read::usual_line(s, at) {
-        Line::Read { label, size } => Next { label, size },
-        Line::Refused(_) => Next {
-            label: meaning::LABEL_8000,
-            size: 0,
-        },
+        Line::Read { label, size } => {
+            if label == meaning::LABEL_8000 {
+                return LineOrEnd::End;
+            }
+            LineOrEnd::Line { label, size }
+        }
+        Line::Refused(_) => LineOrEnd::End,
     }
 }
 
@@ -122,23 +123,13 @@ pub fn pass(s: &[u8], settype: SetType, start: usize) -> Scan
     let mut lines: usize = 1;
     loop {
         let next = next_line(s, at, lines);
-        let label = next.label;
-        if label == meaning::LABEL_8000 {
+        let LineOrEnd::Line { label, size } = next else {
             return ended(s, settype, group, &members, &top, at, lines);
-        }
-        let step = line_step(
-            s,
-            settype,
-            at,
-            label,
-            next.size,
-            group,
-            &mut members,
-            &mut top,
-        );
+        };
+        let step = line_step(s, settype, at, label, size, group, &mut members, &mut top);
         let no = step.no;
         let place = at;
-        at += next.size;
+        at += size;
         lines += 1;
         if no != 0 {
             return Scan::Refused(unless_unread(s, at, lines, Refusal { no, place, label }));

@@ -25,97 +25,67 @@ none-requires : tie.Need-none-requires Inv-loop μ-loop
 none-requires c κs = search needs
 
 loop-holds : tie.Need-loop-holds Inv-loop μ-loop
-loop-holds c =
-    let at-mark = c .before in
-    let at-top = at-mark .before in
-    let at-start = at-top .before .before in
-    along-start _ _ _ (at-start .pre .0) (at-start .pre .1) (c .none .ensures) (at-mark .mark .ensures)
+loop-holds c = along-start _ _ _ (c .before .before .before .before .pre .0) (c .before .before .before .before .pre .1) (c .none .ensures) (c .before .mark .ensures)
 
 next-line-requires : tie.Need-next-line-requires Inv-loop μ-loop
 next-line-requires c κs = search needs
 
+enum-known-next : tie.Need-enum-known-next Inv-loop μ-loop
+enum-known-next c = search needs
+
+enum-told : tie.Need-enum-told Inv-loop μ-loop
+enum-told c = search needs
+
 ended-requires : tie.Need-ended-requires Inv-loop μ-loop
 ended-requires c κs =
-    let at-if1 = c .before .before in
-    let at-loop = at-if1 .before .before in
+    let at-told = c .before .before in
+    let at-loop = at-told .before .before .before in
     (at-loop .loop .inv .within, at-loop .loop .inv .few)
 
 returns : tie.Need-returns Inv-loop μ-loop
 returns c =
-    let at-members = c .before .before in
-    let at-if1 = at-members .before in
-    let at-next-line = at-if1 .before in
-    let at-loop = at-next-line .before in
-    c .ended .ensures ∙ along-end (at-loop .loop .inv) (at-next-line .next-line .ensures) (at-if1 .if1 .taken)
+    let at-told = c .before .before .before in
+    let at-next = at-told .before .before in
+    c .ended .ensures ∙ along-end (at-next .before .loop .inv) (at-next .next-line .ensures) (at-told .enum-told .given .1)
 
 line-step-requires : tie.Need-line-step-requires Inv-loop μ-loop
 line-step-requires c κs =
-    let at-if1 = c .before .before in
-    let at-next-line = at-if1 .before in
-    let at-loop = at-next-line .before in (
-      along-least (at-loop .loop .inv) (at-next-line .next-line .ensures) (at-if1 .if1 .left),
-      along-within (at-loop .loop .inv) (at-next-line .next-line .ensures) (at-if1 .if1 .left),
-    )
+    let at-line = c .before .before .before in
+    let at-next = at-line .before .before in
+    let inv = at-next .before .loop .inv in
+    (along-least inv (at-next .next-line .ensures) (at-line .next .given .1), along-within inv (at-next .next-line .ensures) (at-line .next .given .1))
 
 add-at : tie.Need-add-at Inv-loop μ-loop
-add-at c =
-    let at-top3 = c .before .before in
-    let at-if1 = at-top3 .before .before in
-    let at-next-line = at-if1 .before in
-    let at-loop = at-next-line .before in
-    let at-mark = at-loop .before .before in
-    let at-top = at-mark .before in
-    let at-start = at-top .before .before in
-    omega (arith, at-start .good, along-within (at-loop .loop .inv) (at-next-line .next-line .ensures) (at-if1 .if1 .left))
+add-at c = omega (arith, along-within (c .before .before .before .before .before .before .before .loop .inv) (c .before .before .before .before .before .before .next-line .ensures) (c .before .before .before .before .next .given .1))
 
 add-lines : tie.Need-add-lines Inv-loop μ-loop
-add-lines c =
-    let at-top3 = c .before .before in
-    let at-if1 = at-top3 .before .before in
-    let at-next-line = at-if1 .before in
-    let at-loop = at-next-line .before in
-    omega (arith, along-few (at-loop .loop .inv) (at-next-line .next-line .ensures) (at-if1 .if1 .left))
+add-lines c = omega (arith, along-few (c .before .before .before .before .before .before .before .loop .inv) (c .before .before .before .before .before .before .next-line .ensures) (c .before .before .before .before .next .given .1))
 
 unless-unread-requires : tie.Need-unless-unread-requires Inv-loop μ-loop
 unless-unread-requires c κs =
-    let at-line-step = c .before .before in
-    let at-members2 = at-line-step .before .before in
-    let at-if1 = at-members2 .before in
-    let at-next-line = at-if1 .before in
-    let at-loop = at-next-line .before in (
-      along-within (at-loop .loop .inv) (at-next-line .next-line .ensures) (at-if1 .if1 .left),
-      omega (arith, along-few (at-loop .loop .inv) (at-next-line .next-line .ensures) (at-if1 .if1 .left)),
-    )
+    let at-step = c .before in
+    let at-line = at-step .before .before .before .before in
+    let at-next = at-line .before .before in
+    let inv = at-next .before .loop .inv in
+    (along-within inv (at-next .next-line .ensures) (at-line .next .given .1), omega (arith, along-few inv (at-next .next-line .ensures) (at-line .next .given .1)))
 
 returns-2 : tie.Need-returns-2 Inv-loop μ-loop
 returns-2 c =
-    let at-if2 = c .before in
-    let at-line-step = at-if2 .before .before in
-    let at-members2 = at-line-step .before .before in
-    let at-if1 = at-members2 .before in
-    let at-next-line = at-if1 .before in
-    let at-loop = at-next-line .before in
+    let at-step = c .before .before in
+    let at-line = at-step .before .before .before .before in
+    let at-next = at-line .before .before in
     ap Refused (c .unless-unread .ensures)
-    ∙ along-bad (at-loop .loop .inv) (at-next-line .next-line .ensures) (at-if1 .if1 .left) _ _ _ (at-line-step .line-step .ensures) (at-if2 .if2 .taken)
+    ∙ along-bad (at-next .before .loop .inv) (at-next .next-line .ensures) (at-line .next .given .1) _ _ _ (at-step .line-step .ensures) (c .before .if1 .taken)
 
 loop-less : tie.Need-loop-less Inv-loop μ-loop
-loop-less c =
-    let at-struct-known = c .before .before in
-    let at-top3 = at-struct-known .before .before in
-    let at-if1 = at-top3 .before .before in
-    let at-next-line = at-if1 .before in
-    let at-loop = at-next-line .before in
-    omega (arith, along-few (at-loop .loop .inv) (at-next-line .next-line .ensures) (at-if1 .if1 .left))
+loop-less c = omega (arith, along-few (c .before .before .before .before .before .before .before .before .before .loop .inv) (c .before .before .before .before .before .before .before .before .next-line .ensures) (c .before .before .before .before .before .before .next .given .1))
 
 loop-again : tie.Need-loop-again Inv-loop μ-loop
 loop-again c =
-    let at-if2 = c .before in
-    let at-line-step = at-if2 .before .before in
-    let at-members2 = at-line-step .before .before in
-    let at-if1 = at-members2 .before in
-    let at-next-line = at-if1 .before in
-    let at-loop = at-next-line .before in
-    along-on (at-loop .loop .inv) (at-next-line .next-line .ensures) (at-if1 .if1 .left) _ _ _ (at-line-step .line-step .ensures) (at-if2 .if2 .left)
+    let at-step = c .before .before in
+    let at-line = at-step .before .before .before .before in
+    let at-next = at-line .before .before in
+    along-on (at-next .before .loop .inv) (at-next .next-line .ensures) (at-line .next .given .1) _ _ _ (at-step .line-step .ensures) (c .before .if1 .left)
 
 pub pass-spec : {M : Type 1} → statement M
 pass-spec =
@@ -127,6 +97,8 @@ pass-spec =
     none-requires
     loop-holds
     next-line-requires
+    enum-known-next
+    enum-told
     ended-requires
     returns
     line-step-requires
