@@ -140,58 +140,49 @@ module _ (t : SetType) (fs : List Field) (k : ℕ) (st : State) (inside : k < le
     no-more = omega arith;
   }
 
-  -- the first fault of a line whose row is r
+  -- The first breach of a line that stands in its place: 13 if its row is single and was seen, else that of its content.
+  placed-first : (x : Fault) (xs : List Fault) (r : Row) (seen : List ℕ) → Stands t fs k st
+      → (r .many ≡ false → elem (r .label) seen ≡ true → (c : RuleBreach t fs k) × (ruleNumber c ≡ repeated))
+      → (repeatedFaults r seen k (labelAtLine fs k) ≡ [] → LabelFine t fs k st)
+      → repeatedFaults r seen k (labelAtLine fs k) ++ contentFaults (typed t) k (getD fs k noField) ≡ x ∷ xs → RuleFirst x
+  placed-first x xs r seen s again fine e = go (head-append (repeatedFaults r seen k (labelAtLine fs k)) (contentFaults (typed t) k (getD fs k noField)) x xs e)
+    where
+      go : ((ys : List Fault) × (repeatedFaults r seen k (labelAtLine fs k) ≡ x ∷ ys))
+          ⊎ ((repeatedFaults r seen k (labelAtLine fs k) ≡ []) × (contentFaults (typed t) k (getD fs k noField) ≡ x ∷ xs)) → RuleFirst x
+      go (inl q) =
+          let a = ask-head (r .many || not (elem (r .label) seen)) (atLine repeated k (labelAtLine fs k)) x (q .0) (q .1) in
+          let m = seen-single r seen (a .0) in
+          let c = again (m .0) (m .1) in
+          record {
+            breach = c .0;
+            is = a .1 ∙ ap (λ (n : ℕ). atLine n k (labelAtLine fs k)) (sym (c .1));
+            none-smaller = λ d l. none-less 13 (placed s) d (omega (arith, c .1));
+          }
+      go (inr q) = content-first x xs s (fine (q .0)) (q .1)
+
+  -- the same, by where its row r stands
   top-first : (x : Fault) (xs : List Fault) (r : Row) → HasRow t (labelAtLine fs k) r → r .under ≡ setLevel
       → lineRules (roleBehind t fs st k) (typed t) st k (getD fs k noField) ≡ x ∷ xs → RuleFirst x
   unfolding lineRules labelFaults contentRules
   top-first x xs r h u e =
-      go (head-append (repeatedFaults r (st .top) k (labelAtLine fs k)) (contentFaults (typed t) k (getD fs k noField)) x xs (rw (role-top t fs k st r h u) at e))
-    where
-      s : Stands t fs k st
-      s = at-set-level r h u
-
-      go : ((ys : List Fault) × (repeatedFaults r (st .top) k (labelAtLine fs k) ≡ x ∷ ys))
-          ⊎ ((repeatedFaults r (st .top) k (labelAtLine fs k) ≡ []) × (contentFaults (typed t) k (getD fs k noField) ≡ x ∷ xs)) → RuleFirst x
-      go (inl q) =
-          let a = ask-head (r .many || not (elem (r .label) (st .top))) (atLine repeated k (labelAtLine fs k)) x (q .0) (q .1) in
-          let m = seen-single r (st .top) (a .0) in
-          let g = repeated-top t fs k st r b h u (m .0) (m .1) in
-          record { breach = repeated-in-set (g .0) (g .1) (g .2) (r, h, u) (r, h, m .0); is = a .1; none-smaller = none-less 13 (placed s) }
-      go (inr q) = content-first x xs s (rw (role-top t fs k st r h u) (q .0)) (q .1)
+      let o = role-top t fs k st r h u in
+      placed-first x xs r (st .top) (at-set-level r h u)
+      (λ m n. let g = repeated-top t fs k st r b h u m n in (repeated-in-set (g .0) (g .1) (g .2) (r, h, u) (r, h, m), refl)) (λ n. rw o n) (rw o at e)
 
   open-first : (x : Fault) (xs : List Fault) (r : Row) → HasRow t (labelAtLine fs k) r → (r .under ≡ 8410) ⊎ (r .under ≡ 6302) → st .header ≡ r .under
       → lineRules (roleBehind t fs st k) (typed t) st k (getD fs k noField) ≡ x ∷ xs → RuleFirst x
   unfolding lineRules labelFaults contentRules
-  open-first x xs r h u o e =
-      go (head-append (repeatedFaults r (st .members) k (labelAtLine fs k)) (contentFaults (typed t) k (getD fs k noField)) x xs (rw (role-open t fs k st r h u o) at e))
-    where
-      s : Stands t fs k st
-      s = in-open r h u o
-
-      go : ((ys : List Fault) × (repeatedFaults r (st .members) k (labelAtLine fs k) ≡ x ∷ ys))
-          ⊎ ((repeatedFaults r (st .members) k (labelAtLine fs k) ≡ []) × (contentFaults (typed t) k (getD fs k noField) ≡ x ∷ xs)) → RuleFirst x
-      go (inl q) =
-          let a = ask-head (r .many || not (elem (r .label) (st .members))) (atLine repeated k (labelAtLine fs k)) x (q .0) (q .1) in
-          let m = seen-single r (st .members) (a .0) in
-          let g = repeated-member t fs k st r inside b h u o (m .1) in
-          record { breach = repeated-in-group (g .0) (g .1) (g .2) (g .3) (g .4) (g .5) (r, h, m .0); is = a .1; none-smaller = none-less 13 (placed s) }
-      go (inr q) = content-first x xs s (rw (role-open t fs k st r h u o) (q .0)) (q .1)
+  open-first x xs r h u q e =
+      let o = role-open t fs k st r h u q in
+      placed-first x xs r (st .members) (in-open r h u q)
+      (λ m n. let g = repeated-member t fs k st r inside b h u q n in (repeated-in-group (g .0) (g .1) (g .2) (g .3) (g .4) (g .5) (r, h, m), refl)) (λ n. rw o n) (rw o at e)
 
   odd-first : (x : Fault) (xs : List Fault) (r : Row) → HasRow t (labelAtLine fs k) r → r .under ≡ 6330 → st .header + 1 ≡ labelAtLine fs k
       → lineRules (roleBehind t fs st k) (typed t) st k (getD fs k noField) ≡ x ∷ xs → RuleFirst x
   unfolding lineRules labelFaults contentRules
-  odd-first x xs r h u o e =
-      go (head-append (repeatedFaults r (st .members) k (labelAtLine fs k)) (contentFaults (typed t) k (getD fs k noField)) x xs (rw (role-odd t fs k st r h u o) at e))
-    where
-      s : Stands t fs k st
-      s = behind-name r h u o
-
-      go : ((ys : List Fault) × (repeatedFaults r (st .members) k (labelAtLine fs k) ≡ x ∷ ys))
-          ⊎ ((repeatedFaults r (st .members) k (labelAtLine fs k) ≡ []) × (contentFaults (typed t) k (getD fs k noField) ≡ x ∷ xs)) → RuleFirst x
-      go (inl q) =
-          let a = ask-head (r .many || not (elem (r .label) (st .members))) (atLine repeated k (labelAtLine fs k)) x (q .0) (q .1) in
-          absurd (repeated-odd t fs k st r b h u o (seen-single r (st .members) (a .0) .1))
-      go (inr q) = content-first x xs s (rw (role-odd t fs k st r h u o) (q .0)) (q .1)
+  odd-first x xs r h u q e =
+      let o = role-odd t fs k st r h u q in
+      placed-first x xs r (st .members) (behind-name r h u q) (λ m n. absurd (repeated-odd t fs k st r b h u q n)) (λ n. rw o n) (rw o at e)
 
   stray-first : (x : Fault) (r : Row) → HasRow t (labelAtLine fs k) r → (c : RuleBreach t fs k) → ruleNumber c ≡ stray → x ≡ atLine stray k (labelAtLine fs k) → RuleFirst x
   stray-first x r h c e q = record {

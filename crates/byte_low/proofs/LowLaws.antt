@@ -1,14 +1,16 @@
--- The walk of specs/ step by step: one law for each way that the code takes.
+-- The walk of specs/ step by step: one law for each way that the code takes. Then what it means: `low-is`.
 use mathlib.Core.Path.{_≡_, refl, ap, _∙_, subst}
 use mathlib.Core.Bool.{Bool, true, false, cond}
-use mathlib.Core.List.{List}
+use mathlib.Core.List.{List, [], _∷_, _++_}
 use Prim.Native.Nat.{ℕ, zero, suc, _+_, _-_, _≤_, _<_}
 use native.Mathlib.Omega.{arith}
 use native.Mathlib.Nat.{add-zero, zero-add}
 use lib.Dec.{leb}
-use lib.ListN.{getD}
+use lib.ListN.{length, getD, take, drop}
 use borrow.Author.Tests.{le-leb, lt-leb}
-use Rattle.meaning.specs.Lines.{leastByte}
+use Rattle.meaning.specs.Refusals.{Fault, atByte, ask, badByte}
+use Rattle.meaning.specs.Lines.{leastByte, lowBytes}
+use Rattle.meaning.proofs.Bools.{byte-then}
 use Rattle.meaning.proofs.LeftLaws.{one-more, none-left}
 use Rattle.byte_low.specs.Low.{firstLow}
 
@@ -92,3 +94,27 @@ module _ (s : List ℕ) where
   low-ends b i k h g p q =
       let n : k ≡ i + k - i = omega arith in
       ap (firstLow s i) n ∙ (low-on b i (i + k) (omega arith) p ∙ low-tail b (i + b) (i + k) (omega arith) (omega arith) (omega arith) q)
+
+-- ---- what it means
+
+-- The walk finds the first fault of the bytes under 20h: what is made of the faults, if the first alone counts there (`by`), is made of the walk's offset (`low`).
+-- The content stands at offset p; the walk goes over k bytes of it, from offset a on, after i bytes of the content.
+module _ {A : Type 0} (by : List Fault → A) (low : ℕ → A) (line p : ℕ) (first : (i : ℕ) (xs : List Fault) → by (atByte badByte line i ∷ xs) ≡ low (p + i)) where
+  pub low-is : (s : List ℕ) (k a i : ℕ) → a ≡ p + i → a + k ≤ length s
+      → cond (leb (a + k) (firstLow s a k)) (by []) (low (firstLow s a k)) ≡ by (lowBytes line i (take k (drop a s)))
+  unfolding firstLow
+  low-is s zero a i e h = rw (add-zero a, le-leb a a (omega arith))
+  low-is s (suc k) a i e h =
+      let q : a + suc k ≡ (a + 1) + k = omega arith in
+      rw (byte-then s a (omega arith), q) (go (leb leastByte (getD s a 0)) (low-is s k (a + 1) (suc i) (omega arith) (omega arith)))
+    where
+      next : ℕ
+      next = firstLow s (a + 1) k
+
+      rest : List Fault
+      rest = lowBytes line (suc i) (take k (drop (a + 1) s))
+
+      go : (b : Bool) → cond (leb ((a + 1) + k) next) (by []) (low next) ≡ by rest
+          → cond (leb ((a + 1) + k) (cond b next a)) (by []) (low (cond b next a)) ≡ by (ask b (atByte badByte line i) ++ rest)
+      go true ih = ih
+      go false ih = rw (lt-leb ((a + 1) + k) a (omega arith), first i rest, e)

@@ -4,27 +4,27 @@ use mathlib.Core.Bool.{Bool, true, false, cond, not, _&&_}
 use mathlib.Core.List.{List, [], _∷_, _++_, cons≢nil}
 use Prim.Native.Nat.{ℕ, zero, suc, pred, _+_, _-_, _≤_, _<_}
 use native.Mathlib.Omega.{arith}
-use native.Mathlib.Numerals.{add-one}
 use native.Mathlib.Nat.{add-zero, zero-add}
-use borrow.Author.Tests.{le-leb, lt-leb, ne-eqb, leb-true, leb-false}
+use borrow.Author.Tests.{le-leb, ne-eqb, leb-true, leb-false}
 use lib.Dec.{leb, eqb}
-use lib.ListN.{length, take, drop, getD, drop-of-length-le}
+use lib.ListN.{length, take, drop, getD}
 use lib.Seq.{drop-drop, take-all}
 use Rattle.meaning.specs.declared.Shape.{Shape}
 use Rattle.meaning.specs.Field.{Field, noField, labelAtLine, contentAtLine}
 use Rattle.meaning.specs.Refusals.{Spot, Fault, atLine, atByte, ask, refused, done, refusal, verdict, badByte, badContent, noSuchLine, fixedLine}
 use Rattle.meaning.specs.Pieces.{Parsed}
-use Rattle.meaning.specs.Lines.{leastByte, lineLead, lineEnd, lineSize, lineThen, lowBytes, minLineBytes, offset, render, size}
+use Rattle.meaning.specs.Lines.{lineLead, lineEnd, lineSize, lineThen, lowBytes, minLineBytes, offset, render, size}
 use Rattle.meaning.specs.FieldTable.{fitsLabel}
 use Rattle.meaning.specs.Rules.{fits}
 use Rattle.meaning.specs.Reading.{shape, read}
 use Rattle.meaning.specs.Corrections.{fixed, changeFaults}
-use Rattle.meaning.proofs.Bools.{and-left, and-right, byte-then, Every, every-at}
+use Rattle.meaning.proofs.Bools.{and-left, and-right, Every, every-at}
 use Rattle.meaning.proofs.LineLaws.{Sound, length-render}
 use Rattle.meaning.proofs.PlaceLaws.{drop-lineThen, content-at}
 use Rattle.meaning.proofs.SetLaws.{accepted}
 use Rattle.meaning.proofs.CorrectionLaws.{Change, change}
 use Rattle.byte_low.specs.Low.{firstLow}
+use Rattle.byte_low.proofs.LowLaws.{low-is}
 use Rattle.line_read.specs.Told.{toldLength, toldLabel}
 use Rattle.line_read.proofs.LineMeaning.{read-line}
 use Rattle.line_read.proofs.ToldLaws.{read-told}
@@ -65,7 +65,6 @@ pub record Stands (s : List ℕ) (fs : List Field) (k : ℕ) (label at n : ℕ) 
   pub at-so : at ≡ offset fs k
   pub size-so : n ≡ lineSize (getD fs k noField)
   pub least : minLineBytes ≤ n
-  pub within-lines : at + n ≤ size fs
   pub within : at + n ≤ length s
   pub content-so : take (n - (lineLead + lineEnd)) (drop (at + lineLead) s) ≡ contentAtLine fs k
   pub content-length : n - (lineLead + lineEnd) ≡ length (contentAtLine fs k)
@@ -88,7 +87,6 @@ module _ (s : List ℕ) (d : Parsed) (k : ℕ) (e : read s ≡ done d) (h : k < 
         at-so = refl;
         size-so = refl;
         least = omega (arith, f .some-byte);
-        within-lines = w;
         within = omega (arith, w, ap length (a .bytes), length-render (d .fields) (d .rest));
         content-so =
             rw n (ap (λ (x : List ℕ). take (length (contentAtLine (d .fields) k)) (drop (offset (d .fields) k + lineLead) x)) (a .bytes)
@@ -99,36 +97,6 @@ module _ (s : List ℕ) (d : Parsed) (k : ℕ) (e : read s ≡ done d) (h : k < 
   pub line-stands : let x = lineAfter s k in Stands s (d .fields) k (x .label) (x .at) (x .size)
   line-stands = rw line-after-is stands-there
 
--- ---- the first fault of a list
-
-first-ask : (b : Bool) (x : Fault) (ys : List Fault) → take 1 (ask b x ++ ys) ≡ cond b (take 1 ys) (x ∷ [])
-first-ask true x ys = refl
-first-ask false x ys = refl
-
-first-last : (b : Bool) (x : Fault) → take 1 (ask b x) ≡ cond b [] (x ∷ [])
-first-last true x = refl
-first-last false x = refl
-
--- the first of two lists, by the first of the one
-first-append : (xs ys : List Fault) (b : Bool) (x : Fault) → take 1 xs ≡ cond b [] (x ∷ []) → take 1 (xs ++ ys) ≡ cond b (take 1 ys) (x ∷ [])
-first-append [] ys true x e = refl
-first-append [] ys false x e = absurd (cons≢nil (sym e))
-first-append (y ∷ xs) ys true x e = absurd (cons≢nil e)
-first-append (y ∷ xs) ys false x e = e
-
--- the first byte under 20h of a content, from byte a on
-first-low : (c : List ℕ) (k m a : ℕ) → a + m ≡ length c
-    → take 1 (lowBytes k a (drop a c)) ≡ cond (leb (length c) (firstLow c a m)) [] (atByte badByte k (firstLow c a m) ∷ [])
-unfolding firstLow
-first-low c k zero a e = rw (drop-of-length-le c {i = a} (omega arith), le-leb (length c) a (omega arith))
-first-low c k (suc m) a e = rw (byte-then c a (omega arith)) (go (leb leastByte (getD c a 0)) (first-low c k m (a + 1) (omega arith)))
-  where
-    go : (b : Bool) → take 1 (lowBytes k (a + 1) (drop (a + 1) c)) ≡ cond (leb (length c) (firstLow c (a + 1) m)) [] (atByte badByte k (firstLow c (a + 1) m) ∷ [])
-        → take 1 (ask b (atByte badByte k a) ++ lowBytes k (suc a) (drop (a + 1) c))
-        ≡ cond (leb (length c) (cond b (firstLow c (a + 1) m) a)) [] (atByte badByte k (cond b (firstLow c (a + 1) m) a) ∷ [])
-    go true ih = rw (← add-one a) ih
-    go false ih = rw (lt-leb (length c) a (omega arith))
-
 -- ---- the first fault of a change
 
 -- 20, 6, 14, if the line is there
@@ -137,25 +105,33 @@ to-is : (x : OneLine) (c : List ℕ) (lines n : ℕ)
     ++ (lowBytes (pred n) 0 c ++ ask (fitsLabel (x .label) c) (atLine badContent (pred n) (x .label))))
     ≡ offerFaults (offeredTo x c) lines n
 unfolding offerFaults offeredTo
-to-is x c lines n =
-    let k : ℕ = pred n in
-    let low : ℕ = firstLow c 0 (length c) in
-    let rest = first-append (lowBytes k 0 c) (ask (fitsLabel (x .label) c) (atLine badContent k (x .label))) (leb (length c) low) (atByte badByte k low)
-    (first-low c k (length c) 0 (zero-add (length c))) in
-    first-ask (not (fixed (x .label))) (atLine fixedLine k (x .label)) _
-    ∙ rw (rest, first-last (fitsLabel (x .label) c) (atLine badContent k (x .label))) (go (fixed (x .label)) (leb (length c) low) (fitsLabel (x .label) c))
+to-is x c lines n = go (fixed (x .label))
   where
+    k : ℕ
+    k = pred n
+
     low : ℕ
     low = firstLow c 0 (length c)
 
-    go : (a b f : Bool)
-        → cond (not a) (cond b (cond f [] (atLine badContent (pred n) (x .label) ∷ [])) (atByte badByte (pred n) low ∷ [])) (atLine fixedLine (pred n) (x .label) ∷ [])
-        ≡ (let o = cond a (against fixedLine 0 (x .label) x) (cond b (cond f (against 0 0 0 x) (against badContent 0 (x .label) x)) (against badByte low 0 x)) in
-        cond (eqb (o .no) 0) [] (record { no = o .no; line = offerLine o lines n; spot = offerSpot o; label = o .label } ∷ []))
-    go true b f = refl
-    go false false f = refl
-    go false true true = refl
-    go false true false = refl
+    bad : Bool → List Fault
+    bad f = ask f (atLine badContent k (x .label))
+
+    rest : (f : Bool) → take 1 (lowBytes k 0 c ++ bad f) ≡ cond (leb (length c) low) (take 1 (bad f)) (atByte badByte k low ∷ [])
+    rest f =
+        sym (rw (take-all (length c) c (omega arith), zero-add (length c)) at
+        (low-is (λ xs. take 1 (xs ++ bad f)) (λ i. atByte badByte k i ∷ []) k 0 (λ i xs. rw (zero-add i)) c (length c) 0 0 refl (omega arith)))
+
+    judged : (b f : Bool) → cond b (take 1 (bad f)) (atByte badByte k low ∷ [])
+        ≡ offerFaults (cond b (cond f (against 0 0 0 x) (against badContent 0 (x .label) x)) (against badByte low 0 x)) lines n
+    judged true true = refl
+    judged true false = refl
+    judged false f = refl
+
+    go : (a : Bool) → take 1 (ask (not a) (atLine fixedLine k (x .label)) ++ (lowBytes k 0 c ++ bad (fitsLabel (x .label) c)))
+        ≡ offerFaults (cond a (against fixedLine 0 (x .label) x)
+        (cond (leb (length c) low) (cond (fitsLabel (x .label) c) (against 0 0 0 x) (against badContent 0 (x .label) x)) (against badByte low 0 x))) lines n
+    go true = refl
+    go false = rest (fitsLabel (x .label) c) ∙ judged (leb (length c) low) (fitsLabel (x .label) c)
 
 -- What an offer answers is the first fault of a change to that line.
 pub offer-is : (s : List ℕ) (d : Parsed) (n : ℕ) (c : List ℕ) → read s ≡ done d

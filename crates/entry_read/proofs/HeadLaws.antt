@@ -97,13 +97,6 @@ whole-back s at {label} {n} e = go (entryWhole (drop at s)) refl (sym (entry-is 
         }
     go false q h = let z : _≡_ {A = ℕ} 0 1 = cc in absurd (omega arith)
 
-pub cut-back : (s : List ℕ) (at : ℕ) → entryAt s at ≡ Cut → entryWhole (drop at s) ≡ false
-cut-back s at e = go (entryWhole (drop at s)) refl (sym (entry-is s at) ∙ e)
-  where
-    go : (b : Bool) → entryWhole (drop at s) ≡ b → headOf b (drop at s) ≡ Cut → b ≡ false
-    go true q h = let z : _≡_ {A = ℕ} 0 1 = cc in absurd (omega arith)
-    go false q h = refl
-
 -- ---- the heads from an offset on, as the code takes them
 
 module _ (s : List ℕ) (at : ℕ) where

@@ -2,12 +2,11 @@
 // `finish_at` has no `requires`; `has` and `mark`, which only other crates here call, assume that a label has the number that they are given. Each contract
 // cites a walk of specs/, and proofs/LackMeaning says what the walks mean.
 ghost use mathlib.Core.Path.{_≡_};
-ghost use mathlib.Core.Bool.{true, false, cond};
+ghost use mathlib.Core.Bool.{true, false};
 ghost use Prim.Native.Nat.{_<_};
 ghost use lib.ListN.{getD, set};
 ghost use Rattle.meaning.specs.Refusals.{refusal};
 ghost use Rattle.meaning.specs.Tables.{rowLabel};
-ghost use Rattle.meaning.specs.Answers.{noRefusal};
 ghost use Rattle.judge_missing.specs.Lacks.{rowCount, noFlags, seen, valued, lack8437, lack8410, lack6302, lackName, lackUnder, lackAll, basicLabels, patientLabels, testLabels, groupLack, firstLack, setLack, finish, flaggedOf};
 use meaning::Refusal;
 use meaning::SetType;

@@ -13,11 +13,11 @@ use Rattle.meaning.specs.Limits.{maxLineBytes}
 use Rattle.meaning.specs.Digits as D
 use Rattle.meaning.specs.Digits.{digitZero, digit, allDigits, number}
 use Rattle.meaning.specs.Field.{Field}
-use Rattle.meaning.specs.Refusals.{Fault, atLine, atByte, ask, behind, refusal, badLength, badByte}
-use Rattle.meaning.specs.Lines.{lengthDigits, labelDigits, lineLead, lineEnd, lineSize, lineThen, sizeAt, labelAt, minLineBytes, leastByte, lengthOk, wholeOk, endOk, labelOk, lowBytes, lineFaults}
+use Rattle.meaning.specs.Refusals.{Fault, atLine, ask, behind, refusal, badLength, badByte}
+use Rattle.meaning.specs.Lines.{lengthDigits, labelDigits, lineLead, lineEnd, lineSize, lineThen, sizeAt, labelAt, minLineBytes, lengthOk, wholeOk, endOk, labelOk, lowBytes, lineFaults}
 use Rattle.meaning.proofs.Bools.{and-right, byte-then}
 use Rattle.meaning.proofs.LineLaws.{Sound, label-line, size-line, content-line, drop-line, faults-line, whole, size-most, sound-back}
-use Rattle.byte_low.specs.Low.{firstLow}
+use Rattle.byte_low.proofs.LowLaws.{low-is}
 use Rattle.line_read.specs.declared.Number.{Number}
 use Rattle.line_read.specs.declared.Number.the-variants.{Is, None}
 use Rattle.line_read.specs.declared.Line.{Line}
@@ -78,38 +78,28 @@ unfolding must mustRead
 must-number true m n at f = refl
 must-number false m n at f = refl
 
+must-cond : (b : Bool) (n at : ℕ) (l : Line) → must b n at l ≡ cond b l (Refused (refusal n at 0))
+unfolding must
+must-cond true n at l = refl
+must-cond false n at l = refl
+
 must-and : (a b c : Bool) (n at : ℕ) (l : Line) → must (a && b) n at (must c n at l) ≡ must (a && (b && c)) n at l
 unfolding must
 must-and true true c n at l = refl
 must-and true false c n at l = refl
 must-and false b c n at l = refl
 
--- the first byte under 20h of a part of a content is the first fault of that part, which stands at offset a, after i bytes of the content
-low-is : (s : List ℕ) (k a at i : ℕ) (l : Line) → a ≡ at + (lineLead + i) → a + k ≤ length s
-    → must (leb (a + k) (firstLow s a k)) badByte (firstLow s a k) l ≡ lineByFaults at (lowBytes 0 i (take k (drop a s))) l
-unfolding firstLow must
-low-is s zero a at i l e h = rw (add-zero a, le-leb a a (omega arith))
-low-is s (suc k) a at i l e h =
-    let q : a + suc k ≡ (a + 1) + k = omega arith in
-    rw (byte-then s a (omega arith), q) (go (leb leastByte (getD s a 0)) (low-is s k (a + 1) at (suc i) l (omega arith) (omega arith)))
-  where
-    low : ℕ
-    low = firstLow s (a + 1) k
-
-    rest : List Fault
-    rest = lowBytes 0 (suc i) (take k (drop (a + 1) s))
-
-    go : (b : Bool) → must (leb ((a + 1) + k) low) badByte low l ≡ lineByFaults at rest l
-        → must (leb ((a + 1) + k) (cond b low a)) badByte (cond b low a) l ≡ lineByFaults at (ask b (atByte badByte 0 i) ++ rest) l
-    go true ih = ih
-    go false ih = rw (lt-leb ((a + 1) + k) a (omega arith), e)
-
 module _ (s : List ℕ) (at : ℕ) where
   content-is : (n label : ℕ) → minLineBytes ≤ n → at + n ≤ length s
       → labelledLine s at n label ≡ lineByFaults at (lowBytes 0 0 (take (n - (lineLead + lineEnd)) (drop lineLead (drop at s)))) (Read label n)
   unfolding labelledLine
   content-is n label h g =
-      rw (drop-drop lineLead at s) (low-is s (n - (lineLead + lineEnd)) (at + lineLead) at 0 (Read label n) refl (omega arith))
+      must-cond _ badByte _ (Read label n)
+      ∙ rw (drop-drop lineLead at s) (low-is (λ xs. lineByFaults at xs (Read label n)) (λ x. Refused (refusal badByte x 0)) 0 (at + lineLead) first
+      s (n - (lineLead + lineEnd)) (at + lineLead) 0 (omega arith) (omega arith))
+    where
+      first : (i : ℕ) (xs : List Fault) → Refused (refusal badByte (at + (lineLead + i)) 0) ≡ Refused (refusal badByte (at + lineLead + i) 0)
+      first i xs = ap (λ (x : ℕ). Refused (refusal badByte x 0)) (omega arith)
 
   label-is : (n : ℕ) (f : ℕ → Line) → lineLead ≤ length (drop at s)
       → mustRead (numberAt s (at + lengthDigits) labelDigits) n at f ≡ must (labelOk (drop at s)) n at (f (labelAt (drop at s)))

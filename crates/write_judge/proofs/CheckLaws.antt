@@ -6,22 +6,23 @@ use Prim.Native.Nat.{ℕ, zero, suc, _+_, _-_, _≤_, _<_}
 use native.Mathlib.Nat.{add-zero}
 use native.Mathlib.Omega.{arith}
 use lib.Dec.{leb}
-use lib.ListN.{length, getD, take, drop, length-drop, drop-of-length-le}
+use lib.ListN.{length, drop, length-drop, drop-of-length-le}
 use lib.Seq.{drop-drop}
 use borrow.Author.Tests.{leb-true, leb-false, le-leb, lt-leb}
 use Rattle.meaning.specs.declared.Refusal.{Refusal}
 use Rattle.meaning.specs.Limits.{maxEntries}
 use Rattle.meaning.specs.Digits.{digitZero, digit, allDigits}
 use Rattle.meaning.specs.Field.{Field, isNil}
-use Rattle.meaning.specs.Refusals.{Fault, atLine, atByte, ask, behind, Reply, refused, done, refusal, badByte, tooManyLines, badList}
+use Rattle.meaning.specs.Refusals.{Fault, atLine, ask, behind, Reply, refused, done, refusal, badByte, tooManyLines, badList}
 use Rattle.meaning.specs.Pieces.{Parsed, parsed, andBefore, pieceThen, pieces}
-use Rattle.meaning.specs.Lines.{leastByte, lowBytes}
+use Rattle.meaning.specs.Lines.{lowBytes}
 use Rattle.meaning.specs.Entries.{entryLead, twoBytesAt, entryLabel, entryWidth, entryContent, entryField, entryWhole, maxLabel, entryFaults, entryForm, entryOk, listSize}
 use Rattle.meaning.proofs.Bools.{nil-is, byte-then, and-left, and-right}
 use Rattle.meaning.proofs.FaultLaws.{ask-none, High, lows-none, refused-done, done-same}
 use Rattle.meaning.proofs.LeftLaws.{one-more, none-left}
 use Rattle.meaning.proofs.PieceLaws.{piece-back}
 use Rattle.byte_low.specs.Low.{firstLow}
+use Rattle.byte_low.proofs.LowLaws.{low-is}
 use Rattle.entry_read.specs.declared.Head.{Head}
 use Rattle.entry_read.specs.declared.Head.the-variants.{Whole, Cut}
 use Rattle.entry_read.specs.Head.{entryAt, afterHead, headsEnd}
@@ -156,26 +157,6 @@ abbrev judgedEntry : ℕ → List Fault → Item → Item
 judgedEntry at [] c = c
 judgedEntry at (x ∷ xs) c = Item.Refused (refusal (x .no) (at + behind entryLead (x .spot)) (x .label))
 
--- the first byte under 20h of a part of a content is the first fault of that part, which stands at offset a, after i bytes of the content
-low-is : (l : List ℕ) (k a at i : ℕ) (c : Item) → a ≡ at + (entryLead + i) → a + k ≤ length l
-    → cond (leb (a + k) (firstLow l a k)) c (Item.Refused (refusal badByte (firstLow l a k) 0)) ≡ judgedEntry at (lowBytes 0 i (take k (drop a l))) c
-unfolding firstLow
-low-is l zero a at i c e h = rw (add-zero a, le-leb a a (omega arith))
-low-is l (suc k) a at i c e h =
-    let q : a + suc k ≡ (a + 1) + k = omega arith in
-    rw (byte-then l a (omega arith), q) (go (leb leastByte (getD l a 0)) (low-is l k (a + 1) at (suc i) c (omega arith) (omega arith)))
-  where
-    low : ℕ
-    low = firstLow l (a + 1) k
-
-    rest : List Fault
-    rest = lowBytes 0 (suc i) (take k (drop (a + 1) l))
-
-    go : (b : Bool) → cond (leb ((a + 1) + k) low) c (Item.Refused (refusal badByte low 0)) ≡ judgedEntry at rest c
-        → cond (leb ((a + 1) + k) (cond b low a)) c (Item.Refused (refusal badByte (cond b low a) 0)) ≡ judgedEntry at (ask b (atByte badByte 0 i) ++ rest) c
-    go true ih = ih
-    go false ih = rw (lt-leb ((a + 1) + k) a (omega arith), e)
-
 -- The entry at an offset: its label and the length of its content if the bytes from there on have no fault, else the refusal of their first fault.
 check-is : (l : List ℕ) (at : ℕ) → checkEntry l at ≡ judgedEntry at (entryFaults (drop at l)) (Read (entryLabel (drop at l)) (twoBytesAt (drop at l) 0))
 unfolding checkEntry checkContent entryFaults
@@ -187,11 +168,16 @@ check-is l at = rw (entry-is l at) (go (entryWhole (drop at l)) refl)
     found : Item
     found = Read (entryLabel (drop at l)) (twoBytesAt (drop at l) 0)
 
+    first : (i : ℕ) (xs : List Fault) → Item.Refused (refusal badByte (at + (entryLead + i)) 0) ≡ Item.Refused (refusal badByte (at + entryLead + i) 0)
+    first i xs = ap (λ (x : ℕ). Item.Refused (refusal badByte x 0)) (omega arith)
+
     labelled : (b : Bool) → at + entryLead + n ≤ length l
         → cond b (cond (leb (at + entryLead + n) (firstLow l (at + entryLead) n)) found (Item.Refused (refusal badByte (firstLow l (at + entryLead) n) 0)))
         (Item.Refused (refusal badList at 0))
         ≡ judgedEntry at (ask b (atLine badList 0 0) ++ lowBytes 0 0 (entryContent (drop at l))) found
-    labelled true h = rw (drop-drop entryLead at l) (low-is l n (at + entryLead) at 0 found refl h)
+    labelled true h =
+        rw (drop-drop entryLead at l)
+        (low-is (λ xs. judgedEntry at xs found) (λ x. Item.Refused (refusal badByte x 0)) 0 (at + entryLead) first l n (at + entryLead) 0 (omega arith) h)
     labelled false h = rw (add-zero at)
 
     go : (b : Bool) → entryWhole (drop at l) ≡ b

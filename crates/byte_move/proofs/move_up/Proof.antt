@@ -1,6 +1,6 @@
 -- `move_up` meets its contract: the places from i on are done. A turn is `up-turn`.
 use mathlib.Core.Path.{_≡_, refl, _∙_}
-use Prim.Native.Nat.{_≤_, _-_}
+use Prim.Native.Nat.{_≤_}
 use native.Mathlib.Omega.{arith}
 use lib.ListN.{length, length-set}
 use Rattle.byte_move.proofs.MoveLaws.{upward, up-none, up-turn, up-all}

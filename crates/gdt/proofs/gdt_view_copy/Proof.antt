@@ -1,5 +1,4 @@
 -- `gdt_view_copy`: the part that `view` answers, copied.
-use native.Mathlib.Omega.{arith}
 use borrow.Author.Needs.{needs}
 use Rattle.gdt.proofs.CopyLaws.{copied-part, copied-whole}
 use Rattle.gdt.proofs.gdt_view_copy.Statement.{statement}
