@@ -20,6 +20,7 @@ pub mod Asking
 pub mod Examples
 pub mod Demands
 pub mod CallLaws
+pub mod IndexLaws
 pub mod NumberLaws
 pub mod Decided
 pub mod TableLaws
