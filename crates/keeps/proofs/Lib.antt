@@ -7,3 +7,4 @@ pub mod RulesExact
 pub mod Exact
 pub mod WriterExact
 pub mod CorrectionExact
+pub mod IndexExact

@@ -1,19 +1,20 @@
--- Which lists are written and which corrections are made, and what is made of them: the reasons of the paper, each by itself.
--- Stated by the rules of Keeps. proofs/WriterExact and proofs/CorrectionExact: exactly these are made.
+-- What is made of a set: its index; which lists are written and which corrections are made, and what is made of them: the reasons of the paper, each by itself.
+-- Stated by the rules of Keeps. proofs/IndexExact, proofs/WriterExact and proofs/CorrectionExact: exactly these are made.
 use mathlib.Core.Path.{_≡_}
 use mathlib.Core.Bool.{true}
 use mathlib.Core.List.{List, [], _∷_}
-use mathlib.Core.Logic.{_≢_}
-use Prim.Native.Nat.{ℕ, pred, _≤_, _<_}
+use mathlib.Core.Logic.{_≢_, _⊎_, _↔_}
+use Prim.Native.Nat.{ℕ, suc, pred, _+_, _≤_, _<_}
 use lib.ListN.{length, take, getD}
 use Rattle.meaning.specs.declared.SetType.{SetType}
+use Rattle.meaning.specs.declared.Entry.{Entry}
 use Rattle.meaning.specs.Limits.{maxEntries, maxSetBytes}
 use Rattle.meaning.specs.Digits.{digits}
-use Rattle.meaning.specs.Field.{Field, field, noField, labelAtLine}
-use Rattle.meaning.specs.Lines.{leastByte, size, render}
+use Rattle.meaning.specs.Field.{Field, field, noField, labelAtLine, contentAtLine}
+use Rattle.meaning.specs.Lines.{leastByte, lineLead, size, offset, render}
 use Rattle.meaning.specs.Entries.{entryThen}
 use Rattle.meaning.specs.FieldTable.{fitsLabel}
-use Rattle.keeps.specs.Keeps.{KeepsRules, Keeps}
+use Rattle.keeps.specs.Keeps.{IsOdd, InGroup, KeepsRules, Keeps}
 
 -- "Content bytes are 20h to FFh."
 abbrev pub NoLowByte : List ℕ → Type 0
@@ -22,6 +23,31 @@ NoLowByte c = (i : ℕ) → i < length c → leastByte ≤ getD c i 0
 -- "8100 has five digits, the sum of all line lengths of the set, its own included."
 abbrev pub sumLineOf : List Field → Field
 sumLineOf fs = field 8100 (digits 5 (size fs))
+
+-- ---- the index
+
+-- line h is the header of line k: k is in its group, or "a name line stands as header of its pair" and k is the odd label after it
+abbrev pub HeaderOf : SetType → List Field → ℕ → ℕ → Type 0
+HeaderOf t fs h k = InGroup t fs h k ⊎ ((k ≡ suc h) × IsOdd (labelAtLine fs k) × (labelAtLine fs k ≡ suc (labelAtLine fs h)))
+
+-- "One entry for each line holds label, place of its content, its length, and the header's line number, or 0 outside groups and pairs and for a header or name itself."
+pub record EntryOf (t : SetType) (fs : List Field) (k : ℕ) (e : Entry) : Type 0 where
+  pub label-is : e .label ≡ labelAtLine fs k
+  pub place-is : e .place ≡ offset fs k + lineLead
+  pub length-is : e .length ≡ length (contentAtLine fs k)
+  -- line numbers count from 1; so the number is 0 exactly if no line is the header
+  pub header-is : (h : ℕ) → (e .header ≡ suc h) ↔ HeaderOf t fs h k
+
+-- the set at the front of s has the index es, for which there is room
+pub record Indexes (s : List ℕ) (room : ℕ) (es : List Entry) : Type 0 where
+  pub set-type : SetType
+  pub lines : List Field
+  pub rest : List ℕ
+  pub keeps : Keeps s set-type lines rest
+  -- 22
+  pub has-room : length lines ≤ room
+  pub as-many : length es ≡ length lines
+  pub each : (k : ℕ) (none : Entry) → k < length lines → EntryOf set-type lines k (getD es k none)
 
 -- ---- the writer
 
