@@ -1,5 +1,5 @@
 /* correct.c: lists the lines of the set on standard input, gives one of them a new content, and prints the set that it then is.
-   correct LINE CONTENT <FILE   ends with status 1 where the set or the correction is refused; a buffer has room for 65,536 bytes. */
+   correct LINE CONTENT <FILE   ends with status 1 if the set or the correction is refused; a buffer has room for 65,536 bytes. */
 #include <stdio.h>
 #include <stdlib.h>
 #include <string.h>

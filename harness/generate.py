@@ -103,8 +103,8 @@ def room_for(r, need, enough):
 def read_case(r, call, faults):
     """judge, index and list: a set, and for the last two a room."""
     data = b"".join(set_with(r, [no for no in faults if no in SET_FAULTS]))
-    behind = follower(r) if not faults and r.random() < 0.15 else b""
-    args = {"set": data + behind if begins_set(behind) else data}
+    after = follower(r) if not faults and r.random() < 0.15 else b""
+    args = {"set": data + after if begins_set(after) else data}
     if call != "j":
         lines = data.count(b"\r\n")
         need = lines if call == "i" else len(data) - 14 - 5 * (lines - 1)

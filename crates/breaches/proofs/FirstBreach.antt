@@ -35,8 +35,11 @@ use Rattle.keeps.proofs.StateLaws.{stateAt}
 use Rattle.keeps.proofs.LackLaws.{after-all}
 use Rattle.keeps.proofs.RulesExact.{of-same, type-digits, type-named, known-type, typed, profile-typed, label-is, faultsAt, rules-each, typed-rules, labels-fine-at, faults-none}
 use Rattle.keeps.proofs.Exact.{over-cases, over-of, none-earlier, alone-of, accepted-exactly}
-use Rattle.breaches.specs.Breaches.{lineRank, SetLines, StartBreach, no-start, unknown-set, no-sum, RuleBreach, ruleNumber, always, with-value, with-8438, MissingBreach, of-set, of-group, of-name, TypedLines, Breach, no-bytes, in-line, in-start, in-rules, in-missing, in-sum, startRank, missingRank, Rank, rank, Before, rankOf, FirstBreach}
-use Rattle.breaches.proofs.FirstLine.{same-head, head-append, ask-head, refused-same, done-refused, ScanRefused, scan-refused, line-none-before, scanned-no-breach, before-stage, stage-of, sounds, wells}
+use Rattle.breaches.specs.Breaches.{lineRank, SetLines, StartBreach, no-start, unknown-set, no-sum, RuleBreach, ruleNumber, always, with-value}
+use Rattle.breaches.specs.Breaches.{with-8438, MissingBreach, of-set, of-group, of-name, TypedLines, Breach, no-bytes, in-line, in-start}
+use Rattle.breaches.specs.Breaches.{in-rules, in-missing, in-sum, startRank, missingRank, Rank, rank, Before, rankOf, FirstBreach}
+use Rattle.breaches.proofs.FirstLine.{same-head, head-append, ask-head, refused-same, done-refused, ScanRefused, scan-refused}
+use Rattle.breaches.proofs.FirstLine.{line-none-before, scanned-no-breach, before-stage, stage-of, sounds, wells}
 use Rattle.breaches.proofs.FirstRule.{RuleFirst, rule-first, FirstFault, first-fault, fine-line, behind-line}
 use Rattle.breaches.proofs.FirstMissing.{MissingFirst, in-set, in-group, in-name, missing-first}
 

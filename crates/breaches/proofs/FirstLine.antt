@@ -38,6 +38,14 @@ pub ask-head : (t : Bool) (f x : Fault) (xs : List Fault) → ask t f ≡ x ∷ 
 ask-head true f x xs e = absurd (cons≢nil (sym e))
 ask-head false f x xs e = (refl, cc)
 
+-- no faults below i, and none at i
+pub none-to-next : (faults : ℕ → List Fault) (i : ℕ) → ((j : ℕ) → j < i → faults j ≡ []) → faults i ≡ [] → (j : ℕ) → j < suc i → faults j ≡ []
+none-to-next faults i h z j l = go (le-cases j i (omega arith))
+  where
+    go : (j < i) ⊎ (j ≡ i) → faults j ≡ []
+    go (inl p) = h j p
+    go (inr p) = subst (λ (m : ℕ). faults m ≡ []) (sym p) z
+
 -- ---- what is wrong with a line, by its tests
 
 length-wrong : (s : List ℕ) → lengthOk s ≡ false → (length s < 3) ⊎ ((allDigits (take 3 s) ≡ false) ⊎ (sizeAt s < 10))
@@ -114,53 +122,25 @@ before-part n m p q i j (inl x) = absurd (omega arith)
 before-part n m p q i j (inr (e, inl x)) = absurd (omega arith)
 before-part n m p q i j (inr (e, inr (f, x))) = x
 
+-- what has part c below 6 and passed does not come before part p and byte i
+none-earlier-part : (n : ℕ) (s : List ℕ) (p i c : ℕ) → Passed n s p i → c < 6 → (c < p → ⊥) → Before (rank 1 n c 0) (rank 1 n p i) → ⊥
+none-earlier-part n s p i c h l passed x = go (before-part n n c p 0 i x)
+  where
+    part : (p ≡ 6) ⊎ (i ≡ 0) → c ≡ p → 0 < i → ⊥
+    part (inl w) u v = omega arith
+    part (inr w) u v = omega arith
+
+    go : (c < p) ⊎ ((c ≡ p) × (0 < i)) → ⊥
+    go (inl q) = passed q
+    go (inr q) = part (h .only-bytes) (q .0) (q .1)
+
 -- Each breach is held against the test that passed: it comes before part p and byte i only if its own part or byte is smaller, and then its test would have failed.
 passed-first : (n : ℕ) (s : List ℕ) (p i : ℕ) → Passed n s p i → (b : LineBreach n s) → Before (lineRank b) (rank 1 n p i) → ⊥
-passed-first n s p i h (too-many e) x = go (before-part n n 0 p 0 i x)
-  where
-    part : (p ≡ 6) ⊎ (i ≡ 0) → 0 ≡ p → 0 < i → ⊥
-    part (inl w) u v = omega arith
-    part (inr w) u v = omega arith
-
-    go : (0 < p) ⊎ ((0 ≡ p) × (0 < i)) → ⊥
-    go (inl q) = h .not-many q e
-    go (inr q) = part (h .only-bytes) (q .0) (q .1)
-passed-first n s p i h (bad-length e) x = go (before-part n n 2 p 0 i x)
-  where
-    part : (p ≡ 6) ⊎ (i ≡ 0) → 2 ≡ p → 0 < i → ⊥
-    part (inl w) u v = omega arith
-    part (inr w) u v = omega arith
-
-    go : (2 < p) ⊎ ((2 ≡ p) × (0 < i)) → ⊥
-    go (inl q) = wrong-length s (h .length-passed q) e
-    go (inr q) = part (h .only-bytes) (q .0) (q .1)
-passed-first n s p i h (cut-line e) x = go (before-part n n 3 p 0 i x)
-  where
-    part : (p ≡ 6) ⊎ (i ≡ 0) → 3 ≡ p → 0 < i → ⊥
-    part (inl w) u v = omega arith
-    part (inr w) u v = omega arith
-
-    go : (3 < p) ⊎ ((3 ≡ p) × (0 < i)) → ⊥
-    go (inl q) = omega (arith, leb-true (sizeAt s) (length s) (h .whole-passed q))
-    go (inr q) = part (h .only-bytes) (q .0) (q .1)
-passed-first n s p i h (bad-end e) x = go (before-part n n 4 p 0 i x)
-  where
-    part : (p ≡ 6) ⊎ (i ≡ 0) → 4 ≡ p → 0 < i → ⊥
-    part (inl w) u v = omega arith
-    part (inr w) u v = omega arith
-
-    go : (4 < p) ⊎ ((4 ≡ p) × (0 < i)) → ⊥
-    go (inl q) = wrong-end s (h .end-passed q) e
-    go (inr q) = part (h .only-bytes) (q .0) (q .1)
-passed-first n s p i h (bad-label e) x = go (before-part n n 5 p 0 i x)
-  where
-    part : (p ≡ 6) ⊎ (i ≡ 0) → 5 ≡ p → 0 < i → ⊥
-    part (inl w) u v = omega arith
-    part (inr w) u v = omega arith
-
-    go : (5 < p) ⊎ ((5 ≡ p) × (0 < i)) → ⊥
-    go (inl q) = no-absurd (h .label-passed q) e
-    go (inr q) = part (h .only-bytes) (q .0) (q .1)
+passed-first n s p i h (too-many e) x = none-earlier-part n s p i 0 h (omega arith) (λ q. h .not-many q e) x
+passed-first n s p i h (bad-length e) x = none-earlier-part n s p i 2 h (omega arith) (λ q. wrong-length s (h .length-passed q) e) x
+passed-first n s p i h (cut-line e) x = none-earlier-part n s p i 3 h (omega arith) (λ q. omega (arith, leb-true (sizeAt s) (length s) (h .whole-passed q))) x
+passed-first n s p i h (bad-end e) x = none-earlier-part n s p i 4 h (omega arith) (λ q. wrong-end s (h .end-passed q) e) x
+passed-first n s p i h (bad-label e) x = none-earlier-part n s p i 5 h (omega arith) (λ q. no-absurd (h .label-passed q) e) x
 passed-first n s p i h (low-byte j l e) x = go (before-part n n 6 p j i x)
   where
     go : (6 < p) ⊎ ((6 ≡ p) × (j < i)) → ⊥

@@ -17,12 +17,15 @@ use Rattle.meaning.specs.Groups.{State, first, noHeader}
 use Rattle.meaning.specs.Missing.{needed, rowsUnder, insert, ascending, missingLabel, lackingOf, lacking, among, openLacking, stays, groupsLacking}
 use Rattle.meaning.proofs.Bools.{Every}
 use Rattle.keeps.specs.Keeps.{HasRow, AtSetLevel, Required, MemberOf, IsName, GroupHas, SetComplete}
-use Rattle.keeps.proofs.TableFacts.{Paired, inside, below, above, paired, le-cases, no-absurd, label-of, name-of, Regular, row-regular, row-label, one-row, every-row, row-every}
+use Rattle.keeps.proofs.TableFacts.{Paired, inside, below, above, paired, no-absurd, label-of, name-of, Regular, row-regular, row-label, one-row, not-name-row, not-odd-row, every-row, row-every}
 use Rattle.keeps.proofs.StateLaws.{stateAt, OpenAt, Opened, open-at, at-start, behind-odd, Stands, at-set-level, in-open, behind-name, role-top, role-open, role-odd}
 use Rattle.keeps.proofs.LabelLaws.{LabelFine, alone, member-plain, all-stand, all-behind}
-use Rattle.keeps.proofs.LackLaws.{Met, HasValue, needed-required, needed-8421, needed-8437, Why, by-row, by-value, by-8438, why, into, sorted, unsorted, chosen, unchosen, conditional-label, lackAt, step-lack, end-lack, header-there, header-row-label, ClearTo, set-has, groups-have, values-have-units, has-8437-with-8438, names-have-odds, group-before, seen-group, value-group, name-open}
+use Rattle.keeps.proofs.LackLaws.{Met, HasValue, needed-required, needed-8421, needed-8437, Why, by-row, by-value, by-8438, why, into, sorted}
+use Rattle.keeps.proofs.LackLaws.{unsorted, chosen, unchosen, conditional-label, lackAt, step-lack, end-lack, header-there, header-row-label, ClearTo}
+use Rattle.keeps.proofs.LackLaws.{set-has, groups-have, values-have-units, has-8437-with-8438, names-have-odds, group-before, seen-group, value-group}
+use Rattle.keeps.proofs.LackLaws.{name-open}
 use Rattle.breaches.specs.Breaches.{RequiredIn, always, with-value, with-8438, MissingBreach, of-set, of-group, of-name, missingRank, Rank, rank, Before}
-use Rattle.breaches.proofs.FirstLine.{same-head, head-append}
+use Rattle.breaches.proofs.FirstLine.{same-head, head-append, none-to-next}
 
 -- ---- rows in the order of their labels
 
@@ -257,20 +260,13 @@ module _ (t : SetType) (fs : List Field) (fine : (k : ℕ) → k < length fs →
   }
   end-from (suc n) i x xs e h q = go (end-from n (suc i) x xs (omega arith)) (head-append (lackAt t fs i) _ x xs (sym (step-lack t fs i (omega arith)) ∙ q))
     where
-      more : lackAt t fs i ≡ [] → (j : ℕ) → j < suc i → lackAt t fs j ≡ []
-      more z j l = which (le-cases j i (omega arith))
-        where
-          which : (j < i) ⊎ (j ≡ i) → lackAt t fs j ≡ []
-          which (inl p) = h j p
-          which (inr p) = subst (λ (m : ℕ). lackAt t fs m ≡ []) (sym p) z
-
       go : (((j : ℕ) → j < suc i → lackAt t fs j ≡ []) → groupsLacking (table t) (stateAt t fs (suc i)) (suc i) (drop (suc i) (labels fs)) ≡ x ∷ xs → FirstEnd x)
           → ((ys : List Fault) × (lackAt t fs i ≡ x ∷ ys))
           ⊎ ((lackAt t fs i ≡ []) × (groupsLacking (table t) (stateAt t fs (suc i)) (suc i) (drop (suc i) (labels fs)) ≡ x ∷ xs)) → FirstEnd x
       go ih (inl p) =
           let y = lack-top i x (p .0) (omega arith) (p .1) in
           record { ends-at = i; within = omega arith; ended = inr (y .0); clear = h; others = p .0; its-lack = y .1 }
-      go ih (inr p) = ih (more (p .0)) (p .1)
+      go ih (inr p) = ih (none-to-next (lackAt t fs) i h (p .0)) (p .1)
 
   first-end : (x : Fault) (xs : List Fault) → groupsLacking (table t) first 0 (labels fs) ≡ x ∷ xs → FirstEnd x
   unfolding stateAt
@@ -417,16 +413,8 @@ module _ (t : SetType) (fs : List Field) (fine : (k : ℕ) → k < length fs →
         by-level (inl u) =
             absurd (row-regular t _ (o .top-level .0) (o .top-level .1) .not-zero (row-label t _ (o .top-level .0) (o .top-level .1) ∙ (sym (the-lack .under-it) ∙ u)))
         by-level (inr (inl u)) =
-            let c : labelAtLine fs h ≡ r .under = label-of (labelAtLine fs h) (r .under) (sym (the-lack .under-it)) (not-pair u) (not-odd u) in
+            let c : labelAtLine fs h ≡ r .under = label-of (labelAtLine fs h) (r .under) (sym (the-lack .under-it)) (not-name-row (r .under) u) (not-odd-row (r .under) u) in
             group-first (subst (λ (y : ℕ). (y ≡ 8410) ⊎ (y ≡ 6302)) (sym c) u)
-          where
-            not-pair : (r .under ≡ 8410) ⊎ (r .under ≡ 6302) → r .under ≡ 6330 → ⊥
-            not-pair (inl p) q = omega arith
-            not-pair (inr p) q = omega arith
-
-            not-odd : (r .under ≡ 8410) ⊎ (r .under ≡ 6302) → r .under ≡ 6331 → ⊥
-            not-odd (inl p) q = omega arith
-            not-odd (inr p) q = omega arith
         by-level (inr (inr u)) = name-first (name-of (labelAtLine fs h) (sym (the-lack .under-it) ∙ u))
 
   groups-first : SetComplete t fs → (x : Fault) (xs : List Fault) → groupsLacking (table t) first 0 (labels fs) ≡ x ∷ xs → MissingFirst x

@@ -19,7 +19,10 @@ use Rattle.meaning.specs.Reading.{judge}
 use Rattle.meaning.proofs.Bools.{Every}
 use Rattle.meaning.proofs.LineLaws.{Sound, field-line, drop-line}
 use Rattle.keeps.proofs.TableFacts.{ne-cases}
-use Rattle.breaches.specs.Breaches.{LineStarts, LineBreach, too-many, bad-length, cut-line, bad-end, bad-label, low-byte, lineRefusal, lineRank, SetLines, StartBreach, no-start, unknown-set, no-sum, startRefusal, startRank, MissingBreach, of-set, of-group, of-name, missingRefusal, missingRank, Breach, no-bytes, in-line, in-start, in-rules, in-missing, in-sum, refusalOf, rankOf, Rank, Before, FirstBreach}
+use Rattle.breaches.specs.Breaches.{LineStarts, LineBreach, too-many, bad-length, cut-line, bad-end, bad-label, low-byte, lineRefusal, lineRank}
+use Rattle.breaches.specs.Breaches.{SetLines, StartBreach, no-start, unknown-set, no-sum, startRefusal, startRank, MissingBreach, of-set}
+use Rattle.breaches.specs.Breaches.{of-group, of-name, missingRefusal, missingRank, Breach, no-bytes, in-line, in-start, in-rules, in-missing}
+use Rattle.breaches.specs.Breaches.{in-sum, refusalOf, rankOf, Rank, Before, FirstBreach}
 use Rattle.breaches.proofs.FirstLine.{sounds, stage-of, line-of}
 use Rattle.breaches.proofs.FirstBreach.{start-stage, missing-stage, one-list, refused-first, accepted-no-breach}
 

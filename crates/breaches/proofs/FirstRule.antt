@@ -1,5 +1,5 @@
 -- 11 to 15: the first fault of a line after lines without faults is a breach of its rule, and no rule of a smaller number is broken there.
-use mathlib.Core.Path.{_≡_, refl, sym, ap, _∙_, subst}
+use mathlib.Core.Path.{_≡_, refl, sym, ap, _∙_}
 use mathlib.Core.Bool.{Bool, true, false, cond, not, _||_, true≢false}
 use mathlib.Core.List.{List, [], _∷_, _++_, cons≢nil}
 use mathlib.Core.Logic.{_⊎_, inl, inr, _≢_}
@@ -22,12 +22,13 @@ use Rattle.meaning.specs.Rules.{fits, current, contentFaults, contentRules, lin
 use Rattle.meaning.proofs.FaultLaws.{append-none}
 use Rattle.meaning.proofs.RuleLaws.{line-fits}
 use Rattle.keeps.specs.Keeps.{HasRow, Repeats}
-use Rattle.keeps.proofs.TableFacts.{le-cases, no-absurd, one-row, row-regular, not-0, not-6330, odd-row-odd}
+use Rattle.keeps.proofs.TableFacts.{no-absurd, one-row, row-regular, not-0, not-6330, odd-row-odd}
 use Rattle.keeps.proofs.StateLaws.{roleBehind, stateAt, Behind, Stands, at-set-level, in-open, behind-name, role-top, role-open, role-odd}
-use Rattle.keeps.proofs.LabelLaws.{LabelFine, row-there, in-its-group, after-its-name, repeats-in-set, repeats-in-group, stands, open-header, open-name, again-top, again-member, again-odd, behind-fine}
+use Rattle.keeps.proofs.LabelLaws.{LabelFine, row-there, in-its-group, after-its-name, repeats-in-set, repeats-in-group, stands, open-header}
+use Rattle.keeps.proofs.LabelLaws.{open-name, repeated-top, repeated-member, repeated-odd, behind-fine}
 use Rattle.keeps.proofs.RulesExact.{typed, faultsAt, rules-step, rules-end, version-current, version-at}
-use Rattle.breaches.specs.Breaches.{Single, RuleBreach, not-in-set, stray-member, stray-odd, again-in-set, again-in-group, bad-content, other-version, ruleNumber}
-use Rattle.breaches.proofs.FirstLine.{same-head, head-append, ask-head}
+use Rattle.breaches.specs.Breaches.{Single, RuleBreach, not-in-set, stray-member, stray-odd, repeated-in-set, repeated-in-group, bad-content, other-version, ruleNumber}
+use Rattle.breaches.proofs.FirstLine.{same-head, head-append, ask-head, none-to-next}
 
 none-row : {r : Row} → _≡_ {A = Option Row} none (some r) → ⊥
 none-row e = let z : _≡_ {A = ℕ} 0 1 = cc in omega arith
@@ -39,7 +40,7 @@ module _ (t : SetType) (fs : List Field) (k : ℕ) (st : State) (inside : k < le
   record Kept (m : ℕ) : Type 0 where
     table-kept : 11 < m → (r : Row) × HasRow t (labelAtLine fs k) r
     place-kept : 12 < m → Stands t fs k st
-    once-kept : 13 < m → LabelFine t fs k st
+    not-repeated-kept : 13 < m → LabelFine t fs k st
     content-kept : 14 < m → fitsLabel (labelAtLine fs k) (contentAtLine fs k) ≡ true
     no-more : m ≤ 15
 
@@ -50,10 +51,10 @@ module _ (t : SetType) (fs : List Field) (k : ℕ) (st : State) (inside : k < le
   none-less m h (not-in-set e) l = let r = h .table-kept l in e (r .0) (r .1)
   none-less m h (stray-member i x e) l = let g = in-its-group t fs k st inside b (h .place-kept l) i x in e (g .0) (g .1) (g .2)
   none-less m h (stray-odd o e) l = let g = after-its-name t fs k st inside b (h .place-kept l) o in e (g .0) (g .1) (g .2)
-  none-less m h (again-in-set i p e a x) l =
-      not-single x (repeats-in-set t fs k st inside b (h .place-kept (omega arith)) (h .once-kept l) i p e a)
-  none-less m h (again-in-group g i p x y e z) l =
-      not-single z (repeats-in-group t fs k st inside b (h .place-kept (omega arith)) (h .once-kept l) g i p x y e)
+  none-less m h (repeated-in-set i p e a x) l =
+      not-single x (repeats-in-set t fs k st inside b (h .place-kept (omega arith)) (h .not-repeated-kept l) i p e a)
+  none-less m h (repeated-in-group g i p x y e z) l =
+      not-single z (repeats-in-group t fs k st inside b (h .place-kept (omega arith)) (h .not-repeated-kept l) g i p x y e)
   none-less m h (bad-content e) l = no-absurd (h .content-kept l) e
   none-less m h (other-version e n) l = omega (arith, h .no-more)
 
@@ -92,7 +93,7 @@ module _ (t : SetType) (fs : List Field) (k : ℕ) (st : State) (inside : k < le
         none-smaller = none-less 14 (record {
           table-kept = λ z. row-there t fs k st inside b s;
           place-kept = λ z. s;
-          once-kept = λ z. fine;
+          not-repeated-kept = λ z. fine;
           content-kept = λ z. absurd (omega arith);
           no-more = omega arith;
         });
@@ -106,7 +107,7 @@ module _ (t : SetType) (fs : List Field) (k : ℕ) (st : State) (inside : k < le
             none-smaller = none-less 15 (record {
               table-kept = λ z. row-there t fs k st inside b s;
               place-kept = λ z. s;
-              once-kept = λ z. fine;
+              not-repeated-kept = λ z. fine;
               content-kept = λ z. p;
               no-more = omega arith;
             });
@@ -116,7 +117,7 @@ module _ (t : SetType) (fs : List Field) (k : ℕ) (st : State) (inside : k < le
   placed s = record {
     table-kept = λ z. row-there t fs k st inside b s;
     place-kept = λ z. s;
-    once-kept = λ z. absurd (omega arith);
+    not-repeated-kept = λ z. absurd (omega arith);
     content-kept = λ z. absurd (omega arith);
     no-more = omega arith;
   }
@@ -125,7 +126,7 @@ module _ (t : SetType) (fs : List Field) (k : ℕ) (st : State) (inside : k < le
   known r h = record {
     table-kept = λ z. (r, h);
     place-kept = λ z. absurd (omega arith);
-    once-kept = λ z. absurd (omega arith);
+    not-repeated-kept = λ z. absurd (omega arith);
     content-kept = λ z. absurd (omega arith);
     no-more = omega arith;
   }
@@ -134,7 +135,7 @@ module _ (t : SetType) (fs : List Field) (k : ℕ) (st : State) (inside : k < le
   unasked = record {
     table-kept = λ z. absurd (omega arith);
     place-kept = λ z. absurd (omega arith);
-    once-kept = λ z. absurd (omega arith);
+    not-repeated-kept = λ z. absurd (omega arith);
     content-kept = λ z. absurd (omega arith);
     no-more = omega arith;
   }
@@ -154,8 +155,8 @@ module _ (t : SetType) (fs : List Field) (k : ℕ) (st : State) (inside : k < le
       go (inl q) =
           let a = ask-head (r .many || not (elem (r .label) (st .top))) (atLine repeated k (labelAtLine fs k)) x (q .0) (q .1) in
           let m = seen-single r (st .top) (a .0) in
-          let g = again-top t fs k st r b h u (m .0) (m .1) in
-          record { breach = again-in-set (g .0) (g .1) (g .2) (r, h, u) (r, h, m .0); is = a .1; none-smaller = none-less 13 (placed s) }
+          let g = repeated-top t fs k st r b h u (m .0) (m .1) in
+          record { breach = repeated-in-set (g .0) (g .1) (g .2) (r, h, u) (r, h, m .0); is = a .1; none-smaller = none-less 13 (placed s) }
       go (inr q) = content-first x xs s (rw (role-top t fs k st r h u) (q .0)) (q .1)
 
   open-first : (x : Fault) (xs : List Fault) (r : Row) → HasRow t (labelAtLine fs k) r → (r .under ≡ 8410) ⊎ (r .under ≡ 6302) → st .header ≡ r .under
@@ -172,8 +173,8 @@ module _ (t : SetType) (fs : List Field) (k : ℕ) (st : State) (inside : k < le
       go (inl q) =
           let a = ask-head (r .many || not (elem (r .label) (st .members))) (atLine repeated k (labelAtLine fs k)) x (q .0) (q .1) in
           let m = seen-single r (st .members) (a .0) in
-          let g = again-member t fs k st r inside b h u o (m .1) in
-          record { breach = again-in-group (g .0) (g .1) (g .2) (g .3) (g .4) (g .5) (r, h, m .0); is = a .1; none-smaller = none-less 13 (placed s) }
+          let g = repeated-member t fs k st r inside b h u o (m .1) in
+          record { breach = repeated-in-group (g .0) (g .1) (g .2) (g .3) (g .4) (g .5) (r, h, m .0); is = a .1; none-smaller = none-less 13 (placed s) }
       go (inr q) = content-first x xs s (rw (role-open t fs k st r h u o) (q .0)) (q .1)
 
   odd-first : (x : Fault) (xs : List Fault) (r : Row) → HasRow t (labelAtLine fs k) r → r .under ≡ 6330 → st .header + 1 ≡ labelAtLine fs k
@@ -189,7 +190,7 @@ module _ (t : SetType) (fs : List Field) (k : ℕ) (st : State) (inside : k < le
           ⊎ ((repeatedFaults r (st .members) k (labelAtLine fs k) ≡ []) × (contentFaults (typed t) k (getD fs k noField) ≡ x ∷ xs)) → RuleFirst x
       go (inl q) =
           let a = ask-head (r .many || not (elem (r .label) (st .members))) (atLine repeated k (labelAtLine fs k)) x (q .0) (q .1) in
-          absurd (again-odd t fs k st r b h u o (seen-single r (st .members) (a .0) .1))
+          absurd (repeated-odd t fs k st r b h u o (seen-single r (st .members) (a .0) .1))
       go (inr q) = content-first x xs s (rw (role-odd t fs k st r h u o) (q .0)) (q .1)
 
   stray-first : (x : Fault) (r : Row) → HasRow t (labelAtLine fs k) r → (c : RuleBreach t fs k) → ruleNumber c ≡ stray → x ≡ atLine stray k (labelAtLine fs k) → RuleFirst x
@@ -256,18 +257,11 @@ module _ (t : SetType) (fs : List Field) where
   first-from zero i x xs e h q = absurd (cons≢nil (sym q ∙ rules-end t fs i (omega arith)))
   first-from (suc n) i x xs e h q = go (first-from n (suc i) x xs (omega arith)) (head-append (faultsAt t fs i) _ x xs (sym (rules-step t fs i (omega arith)) ∙ q))
     where
-      more : faultsAt t fs i ≡ [] → (j : ℕ) → j < suc i → faultsAt t fs j ≡ []
-      more z j l = which (le-cases j i (omega arith))
-        where
-          which : (j < i) ⊎ (j ≡ i) → faultsAt t fs j ≡ []
-          which (inl p) = h j p
-          which (inr p) = subst (λ (m : ℕ). faultsAt t fs m ≡ []) (sym p) z
-
       go : (((j : ℕ) → j < suc i → faultsAt t fs j ≡ []) → rulesFrom (typed t) (stateAt t fs (suc i)) (suc i) (drop (suc i) fs) ≡ x ∷ xs → FirstFault x)
           → ((ys : List Fault) × (faultsAt t fs i ≡ x ∷ ys))
           ⊎ ((faultsAt t fs i ≡ []) × (rulesFrom (typed t) (stateAt t fs (suc i)) (suc i) (drop (suc i) fs) ≡ x ∷ xs)) → FirstFault x
       go ih (inl p) = record { at-line = i; inside = omega arith; before-fine = h; others = p .0; its-faults = p .1 }
-      go ih (inr p) = ih (more (p .0)) (p .1)
+      go ih (inr p) = ih (none-to-next (faultsAt t fs) i h (p .0)) (p .1)
 
   pub first-fault : (x : Fault) (xs : List Fault) → rulesFrom (typed t) first 0 fs ≡ x ∷ xs → FirstFault x
   unfolding stateAt
@@ -301,7 +295,7 @@ module _ (t : SetType) (fs : List Field) where
       no-breach j p b s fine q v (not-in-set e) = let r = row-there t fs j (stateAt t fs j) p b s in e (r .0) (r .1)
       no-breach j p b s fine q v (stray-member i x e) = let g = in-its-group t fs j (stateAt t fs j) p b s i x in e (g .0) (g .1) (g .2)
       no-breach j p b s fine q v (stray-odd o e) = let g = after-its-name t fs j (stateAt t fs j) p b s o in e (g .0) (g .1) (g .2)
-      no-breach j p b s fine q v (again-in-set i x e a y) = not-single t fs j (stateAt t fs j) p b y (repeats-in-set t fs j (stateAt t fs j) p b s fine i x e a)
-      no-breach j p b s fine q v (again-in-group g i x y z e w) =
+      no-breach j p b s fine q v (repeated-in-set i x e a y) = not-single t fs j (stateAt t fs j) p b y (repeats-in-set t fs j (stateAt t fs j) p b s fine i x e a)
+      no-breach j p b s fine q v (repeated-in-group g i x y z e w) =
           not-single t fs j (stateAt t fs j) p b w (repeats-in-group t fs j (stateAt t fs j) p b s fine g i x y z e)
       no-breach j p b s fine q v (bad-content e) = no-absurd q e

@@ -16,7 +16,8 @@ use Rattle.meaning.specs.Lines.{lengthDigits, labelDigits, lineLead, cr, lf, mi
 use Rattle.meaning.specs.Tables.{single}
 use Rattle.meaning.specs.Kinds.{point}
 use Rattle.meaning.specs.FieldTable.{fitsLabel}
-use Rattle.meaning.specs.Refusals.{refusal, empty, badLength, cutLine, badEnd, badLabel, badByte, tooManyLines, noStart, unknownSet, noSum, notInSet, stray, repeated, badContent, otherVersion, missing, badSum}
+use Rattle.meaning.specs.Refusals.{refusal, empty, badLength, cutLine, badEnd, badLabel, badByte, tooManyLines, noStart, unknownSet, noSum, notInSet}
+use Rattle.meaning.specs.Refusals.{stray, repeated, badContent, otherVersion, missing, badSum}
 use Rattle.keeps.specs.Keeps.{LinesWellFormed, StartsSet, EndsBefore, HasRow, AtSetLevel, Required, MemberOf, IsName, IsOdd, InGroup, GroupHas}
 
 -- ---- 2 to 7: a line that starts after the lines fs
@@ -74,9 +75,9 @@ pub data RuleBreach (t : SetType) (fs : List Field) (k : ℕ) : Type 0 where
   -- "or odd label not after its name"
   stray-odd : IsOdd (labelAtLine fs k) → ((j : ℕ) → k ≡ suc j → labelAtLine fs k ≡ suc (labelAtLine fs j) → ⊥) → RuleBreach t fs k
   -- "single label again in the set"
-  again-in-set : (i : ℕ) → i < k → labelAtLine fs i ≡ labelAtLine fs k → AtSetLevel t (labelAtLine fs k) → Single t (labelAtLine fs k) → RuleBreach t fs k
+  repeated-in-set : (i : ℕ) → i < k → labelAtLine fs i ≡ labelAtLine fs k → AtSetLevel t (labelAtLine fs k) → Single t (labelAtLine fs k) → RuleBreach t fs k
   -- "or its group"
-  again-in-group : (h i : ℕ) → i < k → InGroup t fs h i → InGroup t fs h k → labelAtLine fs i ≡ labelAtLine fs k → Single t (labelAtLine fs k) → RuleBreach t fs k
+  repeated-in-group : (h i : ℕ) → i < k → InGroup t fs h i → InGroup t fs h k → labelAtLine fs i ≡ labelAtLine fs k → Single t (labelAtLine fs k) → RuleBreach t fs k
   -- "content breaks length, kind or rule"
   bad-content : fitsLabel (labelAtLine fs k) (contentAtLine fs k) ≡ false → RuleBreach t fs k
   -- "9218 .. not 02.10"
@@ -131,8 +132,8 @@ abbrev pub ruleNumber : {t : SetType} {fs : List Field} {k : ℕ} → RuleBreach
 ruleNumber (not-in-set e) = notInSet
 ruleNumber (stray-member h m e) = stray
 ruleNumber (stray-odd o e) = stray
-ruleNumber (again-in-set i l e a b) = repeated
-ruleNumber (again-in-group h i l g f e b) = repeated
+ruleNumber (repeated-in-set i l e a b) = repeated
+ruleNumber (repeated-in-group h i l g f e b) = repeated
 ruleNumber (bad-content e) = badContent
 ruleNumber (other-version e n) = otherVersion
 

@@ -6,11 +6,11 @@ use lib.ListN.{getD}
 use lib.Dec.{leb}
 use Rattle.meaning.specs.Lines.{leastByte}
 
--- so many bytes are tested at once
+-- this many bytes are tested at once
 abbrev pub block : ℕ
 block = 8
 
--- the offset of the first byte under 20h among the k bytes at an offset, or the offset behind them
+-- the offset of the first byte under 20h among the k bytes at an offset, or the offset after them
 unfoldable pub firstLow : List ℕ → ℕ → ℕ → ℕ
 firstLow s at zero = at
 firstLow s at (suc k) = cond (leb leastByte (getD s at 0)) (firstLow s (at + 1) k) at

@@ -10,7 +10,7 @@ ghost use Rattle.byte_low.specs.Low.{block, firstLow};
 // "Content bytes are 20h to FFh."
 pub const LEAST_BYTE: u8 = 32;
 
-// So many bytes are tested at once; in a long content more, in a short one fewer.
+// This many bytes are tested at once; in a long content more, in a short one fewer.
 const BLOCK: usize = 8;
 
 const WIDE_BLOCK: usize = 4 * BLOCK;
@@ -31,7 +31,7 @@ fn clean(s: &[u8], at: usize, k: usize) -> bool
     fit
 }
 
-// The offset of the first byte under 20h among the k bytes at an offset, or the offset behind them.
+// The offset of the first byte under 20h among the k bytes at an offset, or the offset after them.
 pub fn seek_low(s: &[u8], at: usize, k: usize) -> usize
     requires { ⌜ at + k ≤ length (now s) ⌝ }
     ensures { λ r. ⌜ r ≡ firstLow (now (s .entry)) at k ⌝ }

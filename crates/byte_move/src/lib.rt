@@ -1,5 +1,5 @@
 // Bytes moved inside a lent buffer.
-// Assumes of each call that both places lie within the buffer: only another crate here calls it, and proves that. The contract tells every byte of the buffer afterwards.
+// Assumes of each call that both places lie within the buffer: only another crate here calls it, and proves that. The contract says every byte of the buffer afterwards.
 ghost use mathlib.Core.Path.{_≡_};
 ghost use Prim.Native.Nat.{_+_, _≤_};
 ghost use lib.ListN.{length};

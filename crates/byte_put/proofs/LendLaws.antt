@@ -1,4 +1,4 @@
--- What a caller has of a buffer: bytes put behind bytes that stand, and the part `&mut b[a..]`, lent and come back.
+-- What a caller has of a buffer: bytes put after bytes that stand, and the part `&mut b[a..]`, lent and come back.
 use mathlib.Core.Path.{_≡_, refl}
 use mathlib.Core.List.{List, _++_, append-nil}
 use Prim.Native.Nat.{ℕ, _+_, _-_, _≤_}
@@ -8,10 +8,10 @@ use lib.Seq.{take-all, take-at, drop-append-add, length-take-le}
 use borrow.Rule.Slice.PartMut.{midOf, putMid}
 use Rattle.byte_put.specs.Places.{over}
 
--- bytes put right behind those of p
-pub over-behind : (p x r : List ℕ) (at : ℕ) → length p ≡ at → over at x (p ++ r) ≡ p ++ (x ++ drop (length x) r)
+-- bytes put right after those of p
+pub over-after : (p x r : List ℕ) (at : ℕ) → length p ≡ at → over at x (p ++ r) ≡ p ++ (x ++ drop (length x) r)
 unfolding over
-over-behind p x r at e =
+over-after p x r at e =
     rw (take-at p r at e, ← e, drop-append-add p r (length x)) refl
 
 pub length-over : (x b : List ℕ) (at : ℕ) → at + length x ≤ length b → length (over at x b) ≡ length b

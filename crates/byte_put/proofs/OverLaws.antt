@@ -1,4 +1,4 @@
--- Bytes put into a buffer one behind the other, into a part of it that is lent, and zeros behind them.
+-- Bytes put into a buffer one after the other, into a part of it that is lent, and zeros after them.
 use mathlib.Core.Path.{_≡_, sym, ap, ap₂, _∙_, subst}
 use mathlib.Core.List.{List, [], _++_, append-assoc}
 use Prim.Native.Nat.{ℕ, _+_, _-_, _≤_}
@@ -15,7 +15,7 @@ pub over-none : (b : List ℕ) (to : ℕ) → b ≡ over to [] b
 unfolding over
 over-none b to = rw (add-zero to, take-append-drop to b)
 
--- one behind the other
+-- one after the other
 pub over-then : (b : List ℕ) (to : ℕ) (x y : List ℕ) → to + length (x ++ y) ≤ length b → over (to + length x) y (over to x b) ≡ over to (x ++ y) b
 unfolding over
 over-then b to x y h =
@@ -33,34 +33,34 @@ over-then b to x y h =
     ∙ (append-assoc (take to b) x (y ++ drop (to + length (x ++ y)) b) ∙ ap (λ (u : List ℕ). take to b ++ u) (sym (append-assoc x y (drop (to + length (x ++ y)) b))))
 
 -- A loop that puts piece after piece: what is left to put is always what was left, with the piece that was put.
-pub record Turned (out out′ all behind : List ℕ) (to to′ : ℕ) : Type 0 where
+pub record Turned (out out′ all later : List ℕ) (to to′ : ℕ) : Type 0 where
   pub same-room : length out′ ≡ length out
-  pub has-room : to′ + length behind ≤ length out′
-  pub same : over to′ behind out′ ≡ over to all out
+  pub has-room : to′ + length later ≤ length out′
+  pub same : over to′ later out′ ≡ over to all out
 
-module _ (out : List ℕ) (to : ℕ) (all here behind : List ℕ) (both : all ≡ here ++ behind) (g : to + length all ≤ length out) where
-  fits-both : to + length (here ++ behind) ≤ length out
+module _ (out : List ℕ) (to : ℕ) (all here later : List ℕ) (both : all ≡ here ++ later) (g : to + length all ≤ length out) where
+  fits-both : to + length (here ++ later) ≤ length out
   fits-both = subst (λ (u : List ℕ). to + length u ≤ length out) both g
 
   pub here-fits : to + length here ≤ length out
-  here-fits = omega (arith, fits-both, length-append here behind)
+  here-fits = omega (arith, fits-both, length-append here later)
 
-  pub turned : (to′ : ℕ) (out′ : List ℕ) → to′ ≡ to + length here → out′ ≡ over to here out → Turned out out′ all behind to to′
+  pub turned : (to′ : ℕ) (out′ : List ℕ) → to′ ≡ to + length here → out′ ≡ over to here out → Turned out out′ all later to to′
   turned to′ out′ a b =
       let r : length out′ ≡ length out = ap length b ∙ length-over here out to here-fits in
       record {
         same-room = r;
-        has-room = omega (arith, fits-both, length-append here behind, a, r);
-        same = ap₂ (λ (x : ℕ) (u : List ℕ). over x behind u) a b ∙ (over-then out to here behind fits-both ∙ ap (λ (u : List ℕ). over to u out) (sym both));
+        has-room = omega (arith, fits-both, length-append here later, a, r);
+        same = ap₂ (λ (x : ℕ) (u : List ℕ). over x later u) a b ∙ (over-then out to here later fits-both ∙ ap (λ (u : List ℕ). over to u out) (sym both));
       }
 
--- what a loan of the part from an offset on leaves, where x was put at its front
+-- what a loan of the part from an offset on leaves, if x was put at its front
 pub over-lent : (b y : List ℕ) (to : ℕ) (x : List ℕ) → y ≡ x ++ drop (length x) (midOf to (length b - to) b) → putMid to (length b - to) b y ≡ over to x b
 unfolding over
 over-lent b y to x e =
     put-tail b y to ∙ ap (λ (u : List ℕ). take to b ++ u) (e ∙ ap (λ (u : List ℕ). x ++ u) (ap (drop (length x)) (mid-tail b to) ∙ drop-drop (length x) to b))
 
--- what was put at the front, and zeros in the part behind it
+-- what was put at the front, and zeros in the part after it
 pub front-then-zeros : (b b′ y x : List ℕ) (n : ℕ) → b′ ≡ over 0 x b → n ≡ length x → y ≡ replicate (length (midOf n (length b′ - n) b′)) 0
     → putMid n (length b′ - n) b′ y ≡ x ++ replicate (length b - length x) 0
 unfolding over

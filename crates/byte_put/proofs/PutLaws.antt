@@ -18,7 +18,7 @@ pub digits-none : (b : List ℕ) (at left : ℕ) → over at (digits 0 left) b �
 unfolding over
 digits-none b at left = rw (add-zero at) (take-append-drop at b)
 
--- behind a byte stored at an offset stands what stood there
+-- after a byte that is stored at an offset stands what stood there
 drop-stored : (b : List ℕ) (i x : ℕ) → i < length b → drop i (set b i x) ≡ x ∷ drop (suc i) b
 drop-stored b i x h =
     ap (drop i) (set-split b i x h) ∙ drop-at (take i b) (x ∷ drop (suc i) b) i (length-take-le i b (omega arith))
@@ -79,7 +79,7 @@ block-put k src dst h g =
     sets-eq (bytesOf k src 0) dst 0 (omega (arith, n))
     ∙ ap₂ (λ (u : List ℕ) (m : ℕ). u ++ drop m dst) (bytes-are k src 0 (omega arith)) n
 
--- ---- a copy made of blocks: the last one first, then one behind the other from the front on
+-- ---- a copy made of blocks: the last one first, then one after the other from the front on
 
 -- a block of k bytes, put into the part from an offset on that is lent
 pub lent-block : (src b y : List ℕ) (i k : ℕ) → y ≡ take k (midOf i (length src - i) src) ++ drop k (midOf i (length b - i) b)
@@ -101,7 +101,7 @@ length-block src b y i k e h g =
       length-drop (i + k) b,
     )
 
--- a block more, where i bytes are copied
+-- a block more, after i bytes that are copied
 pub block-turn : (src d b y : List ℕ) (i k : ℕ) → b ≡ take i src ++ drop i d → i ≤ length src
     → y ≡ take k (midOf i (length src - i) src) ++ drop k (midOf i (length b - i) b) → putMid i (length b - i) b y ≡ take (i + k) src ++ drop (i + k) d
 block-turn src d b y i k q h e =
@@ -113,7 +113,7 @@ block-turn src d b y i k q h e =
     ∙ (ap₂ (λ (u v : List ℕ). u ++ (take k (drop i src) ++ v)) t r
     ∙ (sym (append-assoc (take i src) (take k (drop i src)) (drop (i + k) d)) ∙ ap (λ (u : List ℕ). u ++ drop (i + k) d) (sym (take-add i k src))))
 
--- where the copies from the front on reach the last block, all is copied
+-- if the copies from the front on reach the last block, all is copied
 pub blocks-all : (src d b : List ℕ) (last k i : ℕ) → last + k ≡ length src → length src ≤ length d
     → b ≡ take last d ++ (take k (drop last src) ++ drop (last + k) d) → last ≤ i → i ≤ length src → take i src ++ drop i b ≡ src ++ drop (length src) d
 blocks-all src d b last k i e h q lo hi =

@@ -1,5 +1,5 @@
 // Bytes put into a lent buffer: digits of a number, a copy, and zeros.
-// Assumes of each call that what it puts lies within the buffer: only other crates here call it, and they prove that. The contract tells every byte of the buffer afterwards.
+// Assumes of each call that what it puts lies within the buffer: only other crates here call it, and they prove that. The contract says every byte of the buffer afterwards.
 ghost use mathlib.Core.Path.{_≡_};
 ghost use mathlib.Core.List.{_++_};
 ghost use Prim.Native.Nat.{_+_, _≤_};

@@ -90,7 +90,7 @@ two-heads [] h = absurd (omega (arith, h .second-five))
 two-heads (f ∷ []) h = absurd (omega (arith, h .second-five))
 two-heads (f ∷ g ∷ fs) h = omega (arith, h .first-four, h .second-five)
 
--- what is then asked of the buffer, what is answered, and what the buffer then holds
+-- what the buffer must then have room for, what is answered, and what the buffer then holds
 pub record Makes (b c : List ℕ) (used n place old total : ℕ) : Type 0 where
   pub within : place + lineLead + old ≤ used
   pub total-so : total ≡ newTotal old c used

@@ -13,7 +13,7 @@ use Rattle.meaning.specs.Corrections.{recontent, resum}
 use Rattle.meaning.proofs.LineLaws.{length-line, length-render, render-split}
 use Rattle.meaning.proofs.CorrectionLaws.{leaves}
 use Rattle.byte_put.specs.Places.{over}
-use Rattle.byte_put.proofs.LendLaws.{over-behind}
+use Rattle.byte_put.proofs.LendLaws.{over-after}
 use Rattle.correct_put.specs.Middle.{replaced, newTotal, sumPlace, recontented}
 use Rattle.correct_plan.proofs.TotalLaws.{Headed, size-at, total-is}
 
@@ -35,7 +35,7 @@ replaced-between a o r t c at old used la lo lu =
 line-append : (f : Field) (p t : List ℕ) → lineThen f (p ++ t) ≡ lineThen f p ++ t
 line-append f p t = rw (append-assoc (f .content) (13 ∷ 10 ∷ p) t)
 
--- the lines before it, the line, and those behind it
+-- the lines before it, the line, and those after it
 render-at : (fs : List Field) (k : ℕ) (t : List ℕ) → k < length fs
     → render fs t ≡ render (take k fs) [] ++ lineThen (getD fs k noField) (render (drop (suc k) fs) t)
 render-at [] k t h = absurd (omega arith)
@@ -53,7 +53,7 @@ render-set (f ∷ fs) (suc k) g t h =
     ap (lineThen f) (render-set fs k g t (omega arith))
     ∙ line-append f (render (take k fs) []) (lineThen g (render (drop (suc k) fs) t))
 
--- the content of a line replaced, and its length: the bytes p stand before the line, and t behind the u bytes that are lines
+-- the content of a line replaced, and its length: the bytes p stand before the line, and t after the u bytes that are lines
 line-replaced : (p u t c : List ℕ) (f : Field) (place used : ℕ) → length p ≡ place → used ≡ place + lineSize f + length u
     → over place (digits lengthDigits (length c + (lineLead + lineEnd)))
     (replaced (place + lineLead) (length (f .content)) c used (p ++ lineThen f (u ++ t)))
@@ -76,9 +76,9 @@ line-replaced p u t c f place used lp lu =
     ∙ ap (λ (m : ℕ). a ++ (c ++ (r ++ replicate m 0))) n
     ∙ append-assoc p (three ++ four) (c ++ (r ++ z)) in
     ap (over place (digits lengthDigits (length c + (lineLead + lineEnd)))) q
-    ∙ over-behind p (digits lengthDigits (length c + (lineLead + lineEnd))) (three ++ (four ++ (c ++ (r ++ z)))) place lp
+    ∙ over-after p (digits lengthDigits (length c + (lineLead + lineEnd))) (three ++ (four ++ (c ++ (r ++ z)))) place lp
 
--- ---- the sum, behind line 1 with its four digits
+-- ---- the sum, after line 1 with its four digits
 sum-replaced : (f g : Field) (fs : List Field) (t : List ℕ) (n : ℕ) → length (f .content) ≡ 4 → length (g .content) ≡ sumDigits → g .label ≡ 8100
     → over sumPlace (digits sumDigits n) (render (f ∷ g ∷ fs) t) ≡ render (f ∷ sumField n ∷ fs) t
 sum-replaced f g fs t n lf lg e =
@@ -90,7 +90,7 @@ sum-replaced f g fs t n lf lg e =
     let s : render (f ∷ g ∷ fs) t ≡ p ++ (g .content ++ r) =
     ap (λ (x : List ℕ). lineThen f (x ++ (g .content ++ r))) l ∙ line-append f lead′ (g .content ++ r) in
     ap (over sumPlace (digits sumDigits n)) s
-    ∙ over-behind p (digits sumDigits n) (g .content ++ r) sumPlace (length-line f lead′ ∙ omega arith)
+    ∙ over-after p (digits sumDigits n) (g .content ++ r) sumPlace (length-line f lead′ ∙ omega arith)
     ∙ ap (λ (x : List ℕ). p ++ (digits sumDigits n ++ x)) (drop-at (g .content) r (length (digits sumDigits n)) lg)
     ∙ sym (line-append f lead′ (digits sumDigits n ++ r))
 

@@ -26,21 +26,21 @@ use Rattle.meaning.proofs.SetLaws.{accepted}
 use Rattle.meaning.proofs.CorrectionLaws.{Change, change}
 use Rattle.byte_low.specs.Low.{firstLow}
 use Rattle.line_read.specs.Told.{toldLength, toldLabel}
-use Rattle.line_read.proofs.Bridge.{read-line}
+use Rattle.line_read.proofs.LineMeaning.{read-line}
 use Rattle.line_read.proofs.ToldLaws.{read-told}
 use Rattle.correct_offer.specs.declared.OneLine.{OneLine}
 use Rattle.correct_offer.specs.declared.Offer.{Offer}
-use Rattle.correct_offer.specs.Offered.{oneLine, lineFrom, lineAfter, told, behindAll, offeredTo, offered, offerLine, offerSpot, offerFaults}
+use Rattle.correct_offer.specs.Offered.{oneLine, lineFrom, lineAfter, against, afterAll, offeredTo, offered, offerLine, offerSpot, offerFaults}
 
 -- ---- where a line stands
 
--- a line that is written tells its label and the length of its content
+-- a line that is written gives its label and the length of its content
 written-told : (s : List ℕ) (at : ℕ) (f : Field) (t : List ℕ) → drop at s ≡ lineThen f t → Sound f → (toldLength s at ≡ length (f .content)) × (toldLabel s at ≡ f .label)
 written-told s at f t w h =
     let r = read-told s at (read-line s at f t w h) in
     (r .0 ∙ omega arith, r .1)
 
--- the line that k of the lines fs stand before, where these are written from offset `at` on
+-- the line after k of the lines fs, which are written from offset `at` on
 line-from-is : (s : List ℕ) (fs : List Field) (t : List ℕ) (at k : ℕ) → Every Sound fs → drop at s ≡ render fs t → k < length fs
     → lineFrom s at k ≡ oneLine (labelAtLine fs k) (at + offset fs k) (lineSize (getD fs k noField))
 unfolding lineFrom
@@ -131,7 +131,7 @@ first-low c k (suc m) a e = rw (byte-then c a (omega arith)) (go (leb leastByte 
 
 -- ---- the first fault of a change
 
--- 20, 6, 14, where the line is there
+-- 20, 6, 14, if the line is there
 to-is : (x : OneLine) (c : List ℕ) (lines n : ℕ)
     → take 1 (ask (not (fixed (x .label))) (atLine fixedLine (pred n) (x .label))
     ++ (lowBytes (pred n) 0 c ++ ask (fitsLabel (x .label) c) (atLine badContent (pred n) (x .label))))
@@ -150,14 +150,14 @@ to-is x c lines n =
 
     go : (a b f : Bool)
         → cond (not a) (cond b (cond f [] (atLine badContent (pred n) (x .label) ∷ [])) (atByte badByte (pred n) low ∷ [])) (atLine fixedLine (pred n) (x .label) ∷ [])
-        ≡ (let o = cond a (told fixedLine 0 (x .label) x) (cond b (cond f (told 0 0 0 x) (told badContent 0 (x .label) x)) (told badByte low 0 x)) in
+        ≡ (let o = cond a (against fixedLine 0 (x .label) x) (cond b (cond f (against 0 0 0 x) (against badContent 0 (x .label) x)) (against badByte low 0 x)) in
         cond (eqb (o .no) 0) [] (record { no = o .no; line = offerLine o lines n; spot = offerSpot o; label = o .label } ∷ []))
     go true b f = refl
     go false false f = refl
     go false true true = refl
     go false true false = refl
 
--- What an offer tells is the first fault of a change to that line.
+-- What an offer answers is the first fault of a change to that line.
 pub offer-is : (s : List ℕ) (d : Parsed) (n : ℕ) (c : List ℕ) → read s ≡ done d
     → take 1 (changeFaults (d .fields) n c) ≡ offerFaults (offered s (shape (d .fields)) n c) (length (d .fields)) n
 unfolding changeFaults offered offerFaults fits
@@ -172,7 +172,7 @@ offer-is s d n c e = go (leb 1 n && leb n (length fs)) refl
 
     go : (b : Bool) → leb 1 n && leb n (length fs) ≡ b
         → take 1 (ask b (atLine noSuchLine (length fs) 0) ++ more)
-        ≡ offerFaults (cond b (offeredTo (lineAfter s (pred n)) c) (told noSuchLine 0 0 (behindAll (size fs)))) (length fs) n
+        ≡ offerFaults (cond b (offeredTo (lineAfter s (pred n)) c) (against noSuchLine 0 0 (afterAll (size fs)))) (length fs) n
     go true q =
         let lo : 1 ≤ n = leb-true 1 n (and-left (leb 1 n) _ q) in
         let hi : n ≤ length fs = leb-true n (length fs) (and-right (leb 1 n) _ q) in
@@ -207,7 +207,7 @@ first-none : (xs : List Fault) → take 1 xs ≡ [] → xs ≡ []
 first-none [] e = refl
 first-none (x ∷ xs) e = absurd (cons≢nil e)
 
--- whatever is told of a content, the line is the same, and it is not 19
+-- whatever speaks against a content, the line is the same, and it is not 19
 record SameLine (x : OneLine) (o : Offer) : Type 0 where
   same-at : o .at ≡ x .at
   same-size : o .size ≡ x .size
@@ -218,8 +218,8 @@ unfolding offeredTo
 to-same x c = go (fixed (x .label)) (leb (length c) (firstLow c 0 (length c))) (fitsLabel (x .label) c)
   where
     go : (a b f : Bool)
-        → SameLine x (cond a (told fixedLine 0 (x .label) x)
-        (cond b (cond f (told 0 0 0 x) (told badContent 0 (x .label) x)) (told badByte (firstLow c 0 (length c)) 0 x)))
+        → SameLine x (cond a (against fixedLine 0 (x .label) x)
+        (cond b (cond f (against 0 0 0 x) (against badContent 0 (x .label) x)) (against badByte (firstLow c 0 (length c)) 0 x)))
     go true b f = record { same-at = refl; same-size = refl; there = refl }
     go false false f = record { same-at = refl; same-size = refl; there = refl }
     go false true true = record { same-at = refl; same-size = refl; there = refl }
@@ -233,7 +233,7 @@ to-line : (s : List ℕ) (x : Shape) (n : ℕ) (c : List ℕ) → 1 ≤ n → n 
 unfolding offered
 to-line s x n c lo hi = rw (le-leb 1 n lo, le-leb n (x .lines) hi)
 
--- the byte that is told stands in the content
+-- the byte of an offer stands in the content
 pub offer-byte : (s : List ℕ) (x : Shape) (n : ℕ) (c : List ℕ) → offered s x n c .byte ≤ length c
 unfolding offered offeredTo
 offer-byte s x n c = go (leb 1 n && leb n (x .lines)) (fixed (y .label)) (leb (length c) low) refl (fitsLabel (y .label) c)
@@ -245,15 +245,15 @@ offer-byte s x n c = go (leb 1 n && leb n (x .lines)) (fixed (y .label)) (leb (l
     low = firstLow c 0 (length c)
 
     go : (t a b : Bool) → leb (length c) low ≡ b → (f : Bool)
-        → cond t (cond a (told fixedLine 0 (y .label) y) (cond b (cond f (told 0 0 0 y) (told badContent 0 (y .label) y)) (told badByte low 0 y)))
-        (told noSuchLine 0 0 (behindAll (x .length))) .byte ≤ length c
+        → cond t (cond a (against fixedLine 0 (y .label) y) (cond b (cond f (against 0 0 0 y) (against badContent 0 (y .label) y)) (against badByte low 0 y)))
+        (against noSuchLine 0 0 (afterAll (x .length))) .byte ≤ length c
     go false a b e f = omega arith
     go true true b e f = omega arith
     go true false true e true = omega arith
     go true false true e false = omega arith
     go true false false e f = omega (arith, leb-false (length c) low e)
 
--- such an offer asks for a change, and tells where its line stands
+-- if nothing speaks against the content, the change is right, and the offer has the place and the size of the line
 pub offer-good : (s : List ℕ) (d : Parsed) (n : ℕ) (c : List ℕ) → read s ≡ done d → let o = offered s (shape (d .fields)) n c in
     o .no ≡ 0 → Change (d .fields) n c × Stands s (d .fields) (pred n) (labelAtLine (d .fields) (pred n)) (o .at) (o .size)
 offer-good s d n c e q =
@@ -264,7 +264,7 @@ offer-good s d n c e q =
     let same = to-same x c in
     (ch, rw (to-line s (shape fs) n c (ch .least) (ch .most), same .same-at, same .same-size) (subst (λ (l : ℕ). Stands s fs (pred n) l (x .at) (x .size)) (st .label-so) st))
 
--- for 19 the place told is the set's length, else where the line stands
+-- for 19 the place is the set's length, else where the line stands
 pub offer-at : (s : List ℕ) (d : Parsed) (n : ℕ) (c : List ℕ) → read s ≡ done d → let o = offered s (shape (d .fields)) n c in
     o .at ≡ offset (d .fields) (offerLine o (length (d .fields)) n)
 unfolding offered
@@ -277,7 +277,7 @@ offer-at s d n c e = go (leb 1 n && leb n (length fs)) refl
     x = lineAfter s (pred n)
 
     go : (b : Bool) → leb 1 n && leb n (length fs) ≡ b
-        → let o = cond b (offeredTo x c) (told noSuchLine 0 0 (behindAll (size fs))) in o .at ≡ offset fs (offerLine o (length fs) n)
+        → let o = cond b (offeredTo x c) (against noSuchLine 0 0 (afterAll (size fs))) in o .at ≡ offset fs (offerLine o (length fs) n)
     go true q =
         let lo : 1 ≤ n = leb-true 1 n (and-left (leb 1 n) _ q) in
         let hi : n ≤ length fs = leb-true n (length fs) (and-right (leb 1 n) _ q) in

@@ -20,11 +20,11 @@ use Rattle.correct_offer.specs.declared.Offer.{Offer}
 abbrev pub oneLine : ℕ → ℕ → ℕ → OneLine
 oneLine l at n = record { label = l; at = at; size = n }
 
--- where no line is told
+-- no line
 abbrev pub noLine : OneLine
 noLine = oneLine 0 0 0
 
--- the line that k lines from offset `at` on stand before, by what their bytes tell
+-- the line after k lines from offset `at` on, by the lengths that these give
 unfoldable pub lineFrom : List ℕ → ℕ → ℕ → OneLine
 lineFrom s at zero = oneLine (toldLabel s at) at (toldLength s at + (lineLead + lineEnd))
 lineFrom s at (suc k) = let n = toldLength s at in cond (eqb n 0) noLine (lineFrom s (at + (n + (lineLead + lineEnd))) k)
@@ -34,25 +34,25 @@ lineAfter s k = lineFrom s 0 k
 
 -- ---- what speaks against a content
 
-abbrev pub told : ℕ → ℕ → ℕ → OneLine → Offer
-told n i l x = record { no = n; byte = i; label = l; at = x .at; size = x .size }
+abbrev pub against : ℕ → ℕ → ℕ → OneLine → Offer
+against n i l x = record { no = n; byte = i; label = l; at = x .at; size = x .size }
 
--- behind all lines of a set, which has so many bytes
-abbrev pub behindAll : ℕ → OneLine
-behindAll n = oneLine 0 n 0
+-- after all lines of a set of n bytes
+abbrev pub afterAll : ℕ → OneLine
+afterAll n = oneLine 0 n 0
 
 -- a content for a line that is there: 20, 6, 14
 unfoldable pub offeredTo : OneLine → List ℕ → Offer
 offeredTo x c =
     let low = firstLow c 0 (length c) in
-    cond (fixed (x .label)) (told fixedLine 0 (x .label) x)
-    (cond (leb (length c) low) (cond (fitsLabel (x .label) c) (told 0 0 0 x) (told badContent 0 (x .label) x)) (told badByte low 0 x))
+    cond (fixed (x .label)) (against fixedLine 0 (x .label) x)
+    (cond (leb (length c) low) (cond (fitsLabel (x .label) c) (against 0 0 0 x) (against badContent 0 (x .label) x)) (against badByte low 0 x))
 
 -- a content for line number n of a set of this shape: 19 first
 unfoldable pub offered : List ℕ → Shape → ℕ → List ℕ → Offer
-offered s x n c = cond (leb 1 n && leb n (x .lines)) (offeredTo (lineAfter s (pred n)) c) (told noSuchLine 0 0 (behindAll (x .length)))
+offered s x n c = cond (leb 1 n && leb n (x .lines)) (offeredTo (lineAfter s (pred n)) c) (against noSuchLine 0 0 (afterAll (x .length)))
 
--- ---- the fault that an offer tells
+-- ---- the fault that an offer stands for
 
 -- how many lines stand before the line concerned: for 19 all of them
 abbrev pub offerLine : Offer → ℕ → ℕ → ℕ
@@ -62,7 +62,7 @@ offerLine o lines n = cond (eqb (o .no) noSuchLine) lines (pred n)
 abbrev pub offerSpot : Offer → Spot
 offerSpot o = cond (eqb (o .no) badByte) (byte (o .byte)) start
 
--- the fault of an offer for line number n of a set of so many lines, or none
+-- the fault of an offer for line number n of a set of this many lines, or none
 unfoldable pub offerFaults : Offer → ℕ → ℕ → List Fault
 offerFaults o lines n =
     cond (eqb (o .no) 0) [] (record { no = o .no; line = offerLine o lines n; spot = offerSpot o; label = o .label } ∷ [])

@@ -3,7 +3,7 @@
 ghost use mathlib.Core.Path.{_≡_};
 ghost use Rattle.meaning.specs.Refusals.{noSuchLine};
 ghost use Rattle.meaning.specs.Corrections.{fixed};
-ghost use Rattle.correct_offer.specs.Offered.{noLine, lineAfter, behindAll, told, offeredTo, offered};
+ghost use Rattle.correct_offer.specs.Offered.{noLine, lineAfter, afterAll, against, offeredTo, offered};
 use meaning::Refusal;
 use meaning::Shape;
 
@@ -35,7 +35,7 @@ fn no_line() -> OneLine
     }
 }
 
-// The line that so many lines stand before, by what the bytes of the lines tell. Where one of those before it tells no length, there is no line.
+// The line after this many lines of a set, by the lengths that these give. If one of them gives no length, there is no line.
 pub fn line_after(set: &[u8], before: usize) -> OneLine
     ensures { λ r. ⌜ r ≡ lineAfter (now (set .entry)) before ⌝ }
 {
@@ -68,7 +68,7 @@ fn is_fixed(label: usize) -> bool
 
 // What speaks against the content, and the line.
 fn against(no: usize, byte: usize, label: usize, line: OneLine) -> Offer
-    ensures { λ r. ⌜ r ≡ told no byte label line ⌝ }
+    ensures { λ r. ⌜ r ≡ against no byte label line ⌝ }
 {
     Offer {
         no,
@@ -100,7 +100,7 @@ fn judge_for(line: OneLine, content: &[u8]) -> Offer
 
 // 19, NoSuchLine: "line number 0 or beyond the set; place: set length".
 fn no_such_line(length: usize) -> Offer
-    ensures { λ r. ⌜ r ≡ told noSuchLine 0 0 (behindAll length) ⌝ }
+    ensures { λ r. ⌜ r ≡ against noSuchLine 0 0 (afterAll length) ⌝ }
 {
     against(
         Refusal::NO_SUCH_LINE,

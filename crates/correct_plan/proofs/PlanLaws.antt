@@ -118,7 +118,7 @@ module _ (s c : List ℕ) (room n : ℕ) (x : Shape) (j : judge s ≡ AcceptedSe
   plan-against o h q ne =
       offer-bad s c room n what was-read (omega (arith, length-so)) o (q ∙ ap (λ (y : Shape). offered s y n c) shape-so) ne
 
-  -- such an offer is right, and its line is the one asked for (`offer-good`): so what is planned is `making`, where there is room, and its numbers are the code's
+  -- such an offer is right, and its line is the one asked for (`offer-good`): so what is planned is `making`, if there is room, and its numbers are the code's
   pub plan-ready : (o : Offer) → length s ≤ x .length → o ≡ offered s x n c → o .no ≡ 0 → Ready s c room n o
   plan-ready o h q z =
       let fs : List Field = what .fields in

@@ -15,7 +15,7 @@ use Rattle.meaning.specs.Corrections.{changed, correctLines}
 use Rattle.correct_plan.specs.declared.Plan.{Plan}
 use Rattle.correct_plan.specs.declared.Plan.the-variants.{Refused, Make}
 
--- 22: what is to be done, where the new total is not "over the buffer or over 99,999"
+-- 22: what is to be done, if the new total is not "over the buffer or over 99,999"
 abbrev pub withinRoom : ℕ → ℕ → ℕ → ℕ → Plan
 withinRoom room place old total = cond (leb total room && leb total maxSetBytes) (Make place old total) (Refused (refusal noRoom total 0))
 
@@ -32,6 +32,6 @@ abbrev pub plannedBy : ℕ → ℕ → List ℕ → Reply Parsed → Plan
 plannedBy room n c (refused r) = Refused r
 plannedBy room n c (done d) = unless (correctLines room n c d) (making (d .fields) n c)
 
--- for the set s, with so much room
+-- for the set s, with this much room
 unfoldable pub planned : List ℕ → ℕ → ℕ → List ℕ → Plan
 planned s room n c = plannedBy room n c (read s)

@@ -25,7 +25,7 @@ pub enum Plan {
 }
 
 // A refusal by its three parts.
-fn refused(no: usize, place: usize, label: usize) -> Plan
+fn refused_plan(no: usize, place: usize, label: usize) -> Plan
     ensures { λ r. ⌜ r ≡ Plan.Refused (refusal no place label) ⌝ }
 {
     Plan::Refused(Refusal { no, place, label })
@@ -46,10 +46,10 @@ fn plan_total(room: usize, place: usize, old: usize, total: usize) -> Plan
     ensures { λ r. ⌜ r ≡ withinRoom room place old total ⌝ }
 {
     if room < total {
-        return refused(Refusal::NO_ROOM, total, 0);
+        return refused_plan(Refusal::NO_ROOM, total, 0);
     }
     if SetType::SET_BYTES < total {
-        return refused(Refusal::NO_ROOM, total, 0);
+        return refused_plan(Refusal::NO_ROOM, total, 0);
     }
     Plan::Make { place, old, total }
 }
@@ -61,11 +61,11 @@ pub fn plan_judged(set: &[u8], shape: Shape, room: usize, line: usize, content: 
 {
     // 18, BadUse: "another set follows (place: first set's length)"
     if shape.length < set.len() {
-        return refused(Refusal::BAD_USE, shape.length, 0);
+        return refused_plan(Refusal::BAD_USE, shape.length, 0);
     }
     let offer = correct_offer::judge_offer(set, shape, line, content);
     if offer.no != 0 {
-        return refused(offer.no, place_of(offer), offer.label);
+        return refused_plan(offer.no, place_of(offer), offer.label);
     }
     let old = offer.size - meaning::LINE_FRAME;
     let total = set.len() - old + content.len();

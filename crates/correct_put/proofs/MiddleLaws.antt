@@ -16,10 +16,10 @@ use Rattle.correct_put.specs.Middle.{replaced, newTotal, sumPlace, recon
 
 -- ---- what `replace_middle` leaves
 
--- the part behind p is lent to what makes f of it
-lent-behind : (f : List ℕ → List ℕ) (b p r y : List ℕ) (at : ℕ) → b ≡ p ++ r → length p ≡ at → y ≡ f (midOf at (length b - at) b)
+-- the part after p is lent to what makes f of it
+lent-after : (f : List ℕ → List ℕ) (b p r y : List ℕ) (at : ℕ) → b ≡ p ++ r → length p ≡ at → y ≡ f (midOf at (length b - at) b)
     → putMid at (length b - at) b y ≡ p ++ f r
-lent-behind f b p r y at e l q =
+lent-after f b p r y at e l q =
     put-tail b y at
     ∙ ap₂ (λ (u v : List ℕ). u ++ v) (ap (take at) e ∙ take-at p r at l) (q ∙ ap f (mid-tail b at ∙ ap (drop at) e ∙ drop-at p r at l))
 
@@ -31,7 +31,7 @@ moved-under r new old tail h =
     ap (drop (length new)) (append-assoc (take (length new) r) (take tail (drop old r)) (drop (length new + tail) r))
     ∙ drop-at (take (length new) r) (take tail (drop old r) ++ drop (length new + tail) r) (length new) (length-take-le (length new) r (omega arith))
 
--- the three loans: to the mover, to the copier, and of what becomes zero. Each is `lent-behind`: the first two behind the bytes before the content, the third behind
+-- the three loans: to the mover, to the copier, and of what becomes zero. Each is `lent-after`: the first two after the bytes before the content, the third after
 -- all bytes that count then.
 pub three-loans : (b new b₁ b₂ y₁ y₂ y₃ : List ℕ) (at old used tail end : ℕ) → at + old ≤ used → used ≤ length b → end ≤ length b
     → tail ≡ used - (at + old) → end ≡ at + length new + tail
@@ -50,13 +50,13 @@ three-loans b new b₁ b₂ y₁ y₂ y₃ at old used tail end ho hu hb lt le e
     let lf : length (p ++ (new ++ keep)) ≡ end = omega (arith, length-append p (new ++ keep), length-append new keep) in
     let lr : length rest ≡ length b - end = omega (arith, length-drop (length new + tail) r, length-drop at b) in
     let s₁ : b₁ ≡ p ++ moved old (length new) tail r =
-    q₁ ∙ lent-behind (moved old (length new) tail) b p r y₁ at (sym (take-append-drop at b)) lp e₁ in
+    q₁ ∙ lent-after (moved old (length new) tail) b p r y₁ at (sym (take-append-drop at b)) lp e₁ in
     let s₂ : b₂ ≡ (p ++ (new ++ keep)) ++ rest =
-    q₂ ∙ lent-behind (λ (x : List ℕ). new ++ drop (length new) x) b₁ p (moved old (length new) tail r) y₂ at s₁ lp e₂
+    q₂ ∙ lent-after (λ (x : List ℕ). new ++ drop (length new) x) b₁ p (moved old (length new) tail r) y₂ at s₁ lp e₂
     ∙ ap (λ (x : List ℕ). p ++ (new ++ x)) (moved-under r new old tail (omega (arith, length-drop at b)))
     ∙ ap (λ (x : List ℕ). p ++ x) (sym (append-assoc new keep rest))
     ∙ sym (append-assoc p (new ++ keep) rest) in
-    lent-behind (λ (x : List ℕ). replicate (length x) 0) b₂ (p ++ (new ++ keep)) rest y₃ end s₂ lf e₃
+    lent-after (λ (x : List ℕ). replicate (length x) 0) b₂ (p ++ (new ++ keep)) rest y₃ end s₂ lf e₃
     ∙ append-assoc p (new ++ keep) (replicate (length rest) 0)
     ∙ ap (λ (x : List ℕ). p ++ x) (append-assoc new keep (replicate (length rest) 0))
     ∙ rw (lr, le, lt, drop-drop old at b) refl

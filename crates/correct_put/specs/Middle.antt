@@ -20,7 +20,7 @@ replaced at old new used b =
 abbrev pub newTotal : (old : ℕ) → List ℕ → ℕ → ℕ
 newTotal old c used = used - old + length c
 
--- where the content of line 2 stands, behind line 1 with its four digits
+-- where the content of line 2 stands, after line 1 with its four digits
 abbrev pub sumPlace : ℕ
 sumPlace = typeDigits + (lineLead + lineEnd) + lineLead
 

@@ -1,6 +1,6 @@
 // A new content for one line of a set in its buffer, with the line's length and the sum brought up to date.
-// Assumes of each call that the old content lies in the bytes that count and that the changed set has room: only another crate here calls it, and proves that. The contract tells
-// every byte of the buffer afterwards.
+// Assumes of each call that the old content lies in the bytes that count and that the changed set has room: only another crate here calls it, and proves that. The contract says
+// what every byte of the buffer is afterwards.
 ghost use mathlib.Core.Path.{_≡_};
 ghost use Prim.Native.Nat.{_+_, _-_, _≤_};
 ghost use lib.ListN.{length};
@@ -11,10 +11,10 @@ use meaning::LENGTH_DIGITS;
 use meaning::LINE_FRAME;
 use meaning::LINE_LEAD;
 
-// The content of line 2, the sum, stands behind line 1, whose content is the set's type, and behind its own line's lead.
+// The content of line 2, the sum, stands after line 1, whose content is the set's type, and after its own line's lead.
 const SUM_PLACE: usize = meaning::TYPE_DIGITS + LINE_FRAME + LINE_LEAD;
 
-// Replaces the `old` bytes at an offset by others: the bytes behind them move inside the buffer, and "every byte past the new used length becomes zero".
+// Replaces the `old` bytes at an offset by others: the bytes after them move inside the buffer, and "every byte past the new used length becomes zero".
 fn replace_middle(buffer: &mut [u8], at: usize, old: usize, new: &[u8], used: usize)
     requires { ⌜ (at + old ≤ used) × (used ≤ length (now buffer)) ⌝ }
     requires { ⌜ at + length (now new) + (used - (at + old)) ≤ length (now buffer) ⌝ }

@@ -1,4 +1,4 @@
--- What the walk of an entry's head means: label and content of the entry at the front of the bytes from the offset on, where it is whole.
+-- What the walk of an entry's head means: label and content of the entry at the front of the bytes from the offset on, if it is whole.
 use mathlib.Core.Path.{_≡_, refl, sym, ap, _∙_}
 use mathlib.Core.Bool.{Bool, true, false, cond, _&&_}
 use mathlib.Core.List.{List}
@@ -31,14 +31,14 @@ module _ (s : List ℕ) (at : ℕ) where
     unfolding entryAt
     entry-told g k q = rw (le-leb (at + entryLead) (length s) h, ← e, le-leb (at + (entryLead + n)) (length s) g, q)
 
--- ---- what the head tells
+-- ---- what the head says
 
 -- the head of the entry at the front, by whether it is whole
 abbrev pub headOf : Bool → List ℕ → Head
 headOf true s = Whole (entryLabel s) (twoBytesAt s 0)
 headOf false s = Cut
 
--- n bytes remain from an offset on where they end within the bytes
+-- n bytes remain from an offset on if they end within the bytes
 left-is : (s : List ℕ) (at n : ℕ) → 1 ≤ n → leb (at + n) (length s) ≡ leb n (length (drop at s))
 left-is s at n h = go (leb (at + n) (length s)) refl
   where
@@ -67,7 +67,7 @@ entry-is s at =
     told true false d = refl
     told false b d = refl
 
--- what a whole entry at an offset tells of the bytes there
+-- what a whole entry at an offset says of the bytes there
 pub record WholeAt (s : List ℕ) (at label n : ℕ) : Type 0 where
   pub whole : entryWhole (drop at s) ≡ true
   pub label-so : label ≡ entryLabel (drop at s)

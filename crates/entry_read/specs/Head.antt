@@ -15,12 +15,12 @@ entryAt s at =
     cond (leb (at + entryLead) (length s))
     (cond (leb (at + (entryLead + twoBytesAt s at)) (length s)) (Whole (twoBytesAt s (at + 2)) (twoBytesAt s at)) Cut) Cut
 
--- what follows an entry that is whole, by the length of its content; none does behind one that is cut
-abbrev pub behindHead : Head → (ℕ → Bool) → Bool
-behindHead (Whole k n) f = f n
-behindHead Cut f = false
+-- what follows an entry that is whole, by the length of its content; none does after one that is cut
+abbrev pub afterHead : Head → (ℕ → Bool) → Bool
+afterHead (Whole k n) f = f n
+afterHead Cut f = false
 
 -- the heads from an offset on lead to the end of the bytes, and there are no more than k
 unfoldable pub headsEnd : List ℕ → ℕ → ℕ → Bool
 headsEnd s at zero = leb (length s) at
-headsEnd s at (suc k) = cond (leb (length s) at) true (behindHead (entryAt s at) (λ n. headsEnd s (at + (entryLead + n)) k))
+headsEnd s at (suc k) = cond (leb (length s) at) true (afterHead (entryAt s at) (λ n. headsEnd s (at + (entryLead + n)) k))

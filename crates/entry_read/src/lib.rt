@@ -8,7 +8,7 @@ ghost use Rattle.entry_read.specs.Head.{entryAt, headsEnd};
 use meaning::ENTRY_LEAD;
 use meaning::NUMBER_BYTES;
 
-// What the head of an entry tells.
+// What the head of an entry says.
 pub enum Head {
     // The entry is all there: its label (a label, in a sheet a line number), and the length of its content.
     Whole { label: usize, length: usize },
@@ -31,7 +31,7 @@ fn two_bytes(s: &[u8], at: usize) -> usize
     number(s[at], s[at + 1])
 }
 
-// The head of the entry at an offset, where no byte of the entry is missing.
+// The head of the entry at an offset, if no byte of the entry is missing.
 pub fn entry_at(s: &[u8], at: usize) -> Head
     ensures { λ r. ⌜ r ≡ entryAt (now (s .entry)) at ⌝ }
 {

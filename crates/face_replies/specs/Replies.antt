@@ -10,7 +10,7 @@ use Rattle.face_replies.specs.declared.JudgedReply.{JudgedReply}
 use Rattle.face_replies.specs.declared.MadeReply.{MadeReply}
 use Rattle.face_replies.specs.declared.ViewedReply.{ViewedReply}
 
--- the refusal's number, place and label, 0 where there is none; the set's length, lines and type, 0 where it is refused
+-- the refusal's number, place and label, 0 if there is none; the set's length, lines and type, 0 if it is refused
 abbrev pub judgedReply : Judged → JudgedReply
 judgedReply j = record {
   no = judgedRefusal j .no;
@@ -21,11 +21,11 @@ judgedReply j = record {
   settype = judgedShape j .settype;
 }
 
--- the refusal's number, place and label, 0 where there is none; how much was made, 0 where the call is refused
+-- the refusal's number, place and label, 0 if there is none; how much was made, 0 if the call is refused
 abbrev pub madeReply : Made → MadeReply
 madeReply m = record { no = madeRefusal m .no; place = madeRefusal m .place; label = madeRefusal m .label; count = madeCount m }
 
--- the refusal's number, place and label, 0 where there is none; the flag, and where the part stands, 0 where the view is refused
+-- the refusal's number, place and label, 0 if there is none; the flag, and where the part stands, 0 if the view is refused
 abbrev pub viewedReply : Viewed → ViewedReply
 viewedReply v = record {
   no = viewedRefusal v .no;

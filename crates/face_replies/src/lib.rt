@@ -1,8 +1,8 @@
 // What the calls of the C face answer: records of numbers by value, made of the answers of `meaning`; and what an index comes to before its first entry is written.
-// No function has a `requires`. The contracts cite specs/Replies, which gives the numbers of each answer, and specs/Plans.
+// No function has a `requires`. The contracts cite specs/Replies, which gives the numbers of each answer, and specs/IndexPlans.
 ghost use mathlib.Core.Path.{_≡_};
 ghost use Rattle.face_replies.specs.Replies.{judgedReply, madeReply, viewedReply};
-ghost use Rattle.face_replies.specs.Plans.{noEntries, allEntries, planIndex};
+ghost use Rattle.face_replies.specs.IndexPlans.{noEntries, allEntries, planIndex};
 use meaning::Judged;
 use meaning::Made;
 use meaning::Refusal;
@@ -29,7 +29,7 @@ pub struct MadeReply {
     pub count: usize,
 }
 
-// What a view answers: number 0, the flag (1 where the part is the sheet's, 0 where it is the set's) and where the part stands; or the refusal.
+// What a view answers: number 0, the flag (1 if the part is the sheet's, 0 if it is the set's) and where the part stands; or the refusal.
 #[repr(C)]
 pub struct ViewedReply {
     pub no: usize,
@@ -41,7 +41,7 @@ pub struct ViewedReply {
 }
 
 // What an index comes to before its first entry is written: how many entries, and the answer.
-pub struct Plan {
+pub struct IndexPlan {
     pub count: usize,
     pub reply: MadeReply,
 }
@@ -123,29 +123,29 @@ pub fn viewed_reply(viewed: Viewed) -> ViewedReply
 }
 
 // "All lent buffers then keep every byte and entry": nothing is written.
-fn no_entries(refusal: Refusal) -> Plan
+fn no_entries(refusal: Refusal) -> IndexPlan
     ensures { λ r. ⌜ r ≡ noEntries refusal ⌝ }
 {
     let reply = made_reply(Made::Refused(refusal));
-    Plan { count: 0, reply }
+    IndexPlan { count: 0, reply }
 }
 
-// An entry for each line of an accepted set of this shape, where there is room.
-fn all_entries(shape: Shape, room: usize) -> Plan
+// An entry for each line of an accepted set of this shape, if there is room.
+fn all_entries(shape: Shape, room: usize) -> IndexPlan
     ensures { λ r. ⌜ r ≡ allEntries shape room ⌝ }
 {
     if room < shape.lines {
         return no_entries(Refusal::at(Refusal::NO_ROOM, shape.lines));
     }
     let reply = made_reply(Made::Done(shape.lines));
-    Plan {
+    IndexPlan {
         count: shape.lines,
         reply,
     }
 }
 
 // "Index and list refuse as the set does, then by 22."
-pub fn plan_index(judged: Judged, room: usize) -> Plan
+pub fn plan_index(judged: Judged, room: usize) -> IndexPlan
     ensures { λ r. ⌜ r ≡ planIndex judged room ⌝ }
 {
     match judged {

@@ -21,12 +21,12 @@ use Rattle.meaning.specs.Index.{indexOf, index}
 use Rattle.meaning.specs.Answers.{indexCall}
 use Rattle.meaning.proofs.PlaceLaws.{index-count}
 use Rattle.index_walk.specs.declared.Walk.{Walk}
-use Rattle.index_walk.specs.declared.Next.{Next}
-use Rattle.index_walk.specs.Walking.{begin, nextEntry, entriesOf}
+use Rattle.index_walk.specs.declared.NextEntry.{NextEntry}
+use Rattle.index_walk.specs.Walking.{walkStart, nextEntry, walkedEntries}
 use Rattle.index_walk.proofs.EntryWalk.{entries-are}
-use Rattle.face_replies.specs.declared.Plan.{Plan}
+use Rattle.face_replies.specs.declared.IndexPlan.{IndexPlan}
 use Rattle.face_replies.specs.Replies.{madeReply}
-use Rattle.face_replies.specs.Plans.{noEntries, allEntries, planIndex}
+use Rattle.face_replies.specs.IndexPlans.{noEntries, allEntries, planIndex}
 use Rattle.gdt.specs.Filling.{walkAfter, stored}
 
 -- ---- the loop, turn by turn
@@ -41,21 +41,21 @@ module _ (s : List ℕ) (w : Walk) where
   unfolding stored
   stored-none d = refl
 
-  -- a turn takes the walk behind the next line, and stores that line's entry
-  pub walk-next : (n : ℕ) (r : Next) → r ≡ nextEntry s (walkAfter s w n) → r .walk ≡ walkAfter s w (n + 1)
+  -- a turn takes the walk after the next line, and stores that line's entry
+  pub walk-next : (n : ℕ) (r : NextEntry) → r ≡ nextEntry s (walkAfter s w n) → r .walk ≡ walkAfter s w (n + 1)
   unfolding walkAfter
-  walk-next n r e = rw (add-one n) (ap (λ (x : Next). x .walk) e)
+  walk-next n r e = rw (add-one n) (ap (λ (x : NextEntry). x .walk) e)
 
-  pub stored-next : (n : ℕ) (d : List Entry) (r : Next) → r ≡ nextEntry s (walkAfter s w n) → set (stored s w n d) n (r .entry) ≡ stored s w (n + 1) d
+  pub stored-next : (n : ℕ) (d : List Entry) (r : NextEntry) → r ≡ nextEntry s (walkAfter s w n) → set (stored s w n d) n (r .entry) ≡ stored s w (n + 1) d
   unfolding stored
-  stored-next n d r e = rw (add-one n) (ap (λ (x : Next). set (stored s w n d) n (x .entry)) e)
+  stored-next n d r e = rw (add-one n) (ap (λ (x : NextEntry). set (stored s w n d) n (x .entry)) e)
 
   pub length-stored : (n : ℕ) (d : List Entry) → length (stored s w n d) ≡ length d
   unfolding stored
   length-stored zero d = refl
   length-stored (suc n) d = length-set (stored s w n d) n _ ∙ length-stored n d
 
-  -- what stands behind the stored entries is as it was
+  -- what stands after the stored entries is as it was
   drop-stored : (n m : ℕ) (d : List Entry) → n ≤ m → drop m (stored s w n d) ≡ drop m d
   unfolding stored
   drop-stored zero m d h = refl
@@ -70,17 +70,17 @@ module _ (s : List ℕ) where
   walk-later w zero = refl
   walk-later w (suc n) = ap (λ (v : Walk). nextEntry s v .walk) (walk-later w n)
 
-  -- the last of n + 1 entries is that of the line behind n lines
-  entries-last : (w : Walk) (n : ℕ) → entriesOf s w n ++ (nextEntry s (walkAfter s w n) .entry ∷ []) ≡ entriesOf s w (suc n)
-  unfolding walkAfter entriesOf
+  -- the last of n + 1 entries is that of the line after n lines
+  entries-last : (w : Walk) (n : ℕ) → walkedEntries s w n ++ (nextEntry s (walkAfter s w n) .entry ∷ []) ≡ walkedEntries s w (suc n)
+  unfolding walkAfter walkedEntries
   entries-last w zero = refl
   entries-last w (suc n) =
       let then = nextEntry s w in
-      ap (λ (v : Walk). then .entry ∷ entriesOf s (then .walk) n ++ (nextEntry s v .entry ∷ [])) (sym (walk-later w n))
+      ap (λ (v : Walk). then .entry ∷ walkedEntries s (then .walk) n ++ (nextEntry s v .entry ∷ [])) (sym (walk-later w n))
       ∙ ap (λ (es : List Entry). then .entry ∷ es) (entries-last (then .walk) n)
 
-  take-stored : (w : Walk) (n : ℕ) (d : List Entry) → n ≤ length d → take n (stored s w n d) ≡ entriesOf s w n
-  unfolding stored entriesOf
+  take-stored : (w : Walk) (n : ℕ) (d : List Entry) → n ≤ length d → take n (stored s w n d) ≡ walkedEntries s w n
+  unfolding stored walkedEntries
   take-stored w zero d h = refl
   take-stored w (suc n) d h =
       take-suc-set (stored s w n d) n _ (rw (length-stored s w n d) h)
@@ -88,19 +88,19 @@ module _ (s : List ℕ) where
       ∙ entries-last w n
 
   -- n entries of the walk, then what stood there
-  stored-are : (w : Walk) (n : ℕ) (d : List Entry) → n ≤ length d → stored s w n d ≡ entriesOf s w n ++ drop n d
+  stored-are : (w : Walk) (n : ℕ) (d : List Entry) → n ≤ length d → stored s w n d ≡ walkedEntries s w n ++ drop n d
   stored-are w n d h =
       sym (take-append-drop n (stored s w n d))
       ∙ ap (λ (es : List Entry). es ++ drop n (stored s w n d)) (take-stored w n d h)
-      ∙ ap (λ (es : List Entry). entriesOf s w n ++ es) (drop-stored s w n n d (omega arith))
+      ∙ ap (λ (es : List Entry). walkedEntries s w n ++ es) (drop-stored s w n n d (omega arith))
 
 -- ---- plan and loop make the index
 
--- What a plan must be for the loop to leave behind what the call says: it keeps within the room, and its answer and its entries are the call's.
-pub record Fills (s : List ℕ) (d : List Entry) (p : Plan) : Type 0 where
+-- What a plan must be for the loop to leave what the call says: it keeps within the room, and its answer and its entries are the call's.
+pub record Fills (s : List ℕ) (d : List Entry) (p : IndexPlan) : Type 0 where
   pub within : p .count ≤ length d
   pub answers : p .reply ≡ madeReply (indexCall s d .answer)
-  pub leaves : stored s begin (p .count) d ≡ indexCall s d .buffer
+  pub leaves : stored s walkStart (p .count) d ≡ indexCall s d .buffer
 
 count-of : (fs : List Field) → length (indexOf fs) ≡ length fs
 unfolding indexOf
@@ -123,7 +123,7 @@ module _ (s : List ℕ) (d : List Entry) where
         rw h (record {
           within = l;
           answers = rw (i, count-of (q .fields));
-          leaves = stored-are s begin n d l ∙ rw (i, count-of (q .fields), entries-are s q e);
+          leaves = stored-are s walkStart n d l ∙ rw (i, count-of (q .fields), entries-are s q e);
         })
     by-room false h i = rw h (fills-nothing (refusal noRoom n 0) i)
 

@@ -6,10 +6,10 @@ ghost use Rattle.meaning.specs.Reading as Reading;
 ghost use Rattle.meaning.specs.Views as Views;
 ghost use Rattle.meaning.specs.Answers.{indexCall, listCall, correctCall};
 ghost use Rattle.face_replies.specs.Replies.{judgedReply, madeReply, viewedReply, copied};
-ghost use Rattle.face_replies.specs.Plans.{planIndex};
+ghost use Rattle.face_replies.specs.IndexPlans.{planIndex};
+use face_replies::IndexPlan;
 use face_replies::JudgedReply;
 use face_replies::MadeReply;
-use face_replies::Plan;
 use face_replies::ViewedReply;
 use meaning::Entry;
 
@@ -21,7 +21,7 @@ pub extern "C" fn gdt_judge(set: &[u8]) -> JudgedReply
 }
 
 // What the index of this set comes to, judged and held against the room for its entries.
-fn plan_index(set: &[u8], room: usize) -> Plan
+fn plan_of(set: &[u8], room: usize) -> IndexPlan
     ensures { λ r. ⌜ r ≡ planIndex (Reading.judge (now (set .entry))) room ⌝ }
 {
     face_replies::plan_index(judge::judge(set), room)
@@ -32,7 +32,7 @@ fn plan_index(set: &[u8], room: usize) -> Plan
 pub extern "C" fn gdt_index(set: &[u8], out: &mut [Entry]) -> MadeReply
     ensures { λ r. ⌜ (r ≡ madeReply (indexCall (now (set .entry)) (now (out .entry)) .answer)) × (now (out .exit) ≡ indexCall (now (set .entry)) (now (out .entry)) .buffer) ⌝ }
 {
-    let plan = plan_index(set, out.len());
+    let plan = plan_of(set, out.len());
     let mut walk = index_walk::start();
     let mut i = 0;
     while i < plan.count {
@@ -70,7 +70,7 @@ pub extern "C" fn gdt_view(set: &[u8], sheet: &[u8], line: usize) -> ViewedReply
     face_replies::viewed_reply(view::viewed(set, sheet, line))
 }
 
-// The content that a view shows, as far as there is room for it; its whole length is the answer. Bytes behind it stay as they were.
+// The content that a view shows, as far as there is room for it; its whole length is the answer. Bytes after it stay as they were.
 #[no_mangle]
 pub extern "C" fn gdt_view_copy<'a>(
     set: &'a [u8],

@@ -19,7 +19,7 @@ const ROOM: usize = MOST_BYTES + 1;
 
 // What reading standard input came to.
 enum Input {
-    // It ended, or the room is full: so many bytes were read.
+    // It ended, or the room is full: this many bytes were read.
     Bytes(usize),
     // A read failed.
     Failed,
@@ -37,7 +37,7 @@ fn print_number(n: usize) {
     io::print_decimal(STDOUT_FILENO, n as u64);
 }
 
-// A number behind another word of the line.
+// A number after another word of the line.
 fn print_next(n: usize) {
     print(b" ");
     print_number(n);

@@ -5,7 +5,6 @@ use mathlib.Core.List.{List, [], _∷_}
 use Prim.Native.Nat.{ℕ, _+_, _≤_, _<_}
 use native.Mathlib.Omega.{arith}
 use lib.ListN.{length, drop}
-use lib.Seq.{drop-drop}
 use borrow.Author.Tests.{le-leb, lt-leb}
 use Rattle.meaning.specs.declared.Entry.{Entry}
 use Rattle.meaning.specs.declared.Known.{Known}
@@ -23,15 +22,14 @@ use Rattle.meaning.specs.Index.{headerLine, entriesFrom, indexOf}
 use Rattle.meaning.proofs.Bools.{Every}
 use Rattle.meaning.proofs.FaultLaws.{append-none}
 use Rattle.meaning.proofs.LineLaws.{Sound}
-use Rattle.meaning.proofs.PlaceLaws.{drop-lineThen}
 use Rattle.meaning.proofs.RuleLaws.{ruled, begins-of}
 use Rattle.meaning.proofs.SetLaws.{accepted}
 use Rattle.line_read.specs.Told.{toldLength, toldLabel}
-use Rattle.line_read.proofs.Bridge.{read-line, read-back}
+use Rattle.line_read.proofs.LineMeaning.{read-line, read-back, reads-on}
 use Rattle.line_read.proofs.ToldLaws.{read-told}
 use Rattle.index_walk.specs.declared.Walk.{Walk}
-use Rattle.index_walk.specs.declared.Next.{Next}
-use Rattle.index_walk.specs.Walking.{begin, counted, headerOf, lastBehind, noLine, nextEntry, entriesOf}
+use Rattle.index_walk.specs.declared.NextEntry.{NextEntry}
+use Rattle.index_walk.specs.Walking.{walkStart, counted, headerOf, lastAfter, noEntry, nextEntry, walkedEntries}
 use Rattle.index_walk.proofs.HeaderLaws.{placed, follow}
 
 -- ---- the count of lines
@@ -50,13 +48,13 @@ counted-out n h = rw (le-leb maxLines n h)
 
 module _ (s : List ℕ) (w : Walk) where
   -- under seven bytes stand at the walk
-  pub next-none : length s < w .at + lineLead → noLine ≡ nextEntry s w
+  pub next-none : length s < w .at + lineLead → noEntry ≡ nextEntry s w
   unfolding nextEntry
   next-none h = rw (lt-leb (w .at + lineLead) (length s) h)
 
-  -- a line tells its length and its label there
+  -- a line stands there, with this length and this label
   pub next-told : w .at + lineLead ≤ length s → (n : ℕ) → n ≡ toldLength s (w .at) → (l : ℕ) → l ≡ toldLabel s (w .at) → (lines : ℕ) → lines ≡ counted (w .lines)
-      → (last : ℕ) → last ≡ lastBehind l lines (w .header) → (header : ℕ) → header ≡ headerOf l (w .header)
+      → (last : ℕ) → last ≡ lastAfter l lines (w .header) → (header : ℕ) → header ≡ headerOf l (w .header)
       → record {
         entry = record { label = l; place = w .at + lineLead; length = n; header = header };
         walk = record { at = w .at + (n + (lineLead + lineEnd)); lines = lines; header = last };
@@ -70,11 +68,11 @@ module _ (s : List ℕ) (w : Walk) where
 abbrev walkAt : ℕ → ℕ → ℕ → Walk
 walkAt at k last = record { at = at; lines = k; header = last }
 
--- the entry of a line that is written at the walk, and the walk behind it
+-- the entry of a line that is written at the walk, and the walk after it
 step-is : (s : List ℕ) (f : Field) (u : List ℕ) (at k last : ℕ) → Sound f → drop at s ≡ render (f ∷ []) u → k < maxLines
     → nextEntry s (walkAt at k last) ≡ record {
       entry = record { label = f .label; place = at + lineLead; length = length (f .content); header = headerOf (f .label) last };
-      walk = walkAt (at + lineSize f) (k + 1) (lastBehind (f .label) (k + 1) last);
+      walk = walkAt (at + lineSize f) (k + 1) (lastAfter (f .label) (k + 1) last);
     }
 unfolding nextEntry
 step-is s f u at k last h w c =
@@ -82,10 +80,6 @@ step-is s f u at k last h w c =
     let t = read-told s at r in
     let n : toldLength s at ≡ length (f .content) = omega (arith, t .0) in
     rw (le-leb (at + lineLead) (length s) (omega (arith, read-back s at r .within)), n, t .1, counted-on k c)
-
--- behind a line
-behind-line : (s : List ℕ) (at : ℕ) (f : Field) (u : List ℕ) → drop at s ≡ render (f ∷ []) u → drop (at + lineSize f) s ≡ u
-behind-line s at f u w = sym (drop-drop (lineSize f) at s) ∙ (ap (drop (lineSize f)) w ∙ drop-lineThen f u)
 
 module _ (s : List ℕ) (settype : SetType) where
   -- the profile of a set of this type
@@ -97,8 +91,8 @@ module _ (s : List ℕ) (settype : SetType) where
 
   -- the lines fs from offset `at` on, with k lines before them, none of which breaks 11 or 12: by induction on fs, one `step-is` for each line
   walk-is : (fs : List Field) (t : List ℕ) (at k : ℕ) (st : State) (last : ℕ) → Every Sound fs → drop at s ≡ render fs t → k + length fs ≤ maxLines
-      → rulesFrom profileOf st k fs ≡ [] → Kept st last → entriesOf s (walkAt at k last) (length fs) ≡ entriesFrom profileOf st k at fs
-  unfolding entriesOf entriesFrom rulesFrom
+      → rulesFrom profileOf st k fs ≡ [] → Kept st last → walkedEntries s (walkAt at k last) (length fs) ≡ entriesFrom profileOf st k at fs
+  unfolding walkedEntries entriesFrom rulesFrom
   walk-is [] t at k st last h w c q b = refl
   walk-is (f ∷ fs) t at k st last h w c q b =
       let l : ℕ = f .label in
@@ -106,11 +100,11 @@ module _ (s : List ℕ) (settype : SetType) where
       let r = append-none (lineRules o profileOf st k f) _ q in
       let g = follow settype .goes st k l last b (placed o profileOf st k f (r .0)) in
       let here : ℕ → Entry = λ header. record { label = l; place = at + lineLead; length = length (f .content); header = header } in
-      let then : Walk = walkAt (at + lineSize f) (k + 1) (lastBehind l (k + 1) last) in
+      let then : Walk = walkAt (at + lineSize f) (k + 1) (lastAfter l (k + 1) last) in
       let e = step-is s f (render fs t) at k last (h .0) w (omega arith) in
-      let ih = walk-is fs t (at + lineSize f) (k + 1) (next o st k l) (lastBehind l (k + 1) last) (h .1) (behind-line s at f (render fs t) w) (omega arith) (r .1) (g .still) in
-      ap (λ (x : Next). x .entry ∷ entriesOf s (x .walk) (length fs)) e
-      ∙ (ap (λ (header : ℕ). here header ∷ entriesOf s then (length fs)) (g .header-so) ∙ ap (λ (es : List Entry). here (headerLine o st) ∷ es) ih)
+      let ih = walk-is fs t (at + lineSize f) (k + 1) (next o st k l) (lastAfter l (k + 1) last) (h .1) (reads-on s at f (render fs t) (h .0) w) (omega arith) (r .1) (g .still) in
+      ap (λ (x : NextEntry). x .entry ∷ walkedEntries s (x .walk) (length fs)) e
+      ∙ (ap (λ (header : ℕ). here header ∷ walkedEntries s then (length fs)) (g .header-so) ∙ ap (λ (es : List Entry). here (headerLine o st) ∷ es) ih)
 
 -- ---- an accepted set
 
@@ -119,7 +113,7 @@ known-of (Of t) e = (t, refl)
 known-of Nothing e = absurd (true≢false (sym e))
 
 -- The walk over an accepted set gives its index, entry after entry.
-pub entries-are : (s : List ℕ) (d : Parsed) → read s ≡ done d → entriesOf s begin (length (d .fields)) ≡ indexOf (d .fields)
+pub entries-are : (s : List ℕ) (d : Parsed) → read s ≡ done d → walkedEntries s walkStart (length (d .fields)) ≡ indexOf (d .fields)
 unfolding indexOf
 entries-are s d e =
     let a = accepted s d e in

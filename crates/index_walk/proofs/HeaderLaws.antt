@@ -1,4 +1,4 @@
--- In an accepted set the labels alone tell headers and members: `follow`. Each row of the five tables says so, by one computed test for each table.
+-- In an accepted set the labels alone say which lines are headers and members: `follow`. Each row of the five tables says so, by one computed test for each table.
 use mathlib.Core.Path.{_≡_, refl, sym, ap, _∙_}
 use mathlib.Core.Bool.{Bool, true, false, cond, not, _&&_, _||_, true≢false}
 use mathlib.Core.List.{List, [], cons≢nil}
@@ -18,8 +18,8 @@ use Rattle.meaning.specs.Rules.{Profile, lineRules}
 use Rattle.meaning.specs.Index.{headerLine}
 use Rattle.meaning.proofs.Bools.{and-left, and-right, not-true}
 use Rattle.meaning.proofs.RowLaws.{allRows, found}
-use Rattle.index_walk.specs.Walking.{isHeader, isMember, headerOf, lastBehind}
-use Rattle.index_walk.proofs.LabelLaws.{pair-least, pair-most, header-pair, member-pair}
+use Rattle.index_walk.specs.Walking.{isHeader, isMember, headerOf, lastAfter}
+use Rattle.index_walk.proofs.GroupLabelLaws.{pair-least, pair-most, header-pair, member-pair}
 
 -- ---- a label's row stands for the same
 
@@ -102,10 +102,10 @@ placed strayed p st k f e = cons≢nil e
 placed (atSetLevel r) p st k f e = tt
 placed (member r) p st k f e = tt
 
--- What the labels alone give of a line is what its role gives, its header's line; and what was so before the line, as `Kept` says, is so behind it.
+-- What the labels alone give of a line is what its role gives, its header's line; and what was so before the line, as `Kept` says, is so after it.
 pub record Goes (Kept : State → ℕ → Type 0) (o : Role) (st : State) (k l last : ℕ) : Type 0 where
   pub header-so : headerOf l last ≡ headerLine o st
-  pub still : Kept (next o st k l) (lastBehind l (k + 1) last)
+  pub still : Kept (next o st k l) (lastAfter l (k + 1) last)
 
 -- by the row that is found, which passes a test: at set level, or a member that belongs to the open header
 module _ (Kept : State → ℕ → Type 0) (test : Row → Bool) (rs : List Row) (all : allRows test rs ≡ true) (st : State) (k l last : ℕ)
@@ -136,7 +136,7 @@ Open st last = isHeader (st .header) ≡ true → last ≡ st .line + 1
 
 module _ (rs : List Row) (all : allRows grouped rs ≡ true) (st : State) (k l last : ℕ) (o : Open st last) where
   open-at-top : (r : Row) → grouped r ≡ true → r .label ≡ rowLabel l → r .under ≡ setLevel → Goes Open (atSetLevel r) st k l last
-  unfolding headerOf lastBehind headerLine stays next
+  unfolding headerOf lastAfter headerLine stays next
   open-at-top r t n u =
       let m : isMember l ≡ false = sym (member-row l) ∙ (ap isMember (sym n) ∙ not-true _ (rw (eq-eqb (r .under) setLevel u) at t)) in
       record { header-so = rw m; still = λ h. rw h }
@@ -159,7 +159,7 @@ module _ (rs : List Row) (all : allRows grouped rs ≡ true) (st : State) (k l l
       go false q e b = ap isHeader (sym (eqb-true (r .under) (st .header) b)) ∙ h
 
   open-inside : (r : Row) → grouped r ≡ true → r .label ≡ rowLabel l → (r .under ≡ setLevel → ⊥) → belongs r (st .header) l ≡ true → Goes Open (member r) st k l last
-  unfolding headerOf lastBehind headerLine stays next
+  unfolding headerOf lastAfter headerLine stays next
   open-inside r t n u b =
       let t1 = rw (ne-eqb (r .under) setLevel u) at t in
       let t2 = and-right (isMember (r .label)) _ t1 in
@@ -183,7 +183,7 @@ cond-same false n = refl
 
 module _ (rs : List Row) (all : allRows headerless rs ≡ true) (st : State) (k l last : ℕ) (o : None st last) where
   none-at-top : (r : Row) → headerless r ≡ true → r .label ≡ rowLabel l → r .under ≡ setLevel → Goes None (atSetLevel r) st k l last
-  unfolding headerOf lastBehind headerLine stays next
+  unfolding headerOf lastAfter headerLine stays next
   none-at-top r t n u =
       let h : isHeader l ≡ false = sym (header-row l) ∙ (ap isHeader (sym n) ∙ not-true _ (and-right (eqb (r .under) setLevel) _ t)) in
       record { header-so = rw o (cond-same (isMember l) 0); still = rw h o }
@@ -209,7 +209,7 @@ follow-open rs all = record { Kept = Open; begins = λ e. absurd (true≢false (
 follow-none : (rs : List Row) → allRows headerless rs ≡ true → Follow rs
 follow-none rs all = record { Kept = None; begins = refl; goes = none-goes rs all }
 
--- In a set of each type, where no line breaks 11 or 12, the labels alone tell each line's header.
+-- In a set of each type, if no line breaks 11 or 12, the labels alone give each line's header.
 pub follow : (settype : SetType) → Follow (table settype)
 unfolding table
 follow T6300 = follow-open rows6300 grouped-6300

@@ -1,7 +1,7 @@
-// A walk over the lines of an accepted set that gives its index entry after entry, by value: nothing is kept but three numbers, and no table is asked.
+// A walk over the lines of an accepted set that gives its index entry after entry, by value: nothing is kept but three numbers, and no table is looked up.
 // No function has a `requires`. Contracts cite specs/Walking, and `entries-are` in proofs/EntryWalk says what the walk of an accepted set gives.
 ghost use mathlib.Core.Path.{_≡_};
-ghost use Rattle.index_walk.specs.Walking.{begin, counted, isHeader, isMember, headerOf, lastBehind, noLine, nextEntry};
+ghost use Rattle.index_walk.specs.Walking.{walkStart, counted, isHeader, isMember, headerOf, lastAfter, noEntry, nextEntry};
 use meaning::Entry;
 use meaning::SetType;
 
@@ -12,15 +12,15 @@ pub struct Walk {
     pub header: usize,
 }
 
-// The entry of the line at the walk, and the walk behind that line.
-pub struct Next {
+// The entry of the line at the walk, and the walk after that line.
+pub struct NextEntry {
     pub entry: Entry,
     pub walk: Walk,
 }
 
 // At the first line of a set.
 pub fn start() -> Walk
-    ensures { λ r. ⌜ r ≡ begin ⌝ }
+    ensures { λ r. ⌜ r ≡ walkStart ⌝ }
 {
     Walk {
         at: 0,
@@ -84,9 +84,9 @@ fn header_of(label: usize, last: usize) -> usize
     0
 }
 
-// The number of the last header's line, behind the line with this label and number.
-fn last_behind(label: usize, number: usize, last: usize) -> usize
-    ensures { λ r. ⌜ r ≡ lastBehind label number last ⌝ }
+// The number of the last header's line, after the line with this label and number.
+fn last_after(label: usize, number: usize, last: usize) -> usize
+    ensures { λ r. ⌜ r ≡ lastAfter label number last ⌝ }
 {
     if is_header(label) {
         return number;
@@ -96,12 +96,12 @@ fn last_behind(label: usize, number: usize, last: usize) -> usize
 
 // ---- from line to line
 
-// Where no line stands: an entry of zeros, and a walk that starts again.
-fn no_line() -> Next
-    ensures { λ r. ⌜ r ≡ noLine ⌝ }
+// If no line stands there: an entry of zeros, and a walk that starts again.
+fn no_entry() -> NextEntry
+    ensures { λ r. ⌜ r ≡ noEntry ⌝ }
 {
     let walk = start();
-    Next {
+    NextEntry {
         entry: Entry {
             label: 0,
             place: 0,
@@ -112,23 +112,23 @@ fn no_line() -> Next
     }
 }
 
-// The entry of the line at the walk, by what its bytes tell, and the walk behind that line.
-pub fn next_entry(set: &[u8], walk: Walk) -> Next
+// The entry of the line at the walk, as its bytes give it, and the walk after that line.
+pub fn next_entry(set: &[u8], walk: Walk) -> NextEntry
     ensures { λ r. ⌜ r ≡ nextEntry (now (set .entry)) walk ⌝ }
 {
     let at = walk.at;
     if set.len() < meaning::LINE_LEAD {
-        return no_line();
+        return no_entry();
     }
     if set.len() - meaning::LINE_LEAD < at {
-        return no_line();
+        return no_entry();
     }
     let length = line_read::told_length(set, at);
     let label = line_read::told_label(set, at);
     let lines = one_more(walk.lines);
-    let last = last_behind(label, lines, walk.header);
+    let last = last_after(label, lines, walk.header);
     let header = header_of(label, walk.header);
-    Next {
+    NextEntry {
         entry: Entry {
             label,
             place: at + meaning::LINE_LEAD,

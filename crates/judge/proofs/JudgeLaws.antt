@@ -30,41 +30,32 @@ use Rattle.meaning.proofs.FieldLaws.{sum-fits}
 use Rattle.meaning.proofs.SetLaws.{scanned, second-fits, later-sound}
 use Rattle.line_read.specs.declared.Number.the-variants.{Is}
 use Rattle.line_read.specs.Number.{numberAt}
-use Rattle.line_read.proofs.Bridge.{asNumber, number-is, read-line, reads-content, reads-on}
-use Rattle.line_scan.proofs.Bridge.{summary, scan-is}
-use Rattle.judge_missing.specs.Lacks.{begin}
+use Rattle.line_read.proofs.LineMeaning.{asNumber, number-is, read-line, reads-content, reads-on}
+use Rattle.line_scan.proofs.ScanMeaning.{scanSummary, scan-is}
 use Rattle.meaning.proofs.FirstLaws.{firstOf, Real, first-append, real-append, real-ask, first-none, or-assoc, or-none, or-bad, or-then}
-use Rattle.judge_missing.proofs.FlagLaws.{begin-same}
-use Rattle.judge_line.proofs.FoundLaws.{middle, real-middle, ofType, whole-found}
+use Rattle.meaning.proofs.RealLaws.{startFaultsBy, real-starts, faultsAfterStart, real-after-start, ofType}
 use Rattle.judge_start.specs.Sum.{sumWalk}
-use Rattle.judge_start.proofs.Laws.{starts, real-starts}
-use Rattle.judge_lines.specs.Pass.{passFrom}
-use Rattle.judge_lines.proofs.PassLaws.{pass-is}
+use Rattle.judge_lines.proofs.PassLaws.{pass-found}
 use Rattle.judge.specs.Walks.{secondBy, secondWalk, asJudged, typedBy, firstBy, linesWalk, judgedScan, judgeWalk}
-
--- ---- 11 to 16, as found
-
-pass-found : (s : List ℕ) (settype : SetType) (fs : List Field) (t : List ℕ) → Every Sound fs → s ≡ render fs t
-    → passFrom s settype 0 begin noRefusal (length fs) ≡ firstOf (inSet fs) (middle (ofType settype) fs)
-pass-found s settype fs t h w = pass-is s settype fs fs t 0 0 begin first noRefusal h w (omega arith) refl refl (begin-same (inSet fs) refl) ∙ whole-found settype (inSet fs) fs
 
 -- ---- all rules, as found
 
-module _ (fs : List Field) (a b c : Bool) (e : startFaults fs ≡ starts a b c) where
+module _ (fs : List Field) (a b c : Bool) (e : startFaults fs ≡ startFaultsBy a b c) where
   real-set : Real (setFaults fs)
   unfolding setFaults ruleFaults sumFaults
   real-set =
-      rw e (real-append (starts a b c ++ middle (profile fs) fs) _ (real-append (starts a b c) (middle (profile fs) fs) (real-starts a b c) (real-middle (profile fs) fs))
+      rw e (real-append (startFaultsBy a b c ++ faultsAfterStart (profile fs) fs) _
+      (real-append (startFaultsBy a b c) (faultsAfterStart (profile fs) fs) (real-starts a b c) (real-after-start (profile fs) fs))
       (real-ask (eqb (number (contentAtLine fs 1)) (size fs)) (atLine badSum 1 0) (λ z. omega arith)))
 
   set-found : firstOf (inSet fs) (setFaults fs)
-      ≡ orElse (firstOf (inSet fs) (starts a b c)) (orElse (firstOf (inSet fs) (middle (profile fs) fs)) (firstOf (inSet fs) (sumFaults fs)))
+      ≡ orElse (firstOf (inSet fs) (startFaultsBy a b c)) (orElse (firstOf (inSet fs) (faultsAfterStart (profile fs) fs)) (firstOf (inSet fs) (sumFaults fs)))
   unfolding setFaults ruleFaults
   set-found =
-      let m : List Fault = middle (profile fs) fs in
-      rw e (first-append (inSet fs) (starts a b c ++ m) (sumFaults fs) (real-append (starts a b c) m (real-starts a b c) (real-middle (profile fs) fs))
-      ∙ (ap (λ (x : Refusal). orElse x (firstOf (inSet fs) (sumFaults fs))) (first-append (inSet fs) (starts a b c) m (real-starts a b c))
-      ∙ sym (or-assoc (firstOf (inSet fs) (starts a b c)) (firstOf (inSet fs) m) (firstOf (inSet fs) (sumFaults fs)))))
+      let m : List Fault = faultsAfterStart (profile fs) fs in
+      rw e (first-append (inSet fs) (startFaultsBy a b c ++ m) (sumFaults fs) (real-append (startFaultsBy a b c) m (real-starts a b c) (real-after-start (profile fs) fs))
+      ∙ (ap (λ (x : Refusal). orElse x (firstOf (inSet fs) (sumFaults fs))) (first-append (inSet fs) (startFaultsBy a b c) m (real-starts a b c))
+      ∙ sym (or-assoc (firstOf (inSet fs) (startFaultsBy a b c)) (firstOf (inSet fs) m) (firstOf (inSet fs) (sumFaults fs)))))
 
 -- the answer, from the first fault; `settype` is the type that line 1 names
 verdict-is : (pl : ℕ → Spot → ℕ) (xs : List Fault) (d : Parsed) (settype : SetType) → profile (d .fields) .setType ≡ Of settype → Real xs
@@ -78,7 +69,7 @@ verdict-bad : (pl : ℕ → Spot → ℕ) (xs : List Fault) (d : Parsed) → (fi
 verdict-bad pl [] d h = absurd (h refl)
 verdict-bad pl (x ∷ xs) d h = refl
 
--- ---- 17, where line 2 fits
+-- ---- 17, if line 2 fits
 
 sum-is : (s : List ℕ) (at total : ℕ) (g : Field) (u : List ℕ) (pl : ℕ → Spot → ℕ) (p : Profile) → Sound g → drop at s ≡ lineThen g u → at ≡ pl 1 start
     → fits p (field 8100 (g .content)) ≡ true → sumWalk s at total ≡ firstOf pl (ask (eqb (number (g .content)) total) (atLine badSum 1 0))
@@ -111,18 +102,20 @@ cond-when false x y z h = refl
 second-is : (s : List ℕ) (settype : SetType) (total : ℕ) (f g : Field) (fs : List Field) (t : List ℕ) → Every Sound (f ∷ g ∷ fs) → s ≡ render (f ∷ g ∷ fs) t
     → lineSize f ≡ inSet (f ∷ g ∷ fs) 1 start
     → secondWalk s settype (lineSize f) total (length (f ∷ g ∷ fs))
-    ≡ cond (eqb (g .label) 8100) (orElse (firstOf (inSet (f ∷ g ∷ fs)) (middle (ofType settype) (f ∷ g ∷ fs))) (firstOf (inSet (f ∷ g ∷ fs)) (ask (eqb (number (g .content)) total) (atLine badSum 1 0))))
+    ≡ cond (eqb (g .label) 8100)
+    (orElse (firstOf (inSet (f ∷ g ∷ fs)) (faultsAfterStart (ofType settype) (f ∷ g ∷ fs))) (firstOf (inSet (f ∷ g ∷ fs)) (ask (eqb (number (g .content)) total) (atLine badSum 1 0))))
     (refusal noSum (lineSize f) 0)
 unfolding secondWalk secondBy
 second-is s settype total f g fs t h w e =
     let all : List Field = f ∷ g ∷ fs in
     let w′ = first-end s f t (g ∷ fs) (h .0) w in
     let p : Profile = ofType settype in
-    let P : Refusal = firstOf (inSet all) (middle p all) in
+    let P : Refusal = firstOf (inSet all) (faultsAfterStart p all) in
     rw (le-leb 2 (length all) (omega arith), read-line s (lineSize f) g (render fs t) w′ (h .1 .0), pass-found s settype all t h w)
-    (cond-when (eqb (g .label) 8100) (orElse P (sumWalk s (lineSize f) total)) (orElse P (firstOf (inSet all) (ask (eqb (number (g .content)) total) (atLine badSum 1 0)))) (refusal noSum (lineSize f) 0)
+    (cond-when (eqb (g .label) 8100) (orElse P (sumWalk s (lineSize f) total))
+    (orElse P (firstOf (inSet all) (ask (eqb (number (g .content)) total) (atLine badSum 1 0)))) (refusal noSum (lineSize f) 0)
     (λ c. or-then P (λ z.
-    let none : middle p all ≡ [] = first-none (inSet all) (middle p all) (real-middle p all) z in
+    let none : faultsAfterStart p all ≡ [] = first-none (inSet all) (faultsAfterStart p all) (real-after-start p all) z in
     let fit : fits p g ≡ true = second-fits p f g fs (append-none (rulesFrom p first 0 all) _ none .0) in
     sum-is s (lineSize f) total g (render fs t) (inSet all) p (h .1 .0) w′ e (subst (λ (l : ℕ). fits p (field l (g .content)) ≡ true) (eqb-true (g .label) 8100 c) fit))))
 
@@ -131,7 +124,7 @@ place-one f fs = omega arith
 
 -- ---- 8 to 17
 
--- what the walk makes of the tests on lines 1 and 2: a says that line 1 is 8000, k which type it names, c that line 2 is 8100; P and Q are found behind them
+-- what the walk makes of the tests on lines 1 and 2: a says that line 1 is 8000, k which type it names, c that line 2 is 8100; P and Q are found after them
 module _ (all : List Field) (d : Parsed) (same : d .fields ≡ all) (xs : List Fault) (real : Real xs) (at : ℕ) (place : at ≡ inSet all 1 start) (P Q : Refusal) where
   -- a refusal that is found is the answer
   bad : (r : Refusal) → (r .no ≡ 0 → ⊥) → firstOf (inSet all) xs ≡ r → judged (verdict (inSet all) xs d) ≡ Judged.Refused r
@@ -139,18 +132,18 @@ module _ (all : List Field) (d : Parsed) (same : d .fields ≡ all) (xs : List F
 
   by-tests : (s : List ℕ) (a : Bool) (k : Known) (c : Bool) → profile (d .fields) .setType ≡ k
       → ((settype : SetType) → k ≡ Of settype → secondWalk s settype at (size all) (length all) ≡ cond c (orElse P Q) (refusal noSum at 0))
-      → firstOf (inSet all) xs ≡ orElse (firstOf (inSet all) (starts a (isKnown k) c)) (orElse P Q)
+      → firstOf (inSet all) xs ≡ orElse (firstOf (inSet all) (startFaultsBy a (isKnown k) c)) (orElse P Q)
       → cond a (typedBy s k at (size all) (length all)) (Judged.Refused (refusal noStart 0 0)) ≡ judged (verdict (inSet all) xs d)
   by-tests s false k c e x q = sym (bad (refusal noStart 0 0) (λ z. omega arith) (q ∙ or-bad (refusal noStart 0 0) (orElse P Q) (λ z. omega arith)))
   by-tests s true Nothing c e x q = sym (bad (refusal unknownSet 0 0) (λ z. omega arith) (q ∙ or-bad (refusal unknownSet 0 0) (orElse P Q) (λ z. omega arith)))
   by-tests s true (Of settype) c e x q =
-      ap (λ (r : Refusal). asJudged r settype (size all) (length all)) (x settype refl ∙ (behind c ∙ sym q))
+      ap (λ (r : Refusal). asJudged r settype (size all) (length all)) (x settype refl ∙ (second-so c ∙ sym q))
       ∙ (ap (λ (fs : List Field). asJudged (firstOf (inSet all) xs) settype (size fs) (length fs)) (sym same)
       ∙ sym (verdict-is (inSet all) xs d settype e real))
     where
-      behind : (c : Bool) → cond c (orElse P Q) (refusal noSum at 0) ≡ orElse (firstOf (inSet all) (ask c (atLine noSum 1 0))) (orElse P Q)
-      behind true = sym (or-none (orElse P Q))
-      behind false = ap (λ (y : ℕ). refusal noSum y 0) place ∙ sym (or-bad (refusal noSum (inSet all 1 start) 0) (orElse P Q) (λ z. omega arith))
+      second-so : (c : Bool) → cond c (orElse P Q) (refusal noSum at 0) ≡ orElse (firstOf (inSet all) (ask c (atLine noSum 1 0))) (orElse P Q)
+      second-so true = sym (or-none (orElse P Q))
+      second-so false = ap (λ (y : ℕ). refusal noSum y 0) place ∙ sym (or-bad (refusal noSum (inSet all 1 start) 0) (orElse P Q) (λ z. omega arith))
 
 -- line 1 as the walk reads it
 first-is : (s : List ℕ) (f : Field) (fs : List Field) (t : List ℕ) (total lines : ℕ) → Sound f → s ≡ render (f ∷ fs) t
@@ -168,9 +161,9 @@ two-lines s f g fs t h w =
     let c : Bool = eqb (g .label) 8100 in
     let Q : Refusal = firstOf (inSet all) (ask (eqb (number (g .content)) (size all)) (atLine badSum 1 0)) in
     first-is s f (g ∷ fs) t (size all) (length all) (h .0) w
-    ∙ by-tests all (parsed all t) refl (setFaults all) (real-set all a (isKnown k) c refl) (lineSize f) (place-one f (g ∷ fs)) (firstOf (inSet all) (middle (profile all) all)) Q s a k c refl
+    ∙ by-tests all (parsed all t) refl (setFaults all) (real-set all a (isKnown k) c refl) (lineSize f) (place-one f (g ∷ fs)) (firstOf (inSet all) (faultsAfterStart (profile all) all)) Q s a k c refl
     (λ settype e. second-is s settype (size all) f g fs t h w (place-one f (g ∷ fs))
-    ∙ ap (λ (x : Known). cond c (orElse (firstOf (inSet all) (middle (record { setType = x }) all)) Q) (refusal noSum (lineSize f) 0)) (sym e))
+    ∙ ap (λ (x : Known). cond c (orElse (firstOf (inSet all) (faultsAfterStart (record { setType = x }) all)) Q) (refusal noSum (lineSize f) 0)) (sym e))
     (set-found all a (isKnown k) c refl)
 
 one-line : (s : List ℕ) (f : Field) (t : List ℕ) → Every Sound (f ∷ []) → s ≡ render (f ∷ []) t
@@ -181,7 +174,8 @@ one-line s f t h w =
     let a : Bool = eqb (f .label) 8000 in
     let k : Known = typeNamed (f .content) in
     first-is s f [] t (size all) (length all) (h .0) w
-    ∙ by-tests all (parsed all t) refl (setFaults all) (real-set all a (isKnown k) false refl) (lineSize f) (place-one f []) (firstOf (inSet all) (middle (profile all) all)) (firstOf (inSet all) (sumFaults all)) s a k false refl
+    ∙ by-tests all (parsed all t) refl (setFaults all) (real-set all a (isKnown k) false refl) (lineSize f) (place-one f [])
+    (firstOf (inSet all) (faultsAfterStart (profile all) all)) (firstOf (inSet all) (sumFaults all)) s a k false refl
     (λ settype e. refl) (set-found all a (isKnown k) false refl)
 
 lines-are : (s : List ℕ) (f : Field) (fs : List Field) (t : List ℕ) → Every Sound (f ∷ fs) → s ≡ render (f ∷ fs) t
@@ -194,7 +188,7 @@ pub judge-is : (s : List ℕ) → judgeWalk s ≡ judge s
 unfolding judgeWalk judge read
 judge-is s = rw (scan-is s) (go (scan s) refl)
   where
-    go : (r : Reply Parsed) → scan s ≡ r → judgedScan (summary r) (λ total n. linesWalk s total n) ≡ judged (byRules r)
+    go : (r : Reply Parsed) → scan s ≡ r → judgedScan (scanSummary r) (λ total n. linesWalk s total n) ≡ judged (byRules r)
     go (refused x) e = refl
     go (done d) e =
         let r = scanned s (d .fields) (d .rest) e in

@@ -17,26 +17,25 @@ use Rattle.meaning.specs.Limits.{maxLines, typeNumber}
 use Rattle.meaning.specs.Refusals.{refusal, empty, noStart, unknownSet, noSum}
 use Rattle.meaning.specs.Lines.{lengthDigits, labelDigits}
 use Rattle.meaning.specs.Rules.{typeNamed}
-use Rattle.meaning.specs.Answers.{noRefusal, orElse}
+use Rattle.meaning.specs.Answers.{orElse}
 use Rattle.line_read.specs.declared.Number.the-variants.{Is, None}
 use Rattle.line_read.specs.declared.Line.{Line}
 use Rattle.line_read.specs.declared.Line.the-variants.{Read, Refused}
 use Rattle.line_read.specs.Number.{numberAt}
-use Rattle.line_read.specs.Line.{lineAt, contentOf}
-use Rattle.line_read.proofs.Bridge.{read-back}
+use Rattle.line_read.specs.Line.{lineAt, lineContent}
+use Rattle.line_read.proofs.LineMeaning.{read-back, label-read}
 use Rattle.line_scan.specs.declared.Scan.{Scan}
 use Rattle.line_scan.specs.declared.Scan.the-variants.{Done}
-use Rattle.line_scan.specs.Scan.{endsAt, scanFrom, scanSet}
-use Rattle.line_scan.proofs.Laws.{scan-bad, scan-further}
-use Rattle.judge_missing.specs.Lacks.{begin}
+use Rattle.line_scan.specs.Scan.{endsAt, scanFrom, scanSet, Stops}
+use Rattle.line_scan.proofs.ScanWalkLaws.{scan-bad, scan-further, scan-first, stops-unread, CountsFrom, scan-counts}
+use Rattle.line_scan.proofs.ScanMeaning.{ends-label}
 use Rattle.judge_start.specs.Sum.{sumWalk}
-use Rattle.judge_lines.specs.Pass.{afterLine, passFrom, firstUnread, doneUnless, Stops, passed}
-use Rattle.judge_lines.proofs.OnceLaws.{Counts, scan-counts, label-read, ends-label, stops-unread, scan-first}
+use Rattle.judge_lines.specs.Pass.{afterLine, passSet, firstUnread, scanUnless, passed}
 use Rattle.judge.specs.Walks.{ruledWalk, secondBy, secondWalk, asJudged, typedBy, firstBy, linesWalk, judgedScan, judgeWalk}
 
 -- ---- what the scan leaves to be judged
 
--- a refusal stands where all lines are read
+-- a refusal stands if all lines are read
 pub stands : (x : Scan) (r : Refusal) (f : ℕ → ℕ → Judged) → ((total lines : ℕ) → f total lines ≡ Judged.Refused r) → Judged.Refused (firstUnread x r) ≡ judgedScan x f
 stands (Done total lines) r f h = sym (h total lines)
 stands (Scan.Refused q) r f h = refl
@@ -48,15 +47,15 @@ scan-same (Scan.Refused q) f g h = refl
 -- ---- 11 to 17
 
 module _ (s : List ℕ) (settype : SetType) (at : ℕ) where
-  -- 17 behind the pass
+  -- 17 after the pass
   pub summed-is : (x : Scan) → judgedScan (passed s settype x) (λ total lines. asJudged (sumWalk s at total) settype total lines)
       ≡ judgedScan x (λ total lines. asJudged (ruledWalk s settype at total lines) settype total lines)
-  unfolding doneUnless orElse asJudged
+  unfolding scanUnless orElse asJudged
   summed-is (Scan.Refused q) = refl
   summed-is (Done total lines) = go (eqb (P .no) 0) refl
     where
       P : Refusal
-      P = passFrom s settype 0 begin noRefusal lines
+      P = passSet s settype lines
 
       go : (b : Bool) → eqb (P .no) 0 ≡ b
           → judgedScan (cond b (Done total lines) (Scan.Refused P)) (λ total lines. asJudged (sumWalk s at total) settype total lines)
@@ -74,10 +73,10 @@ pub judged-good : (r q : Refusal) (settype : SetType) (total lines k : ℕ) → 
 unfolding asJudged
 judged-good r q settype total lines k e g h = rw (← e, g, h)
 
--- ---- 10 to 17, where line 1 ends at `at`
+-- ---- 10 to 17, if line 1 ends at `at`
 
 module _ (s : List ℕ) (settype : SetType) (at : ℕ) (w : lineAt s 0 ≡ Read 8000 at) where
-  -- where line 2 is no 8100, the scan's refusal comes first
+  -- if line 2 is no 8100, the scan's refusal comes first
   no-sum : ((total lines : ℕ) → scanFrom s at 1 (maxLines - 1) ≡ Done total lines → typedBy s (Of settype) at total lines ≡ Judged.Refused (refusal noSum at 0))
       → Judged.Refused (firstUnread (scanFrom s at 1 (maxLines - 1)) (refusal noSum at 0)) ≡ judgedScan (scanSet s) (λ total lines. typedBy s (Of settype) at total lines)
   no-sum h = go (scanFrom s at 1 (maxLines - 1)) refl ∙ ap (λ (x : Scan). judgedScan x (λ total lines. typedBy s (Of settype) at total lines)) (sym (scan-first s w))
@@ -129,7 +128,7 @@ module _ (s : List ℕ) (settype : SetType) (at : ℕ) (w : lineAt s 0 ≡ Read 
         goes-on : endsAt s at ≡ false
         goes-on = ends-label s at q ∙ ne-eqb l 8000 (λ z. omega arith)
 
-        go : (l′ n : ℕ) → lineAt s at ≡ Read l′ n → l′ ≡ 8100 → (x : Scan) → Counts 2 x → judgedScan x f ≡ judgedScan x g
+        go : (l′ n : ℕ) → lineAt s at ≡ Read l′ n → l′ ≡ 8100 → (x : Scan) → CountsFrom 2 x → judgedScan x f ≡ judgedScan x g
         go l′ n e z (Scan.Refused r) c = refl
         go l′ n e z (Done total lines) c = sym (rw (le-leb 2 lines c, e, eq-eqb l′ 8100 z))
 
@@ -154,7 +153,7 @@ module _ (s : List ℕ) (l n : ℕ) (q : lineAt s 0 ≡ Read l n) where
 
   module _ (h : l ≡ 8000) (k : Known) (e : k ≡ typeNamed (take (n - 2 - 7) (drop 7 s))) where
     -- k is the type that line 1 names
-    named-so : k ≡ typeNamed (contentOf s 0 n)
+    named-so : k ≡ typeNamed (lineContent s 0 n)
     named-so =
         let m : n - 2 - 7 ≡ n - 9 = omega (arith, read-back s 0 q .least) in
         e ∙ ap (λ (m : ℕ). typeNamed (take m (drop 7 s))) m
@@ -171,7 +170,7 @@ module _ (s : List ℕ) (l n : ℕ) (q : lineAt s 0 ≡ Read l n) where
       pub first-start : lineAt s 0 ≡ Read 8000 n
       first-start = q ∙ ap (λ (x : ℕ). Read x n) h
 
-      pub first-named : typeNamed (contentOf s 0 n) ≡ Of settype
+      pub first-named : typeNamed (lineContent s 0 n) ≡ Of settype
       first-named = sym named-so ∙ z
 
       pub first-typed : judgedScan (scanSet s) (λ total lines. typedBy s (Of settype) n total lines) ≡ judgedScan (scanSet s) (λ total lines. firstBy s l n total lines)

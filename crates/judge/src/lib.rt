@@ -5,7 +5,7 @@ ghost use Rattle.meaning.specs.declared.Known.the-variants.{Of};
 ghost use Rattle.meaning.specs.Rules.{typeNamed};
 ghost use Rattle.meaning.specs.Reading as Reading;
 ghost use Rattle.line_read.specs.declared.Line.the-variants.{Read};
-ghost use Rattle.line_read.specs.Line.{lineAt, contentOf};
+ghost use Rattle.line_read.specs.Line.{lineAt, lineContent};
 ghost use Rattle.line_scan.specs.Scan.{scanSet};
 ghost use Rattle.judge.specs.Walks.{ruledWalk, asJudged, typedBy, firstBy, judgedScan};
 use line_read::Line;
@@ -17,9 +17,9 @@ use meaning::Refusal;
 use meaning::SetType;
 use meaning::Shape;
 
-// 11 to 17, where line 1 names this type and ends at `at`, and line 2 is 8100.
+// 11 to 17, if line 1 names this type and ends at `at`, and line 2 is 8100.
 fn summed(s: &[u8], settype: SetType, at: usize) -> Judged
-    requires { ⌜ (lineAt (now s) 0 ≡ Read 8000 at) × (typeNamed (contentOf (now s) 0 at) ≡ Of settype) ⌝ }
+    requires { ⌜ (lineAt (now s) 0 ≡ Read 8000 at) × (typeNamed (lineContent (now s) 0 at) ≡ Of settype) ⌝ }
     ensures { λ r. ⌜ r ≡ judgedScan (scanSet (now (s .entry))) (λ total lines. asJudged (ruledWalk (now (s .entry)) settype at total lines) settype total lines) ⌝ }
 {
     match judge_lines::pass(s, settype, at) {
@@ -38,9 +38,9 @@ fn summed(s: &[u8], settype: SetType, at: usize) -> Judged
     }
 }
 
-// 10 to 17, where line 1 names this type and ends at `at`: of line 2 only the label is asked here, the pass reads it.
+// 10 to 17, if line 1 names this type and ends at `at`: of line 2 only the label is asked here, the pass reads it.
 fn second_line(s: &[u8], settype: SetType, at: usize) -> Judged
-    requires { ⌜ (lineAt (now s) 0 ≡ Read 8000 at) × (typeNamed (contentOf (now s) 0 at) ≡ Of settype) ⌝ }
+    requires { ⌜ (lineAt (now s) 0 ≡ Read 8000 at) × (typeNamed (lineContent (now s) 0 at) ≡ Of settype) ⌝ }
     ensures { λ r. ⌜ r ≡ judgedScan (scanSet (now (s .entry))) (λ total lines. typedBy (now (s .entry)) (Of settype) at total lines) ⌝ }
 {
     let no_sum = Refusal::at(Refusal::NO_SUM, at);
@@ -54,7 +54,7 @@ fn second_line(s: &[u8], settype: SetType, at: usize) -> Judged
     summed(s, settype, at)
 }
 
-// 8 to 17, where line 1 is read.
+// 8 to 17, if line 1 is read.
 fn first_line(s: &[u8], label: usize, size: usize) -> Judged
     requires { ⌜ lineAt (now s) 0 ≡ Read label size ⌝ }
     ensures { λ r. ⌜ r ≡ judgedScan (scanSet (now (s .entry))) (λ total lines. firstBy (now (s .entry)) label size total lines) ⌝ }

@@ -1,4 +1,4 @@
 -- The laws that the proofs of this crate and of later ones cite.
 pub mod StepLaws
-pub mod SameLaws
-pub mod FoundLaws
+pub mod StepMeaning
+pub mod StartRows

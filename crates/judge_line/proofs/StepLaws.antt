@@ -16,30 +16,30 @@ use Rattle.meaning.specs.Tables.{setLevel, rows6300, rows6301, rows6302, rows63
 use Rattle.meaning.specs.Kinds.{isAlnum, ofKind}
 use Rattle.meaning.specs.FieldTable.{fieldTable, fieldRowIn, fieldRow, fitsLabel}
 use Rattle.meaning.specs.Groups.{namesRow}
-use Rattle.table_fields.specs.Codes.{kindNumber, kindOf, fieldCode, kindIn}
+use Rattle.table_fields.specs.FieldCodes.{kindNumber, kindOf, fieldCode, kindIn}
 use Rattle.meaning.proofs.RowLaws.{allRows}
 use Rattle.table_kinds.specs.Fitting.{lengthFits}
 use Rattle.table_kinds.proofs.FittingLaws.{fits-not, fits-kind}
-use Rattle.table_find.specs.LookUp.{Found, At, Nothing, findFrom}
-use Rattle.table_find.specs.Codes.{numberIn, underIn}
-use Rattle.table_find.proofs.Laws.{table-all, found-row, found-passes}
-use Rattle.table_find.proofs.CodeLaws.{Coded}
+use Rattle.table_find.specs.LookUp.{Found, At, NoRow, findFrom}
+use Rattle.table_find.specs.RowCodes.{numberIn, underIn}
+use Rattle.table_find.proofs.FindLaws.{table-all, found-row, found-passes}
+use Rattle.table_find.proofs.RowCodeLaws.{Coded}
 use Rattle.judge_missing.specs.declared.Group.{Group}
-use Rattle.judge_missing.specs.Lacks.{State, noFlags, firstLack}
+use Rattle.judge_missing.specs.Lacks.{Flagged, noFlags, firstLack}
 use Rattle.judge_line.specs.declared.Step.{Step}
-use Rattle.judge_line.specs.Steps.{rowOf, placeNo, labelNo, versionNo, fitNo, contentNo, between, lineNo, nextState, staysIn, lackThen, openedGroup, joinedGroup, Stepped}
+use Rattle.judge_line.specs.Steps.{rowOf, placeNo, labelNo, versionNo, fitNo, contentNo, between, lineNo, nextFlagged, staysIn, lackThen, openedGroup, joinedGroup, Stepped}
 
 -- ---- names and their odd labels
 
--- the code asks for the name before a label, the definition for the label behind a name
-pub behind-name : (h l : ℕ) → 1 ≤ l → eqb (h + 1) l ≡ eqb h (l - 1)
-behind-name h l p = go (eqb h (l - 1)) refl
+-- the code asks for the name before a label, the definition for the label after a name
+pub after-name : (h l : ℕ) → 1 ≤ l → eqb (h + 1) l ≡ eqb h (l - 1)
+after-name h l p = go (eqb h (l - 1)) refl
   where
     go : (b : Bool) → eqb h (l - 1) ≡ b → eqb (h + 1) l ≡ b
     go true e = let q : h ≡ l - 1 = eqb-true h (l - 1) e in eq-eqb (h + 1) l (omega arith)
     go false e = ne-eqb (h + 1) l (λ q. eqb-false h (l - 1) e (omega arith))
 
--- ---- what the code of a label's row tells
+-- ---- what the code of a label's row says
 
 -- the row of a label, by the number that its code has
 pub row-at : {settype : SetType} {l c i : ℕ} (h : Coded settype l c) → i ≡ numberIn c → rowOf settype l ≡ At i (h .row)
@@ -70,7 +70,7 @@ found-pair settype l i r e = go (pairMember r) (underName r) (found-passes (tabl
     go false true q = q
     go false false q = refl
 
--- the row of a label is a name's or an odd label's where the label is one
+-- the row of a label is a name's or an odd label's if the label is one
 pair-row : (l : ℕ) → isPairLabel (rowLabel l) ≡ isPairLabel l
 unfolding rowLabel
 pair-row l = go (isPairLabel l) refl
@@ -79,7 +79,7 @@ pair-row l = go (isPairLabel l) refl
     go true e = rw (le-leb 6330 (6330 + l % 2) (omega arith), le-leb (6330 + l % 2) 6399 (omega arith))
     go false e = e
 
--- so a member is the odd label of a pair exactly where its row stands under 6330
+-- so a member is the odd label of a pair exactly if its row stands under 6330
 pub member-pair : {settype : SetType} {l c under : ℕ} (h : Coded settype l c) → under ≡ underIn c → (under ≡ 0 → ⊥) → isPairLabel l ≡ eqb under namesRow
 member-pair {settype} {l} {c} {under} h e n =
     let u : h .row .under ≡ under = h .under-so ∙ sym e in
@@ -125,22 +125,22 @@ module _ (field l : ℕ) (s : List ℕ) (from end : ℕ) (h : from ≤ end) (g :
 -- ---- one line
 
 -- a line that is refused
-stopped : {o : Found} {settype : SetType} {st : State} {lack : Refusal} {at l : ℕ} {c : List ℕ} {r : Step} {members top : List Bool}
+stopped : {o : Found} {settype : SetType} {st : Flagged} {lack : Refusal} {at l : ℕ} {c : List ℕ} {r : Step} {members top : List Bool}
     → r .no ≡ lineNo o st l c → (r .no ≡ 0 → ⊥) → Stepped o settype st lack at l c r members top
-stopped e n = record { number = e; state = λ z. absurd (n z); lack-so = λ z. absurd (n z) }
+stopped e n = record { number = e; flagged-so = λ z. absurd (n z); lack-so = λ z. absurd (n z) }
 
-pub step-unknown : {o : Found} {settype : SetType} {st : State} {lack : Refusal} {at l : ℕ} {c : List ℕ} {r : Step} {members top : List Bool}
-    → o ≡ Nothing → r .no ≡ notInSet → Stepped o settype st lack at l c r members top
+pub step-unknown : {o : Found} {settype : SetType} {st : Flagged} {lack : Refusal} {at l : ℕ} {c : List ℕ} {r : Step} {members top : List Bool}
+    → o ≡ NoRow → r .no ≡ notInSet → Stepped o settype st lack at l c r members top
 unfolding lineNo labelNo
 step-unknown {st = st} {l = l} {c = c} q e = stopped (e ∙ ap (λ (x : Found). lineNo x st l c) (sym q)) (λ z. omega (arith, e))
 
 -- the number of a line that is in its place
-placed-number : (o : Found) (st : State) (l : ℕ) (c : List ℕ) (i : ℕ) (row : Row) → o ≡ At i row → placeNo i row (st .header) (st .members) (st .top) l ≡ 0 → lineNo o st l c ≡ contentNo l c
+placed-number : (o : Found) (st : Flagged) (l : ℕ) (c : List ℕ) (i : ℕ) (row : Row) → o ≡ At i row → placeNo i row (st .header) (st .members) (st .top) l ≡ 0 → lineNo o st l c ≡ contentNo l c
 unfolding lineNo labelNo
 placed-number o st l c i row q e =
     ap (λ (x : Found). lineNo x st l c) q ∙ ap (λ (x : ℕ). cond (eqb x 0) (contentNo l c) x) e
 
-module _ {o : Found} {settype : SetType} {st : State} {lack : Refusal} {at l : ℕ} {c : List ℕ} {r : Step} {members top : List Bool} where
+module _ {o : Found} {settype : SetType} {st : Flagged} {lack : Refusal} {at l : ℕ} {c : List ℕ} {r : Step} {members top : List Bool} where
   pub step-misplaced : (i : ℕ) (row : Row) → o ≡ At i row → (p : ℕ) → p ≡ placeNo i row (st .header) (st .members) (st .top) l → (p ≡ 0 → ⊥) → r .no ≡ p
       → Stepped o settype st lack at l c r members top
   unfolding lineNo labelNo
@@ -157,14 +157,14 @@ module _ {o : Found} {settype : SetType} {st : State} {lack : Refusal} {at l : �
       → (u : ℕ) → u ≡ contentNo l c → u ≡ 0 → row .under ≡ 0 → r .no ≡ 0
       → r .group ≡ record { header = l; place = at; lack = firstLack settype (st .header) (st .place) (st .members) lack } → members ≡ noFlags
       → top ≡ set (st .top) i true → Stepped o settype st lack at l c r members top
-  unfolding nextState staysIn
+  unfolding nextFlagged staysIn
   step-opened i row q p e z u d y v g h a b = record {
     number = g ∙ (sym y ∙ (d ∙ sym (placed-number o st l c i row q (sym e ∙ z))));
-    state = λ x.
+    flagged-so = λ x.
         (λ j. record { header = h j .header; place = h j .place; members = a j; top = b j })
-        ∙ (sym (ap (λ (w : ℕ). cond {A = State} (eqb w 0) (record { header = l; place = at; members = noFlags; top = set (st .top) i true })
+        ∙ (sym (ap (λ (w : ℕ). cond {A = Flagged} (eqb w 0) (record { header = l; place = at; members = noFlags; top = set (st .top) i true })
         (record { header = cond (isPairLabel l) 0 (st .header); place = st .place; members = set (st .members) i true; top = st .top })) v)
-        ∙ ap (λ (x : Found). nextState x st at l) (sym q));
+        ∙ ap (λ (x : Found). nextFlagged x st at l) (sym q));
     lack-so = λ x.
         ap (λ (w : Group). w .lack) h ∙ (sym (ap (λ (w : ℕ). lackThen (not (eqb w 0)) settype st lack) v) ∙ ap (λ (x : Found). lackThen (staysIn x) settype st lack) (sym q));
   }
@@ -173,22 +173,22 @@ module _ {o : Found} {settype : SetType} {st : State} {lack : Refusal} {at l : �
       → (u : ℕ) → u ≡ contentNo l c → u ≡ 0 → (under : ℕ) → row .under ≡ under → (under ≡ 0 → ⊥) → isPairLabel l ≡ eqb under namesRow → r .no ≡ 0
       → r .group ≡ record { header = cond (eqb under namesRow) 0 (st .header); place = st .place; lack = lack }
       → members ≡ set (st .members) i true → top ≡ st .top → Stepped o settype st lack at l c r members top
-  unfolding nextState staysIn
+  unfolding nextFlagged staysIn
   step-joined i row q p e z u d y under v n pair g h a b =
       let w : eqb (row .under) 0 ≡ false = ne-eqb (row .under) 0 (λ x. n (sym v ∙ x)) in
       record {
         number = g ∙ (sym y ∙ (d ∙ sym (placed-number o st l c i row q (sym e ∙ z))));
-        state = λ x.
+        flagged-so = λ x.
             (λ j. record { header = h j .header; place = h j .place; members = a j; top = b j })
             ∙ ((λ j. record { header = cond (sym pair j) 0 (st .header); place = st .place; members = set (st .members) i true; top = st .top })
-            ∙ (sym (ap (λ (w : Bool). cond {A = State} w (record { header = l; place = at; members = noFlags; top = set (st .top) i true })
+            ∙ (sym (ap (λ (w : Bool). cond {A = Flagged} w (record { header = l; place = at; members = noFlags; top = set (st .top) i true })
             (record { header = cond (isPairLabel l) 0 (st .header); place = st .place; members = set (st .members) i true; top = st .top })) w)
-            ∙ ap (λ (x : Found). nextState x st at l) (sym q)));
+            ∙ ap (λ (x : Found). nextFlagged x st at l) (sym q)));
         lack-so = λ x.
             ap (λ (w : Group). w .lack) h ∙ (sym (ap (λ (w : Bool). lackThen (not w) settype st lack) w) ∙ ap (λ (x : Found). lackThen (staysIn x) settype st lack) (sym q));
       }
 
--- what is open behind a set-level line, and behind a member
+-- what is open after a set-level line, and after a member
 pub opened-is : (settype : SetType) (at l : ℕ) (g : Group) (members : List Bool) (lack : Refusal) → lack ≡ firstLack settype (g .header) (g .place) members (g .lack)
     → record { header = l; place = at; lack = lack } ≡ openedGroup settype at l g members
 opened-is settype at l g members lack e = λ j. record { header = l; place = at; lack = e j }

@@ -1,6 +1,6 @@
-// One line's step: 11 to 15 of the line, and what is open behind it.
+// One line's step: 11 to 15 of the line, and what is open after it.
 // `step_at`, which only other crates here call, assumes that its two offsets lie in order within the bytes that it is given. Each contract cites a walk of specs/, and
-// proofs/SameLaws says what the walks mean.
+// proofs/StepMeaning says what the walks mean.
 ghost use mathlib.Core.Path.{_≡_};
 ghost use mathlib.Core.Bool.{true, cond};
 ghost use Prim.Native.Nat.{_≤_, _<_};
@@ -9,15 +9,15 @@ ghost use lib.ListN.{length, set};
 ghost use Rattle.meaning.specs.declared.Row.{Row};
 ghost use Rattle.meaning.specs.FieldTable.{fieldRow};
 ghost use Rattle.meaning.specs.Groups.{belongs, namesRow};
-ghost use Rattle.table_fields.specs.Codes.{fieldCode};
-ghost use Rattle.judge_missing.specs.Lacks.{rowCount, noFlags, stateOf};
-ghost use Rattle.judge_line.specs.Steps.{rowOf, againNo, placeNo, versionNo, fitNo, contentNo, between, openedGroup, joinedGroup, Stepped};
+ghost use Rattle.table_fields.specs.FieldCodes.{fieldCode};
+ghost use Rattle.judge_missing.specs.Lacks.{rowCount, noFlags, flaggedOf};
+ghost use Rattle.judge_line.specs.Steps.{rowOf, repeatedNo, placeNo, versionNo, fitNo, contentNo, between, openedGroup, joinedGroup, Stepped};
 use judge_missing::Group;
 use judge_missing::ROWS;
 use meaning::Refusal;
 use meaning::SetType;
 
-// A line's refusal by its number (0: none), and what is open behind it.
+// A line's refusal by its number (0: none), and what is open after it.
 pub struct Step {
     pub no: usize,
     pub group: Group,
@@ -26,8 +26,8 @@ pub struct Step {
 // ---- 11 to 15 of one line
 
 // 13, Repeated: "single label again in the set or its group".
-fn again_no(many: bool, seen: bool) -> usize
-    ensures { λ r. ⌜ r ≡ againNo many seen ⌝ }
+fn repeated_no(many: bool, seen: bool) -> usize
+    ensures { λ r. ⌜ r ≡ repeatedNo many seen ⌝ }
 {
     if many {
         return 0;
@@ -38,7 +38,7 @@ fn again_no(many: bool, seen: bool) -> usize
     0
 }
 
-// A label whose row stands under this one belongs to the open header: an odd label right behind its name, any other member under the header that its row names.
+// A label whose row stands under this one belongs to the open header: an odd label right after its name, any other member under the header that its row names.
 fn belongs_to(under: usize, header: usize, label: usize) -> bool
     ensures { λ b. ⌜ ((r : Row) → r .under ≡ under → b ≡ belongs r header label) ⌝ }
 {
@@ -65,10 +65,10 @@ fn place_no(
     ensures { λ n. ⌜ ((r : Row) → r .under ≡ under → r .many ≡ many → n ≡ placeNo i r header (now (members .entry)) (now (top .entry)) label) ⌝ }
 {
     if under == 0 {
-        return again_no(many, judge_missing::has(top, i));
+        return repeated_no(many, judge_missing::has(top, i));
     }
     if belongs_to(under, header, label) {
-        return again_no(many, judge_missing::has(members, i));
+        return repeated_no(many, judge_missing::has(members, i));
     }
     Refusal::STRAY
 }
@@ -121,7 +121,7 @@ fn refused_step(no: usize, group: Group) -> Step
     Step { no, group }
 }
 
-// The open header behind a member whose row stands under this label: "an odd label 6331 to 6399 stands nowhere else", so nothing follows it in its pair.
+// The open header after a member whose row stands under this label: "an odd label 6331 to 6399 stands nowhere else", so nothing follows it in its pair.
 fn header_after(under: usize, header: usize) -> usize
     ensures { λ r. ⌜ r ≡ cond (eqb under namesRow) 0 header ⌝ }
 {
@@ -131,7 +131,7 @@ fn header_after(under: usize, header: usize) -> usize
     header
 }
 
-// What is open behind a set-level line with row number i: its own group, with no member yet. The group before it ends.
+// What is open after a set-level line with row number i: its own group, with no member yet. The group before it ends.
 fn opened(
     settype: SetType,
     at: usize,
@@ -154,7 +154,7 @@ fn opened(
     }
 }
 
-// What is open behind a member with row number i that stands under this label.
+// What is open after a member with row number i that stands under this label.
 fn joined(under: usize, i: usize, group: Group, members: &mut [bool; ROWS]) -> Group
     requires { ⌜ i < rowCount ⌝ }
     ensures { λ r. ⌜ (r ≡ joinedGroup under group) × (now (members .exit) ≡ set (now (members .entry)) i true) ⌝ }
@@ -182,7 +182,7 @@ pub fn step_at(
     top: &mut [bool; ROWS],
 ) -> Step
     requires { ⌜ (from ≤ end) × (end ≤ length (now s)) ⌝ }
-    ensures { λ r. ⌜ Stepped (rowOf settype label) settype (stateOf group (now (members .entry)) (now (top .entry))) (group .lack) at label (between (now (s .entry)) from end) r (now (members .exit)) (now (top .exit)) ⌝ }
+    ensures { λ r. ⌜ Stepped (rowOf settype label) settype (flaggedOf group (now (members .entry)) (now (top .entry))) (group .lack) at label (between (now (s .entry)) from end) r (now (members .exit)) (now (top .exit)) ⌝ }
 {
     let code = table_find::find_row(settype, label);
     if code == table_find::NOTHING {

@@ -13,44 +13,48 @@ use Rattle.meaning.specs.Field.{Field}
 use Rattle.meaning.specs.Refusals.{start, refusal}
 use Rattle.meaning.specs.Lines.{lineLead, lineSize, size, offset, render}
 use Rattle.meaning.specs.Groups as G
+use Rattle.meaning.specs.Groups.{first}
+use Rattle.meaning.specs.Answers.{noRefusal}
 use Rattle.meaning.specs.Reading.{inSet}
 use Rattle.meaning.proofs.Bools.{Every}
+use Rattle.meaning.proofs.FirstLaws.{firstOf}
+use Rattle.meaning.proofs.RealLaws.{faultsAfterStart, ofType}
 use Rattle.meaning.proofs.LineLaws.{Sound}
-use Rattle.table_find.specs.LookUp.{Found}
 use Rattle.line_read.specs.declared.Line.the-variants.{Read}
-use Rattle.line_read.specs.Line.{lineAt, contentOf}
-use Rattle.line_read.proofs.Bridge.{read-line, read-back, reads-content, reads-on}
-use Rattle.judge_missing.specs.Lacks.{State, stateOf}
-use Rattle.judge_missing.proofs.FlagLaws.{Same}
+use Rattle.line_read.specs.Line.{lineAt, lineContent}
+use Rattle.line_read.proofs.LineMeaning.{read-line, read-back, reads-content, reads-on}
+use Rattle.judge_missing.specs.Lacks.{Flagged, noneSeen, flaggedOf}
+use Rattle.judge_missing.proofs.FlagLaws.{Agrees, none-agrees}
 use Rattle.judge_line.specs.declared.Step.{Step}
 use Rattle.judge_line.specs.Steps.{rowOf, lineNo, Stepped}
-use Rattle.judge_line.proofs.SameLaws.{whole, pass-line, pass-finish}
-use Rattle.judge_lines.specs.Pass.{passFrom}
+use Rattle.judge_line.proofs.StepMeaning.{passFinds, pass-line, pass-finish, pass-finds}
+use Rattle.judge_lines.specs.Pass.{passFrom, passSet}
 
 -- ---- the pass: one line more
 
 -- the content of a line is the part of the set that stands there
-pub step-line : {o : Found} {settype : SetType} {st : State} {lack : Refusal} {l : ℕ} {r : Step} {members top : List Bool} (s : List ℕ) (at size : ℕ) → 10 ≤ size
-    → Stepped o settype st lack at l (take (at + size - 2 - (at + 7)) (drop (at + lineLead) s)) r members top → Stepped o settype st lack at l (contentOf s at size) r members top
-step-line {o} {settype} {st} {lack} {l} {r} {members} {top} s at size h e =
+pub step-line : {settype : SetType} {st : Flagged} {lack : Refusal} {l : ℕ} {r : Step} {members top : List Bool} (s : List ℕ) (at size : ℕ) → 10 ≤ size
+    → Stepped (rowOf settype l) settype st lack at l (take (at + size - 2 - (at + 7)) (drop (at + lineLead) s)) r members top
+    → Stepped (rowOf settype l) settype st lack at l (lineContent s at size) r members top
+step-line {settype} {st} {lack} {l} {r} {members} {top} s at size h e =
     let m : at + size - 2 - (at + 7) ≡ size - 9 = omega arith in
-    subst (λ (x : ℕ). Stepped o settype st lack at l (take x (drop (at + lineLead) s)) r members top) m e
+    subst (λ (x : ℕ). Stepped (rowOf settype l) settype st lack at l (take x (drop (at + lineLead) s)) r members top) m e
 
-module _ (s : List ℕ) (settype : SetType) (at : ℕ) (st : State) (lack : Refusal) (l size : ℕ) (q : lineAt s at ≡ Read l size) (r : Step) (members top : List Bool)
-    (e : Stepped (rowOf settype l) settype st lack at l (contentOf s at size) r members top) where
+module _ (s : List ℕ) (settype : SetType) (at : ℕ) (st : Flagged) (lack : Refusal) (l size : ℕ) (q : lineAt s at ≡ Read l size) (r : Step) (members top : List Bool)
+    (e : Stepped (rowOf settype l) settype st lack at l (lineContent s at size) r members top) where
   pub pass-bad : (r .no ≡ 0 → ⊥) → (m : ℕ) → passFrom s settype at st lack (suc m) ≡ refusal (r .no) at l
   unfolding passFrom
   pass-bad g m = rw (q, ← (e .number), ne-eqb (r .no) 0 g)
 
-  pub pass-on : r .no ≡ 0 → (m : ℕ) → passFrom s settype at st lack (suc m) ≡ passFrom s settype (at + size) (stateOf (r .group) members top) (r .group .lack) m
+  pub pass-on : r .no ≡ 0 → (m : ℕ) → passFrom s settype at st lack (suc m) ≡ passFrom s settype (at + size) (flaggedOf (r .group) members top) (r .group .lack) m
   unfolding passFrom
   pass-on g m =
-      let z : lineNo (rowOf settype l) st l (contentOf s at size) ≡ 0 = sym (e .number) ∙ g in
-      rw (q, z) (ap₂ (λ (x : State) (y : Refusal). passFrom s settype (at + size) x y m) (sym (e .state g)) (sym (e .lack-so g)))
+      let z : lineNo (rowOf settype l) st l (lineContent s at size) ≡ 0 = sym (e .number) ∙ g in
+      rw (q, z) (ap₂ (λ (x : Flagged) (y : Refusal). passFrom s settype (at + size) x y m) (sym (e .flagged-so g)) (sym (e .lack-so g)))
 
 -- ---- the pass over the fields
 
--- the line behind this one
+-- the line after this one
 pub offset-next : (all : List Field) (k : ℕ) (f : Field) (fs : List Field) → drop k all ≡ f ∷ fs → (offset all (suc k) ≡ offset all k + lineSize f) × (drop (suc k) all ≡ fs)
 offset-next [] zero f fs e = absurd (cons≢nil (sym e))
 offset-next [] (suc k) f fs e = absurd (cons≢nil (sym e))
@@ -66,8 +70,8 @@ module _ (s : List ℕ) (settype : SetType) (all : List Field) where
   next-place : (at k : ℕ) (f : Field) (fs : List Field) → at ≡ inSet all k start → drop k all ≡ f ∷ fs → at + lineSize f ≡ inSet all (k + 1) start
   next-place at k f fs e d = rw add-one (omega (arith, e, offset-next all k f fs d .0))
 
-  pub pass-is : (fs : List Field) (t : List ℕ) (at k : ℕ) (st : State) (ms : G.State) (lack : Refusal) → Every Sound fs → drop at s ≡ render fs t → at ≤ length s
-      → at ≡ inSet all k start → drop k all ≡ fs → Same (inSet all) st ms → passFrom s settype at st lack (length fs) ≡ whole settype (inSet all) ms k fs lack
+  pub pass-is : (fs : List Field) (t : List ℕ) (at k : ℕ) (st : Flagged) (ms : G.State) (lack : Refusal) → Every Sound fs → drop at s ≡ render fs t → at ≤ length s
+      → at ≡ inSet all k start → drop k all ≡ fs → Agrees (inSet all) st ms → passFrom s settype at st lack (length fs) ≡ passFinds settype (inSet all) ms k fs lack
   unfolding passFrom
   pass-is [] t at k st ms lack h w b e d sm = pass-finish settype (inSet all) k st ms lack refl sm
   pass-is (f ∷ fs) t at k st ms lack h w b e d sm =
@@ -78,3 +82,8 @@ module _ (s : List ℕ) (settype : SetType) (all : List Field) where
       (λ st′ ms′ lack′ sm′. pass-is fs t (at + lineSize f) (k + 1) st′ ms′ lack′ (h .1) (reads-on s at f (render fs t) (h .0) w) fit
       (next-place at k f fs e d) (rw add-one (offset-next all k f fs d .1)) sm′) in
       rw (rd, reads-content s at f (render fs t) (h .0) w) go
+
+-- What the pass over a set finds is the first fault of 11 to 16.
+pub pass-found : (s : List ℕ) (settype : SetType) (fs : List Field) (t : List ℕ) → Every Sound fs → s ≡ render fs t
+    → passSet s settype (length fs) ≡ firstOf (inSet fs) (faultsAfterStart (ofType settype) fs)
+pass-found s settype fs t h w = pass-is s settype fs fs t 0 0 noneSeen first noRefusal h w (omega arith) refl refl (none-agrees (inSet fs) refl) ∙ pass-finds settype (inSet fs) fs

@@ -11,12 +11,13 @@ use Rattle.meaning.specs.Refusals.{refusal}
 use Rattle.meaning.specs.Answers.{noRefusal}
 use Rattle.line_read.specs.declared.Line.{Line}
 use Rattle.line_read.specs.declared.Line.the-variants.{Read, Refused}
-use Rattle.line_read.specs.Line.{lineAt, contentOf}
+use Rattle.line_read.specs.Line.{lineAt, lineContent}
 use Rattle.line_scan.specs.declared.Scan.{Scan}
 use Rattle.line_scan.specs.declared.Scan.the-variants.{Done}
-use Rattle.line_scan.specs.Scan.{scanFrom}
-use Rattle.judge_missing.specs.Lacks.{State, begin, finish}
-use Rattle.judge_line.specs.Steps.{rowOf, lineNo, nextState, staysIn, lackThen}
+use Rattle.line_scan.specs.Scan.{scanFrom, Stops}
+use Rattle.judge_missing.specs.Lacks.{Flagged, noneSeen, finish}
+use Rattle.judge_line.specs.Steps.{rowOf, lineNo, nextFlagged, staysIn, lackThen}
+use Rattle.judge_lines.specs.declared.LineOrEnd.{LineOrEnd}
 
 -- ---- the pass
 
@@ -25,13 +26,17 @@ abbrev pub afterLine : Line → (ℕ → ℕ → Refusal) → Refusal
 afterLine (Read l n) f = f l n
 afterLine (Refused r) f = r
 
--- the n lines from a line start on: 11 to 15 of each, and 16 behind the last
-unfoldable pub passFrom : List ℕ → SetType → ℕ → State → Refusal → ℕ → Refusal
+-- the n lines from a line start on: 11 to 15 of each, and 16 after the last
+unfoldable pub passFrom : List ℕ → SetType → ℕ → Flagged → Refusal → ℕ → Refusal
 passFrom s settype at st lack zero = finish settype st lack
 passFrom s settype at st lack (suc n) =
     afterLine (lineAt s at) (λ l m.
-    let rest = passFrom s settype (at + m) (nextState (rowOf settype l) st at l) (lackThen (staysIn (rowOf settype l)) settype st lack) n in
-    cond (eqb (lineNo (rowOf settype l) st l (contentOf s at m)) 0) rest (refusal (lineNo (rowOf settype l) st l (contentOf s at m)) at l))
+    let rest = passFrom s settype (at + m) (nextFlagged (rowOf settype l) st at l) (lackThen (staysIn (rowOf settype l)) settype st lack) n in
+    cond (eqb (lineNo (rowOf settype l) st l (lineContent s at m)) 0) rest (refusal (lineNo (rowOf settype l) st l (lineContent s at m)) at l))
+
+-- all lines of a set
+abbrev pub passSet : List ℕ → SetType → ℕ → Refusal
+passSet s settype lines = passFrom s settype 0 noneSeen noRefusal lines
 
 -- ---- the scan and the pass at once
 
@@ -40,26 +45,21 @@ abbrev pub firstUnread : Scan → Refusal → Refusal
 firstUnread (Done total lines) r = r
 firstUnread (Scan.Refused q) r = q
 
--- a set that is read, where nothing is refused
-unfoldable pub doneUnless : Refusal → ℕ → ℕ → Scan
-doneUnless r total lines = cond (eqb (r .no) 0) (Done total lines) (Scan.Refused r)
+-- a set that is read, if nothing is refused
+unfoldable pub scanUnless : Refusal → ℕ → ℕ → Scan
+scanUnless r total lines = cond (eqb (r .no) 0) (Done total lines) (Scan.Refused r)
 
--- a scan that has k lines before it and reads no more
-abbrev pub Stops : ℕ → Scan → Type 0
-Stops k (Done total lines) = lines ≡ k
-Stops k (Scan.Refused r) = Unit
+-- what is found at a line start that has k lines before it: a line of the set, or that a scan reads no more from there on
+abbrev pub StandsAt : List ℕ → ℕ → ℕ → LineOrEnd → Type 0
+StandsAt s at k (LineOrEnd.Line l n) = (k < maxLines) × (lineAt s at ≡ Read l n) × (l ≡ 8000 → ⊥)
+StandsAt s at k LineOrEnd.End = Stops k (scanFrom s at k (maxLines - k))
 
--- what is told of a line that has k lines before it: its label and size, where it is a line of the set; else the label is 8000
-pub record NextAt (s : List ℕ) (at k l n : ℕ) : Type 0 where
-  pub line-read : (l ≡ 8000 → ⊥) → (k < maxLines) × (lineAt s at ≡ Read l n)
-  pub scan-stops : l ≡ 8000 → Stops k (scanFrom s at k (maxLines - k))
-
--- 16 behind a scan that is done
+-- 16 after a scan that is done
 abbrev pub finishedScan : Refusal → Scan → Scan
-finishedScan r (Done total lines) = doneUnless r total lines
+finishedScan r (Done total lines) = scanUnless r total lines
 finishedScan r (Scan.Refused q) = Scan.Refused q
 
 -- 1 to 7 as the scan found them, then the pass over the lines
 abbrev pub passed : List ℕ → SetType → Scan → Scan
-passed s settype (Done total lines) = doneUnless (passFrom s settype 0 begin noRefusal lines) total lines
+passed s settype (Done total lines) = scanUnless (passSet s settype lines) total lines
 passed s settype (Scan.Refused r) = Scan.Refused r

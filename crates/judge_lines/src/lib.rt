@@ -1,6 +1,6 @@
 // The pass over the lines of a set of a known type, each read once: 11 to 15 of each line, then 16.
 // Assumes of `pass` that line 1 was read and names the type, of `unless_unread` that the offset lies within the bytes and has at most 512 lines before it: only other crates here
-// call them, and they prove that. Each contract cites a walk of specs/; proofs/OnceLaws says what the loop stands for, proofs/PassLaws what the walks mean.
+// call them, and they prove that. Each contract cites a walk of specs/; proofs/LineLoopLaws says what the loop stands for, proofs/PassLaws what the walks mean.
 ghost use mathlib.Core.Path.{_≡_};
 ghost use Prim.Native.Nat.{_+_, _-_, _≤_};
 ghost use lib.ListN.{length};
@@ -8,11 +8,11 @@ ghost use Rattle.meaning.specs.declared.Known.the-variants.{Of};
 ghost use Rattle.meaning.specs.Limits.{maxLines};
 ghost use Rattle.meaning.specs.Rules.{typeNamed};
 ghost use Rattle.line_read.specs.declared.Line.the-variants.{Read};
-ghost use Rattle.line_read.specs.Line.{lineAt, contentOf};
+ghost use Rattle.line_read.specs.Line.{lineAt, lineContent};
 ghost use Rattle.line_scan.specs.Scan.{scanFrom, scanSet};
-ghost use Rattle.judge_missing.specs.Lacks.{finish, stateOf};
+ghost use Rattle.judge_missing.specs.Lacks.{finish, flaggedOf};
 ghost use Rattle.judge_line.specs.Steps.{rowOf, Stepped};
-ghost use Rattle.judge_lines.specs.Pass.{firstUnread, finishedScan, NextAt, passed};
+ghost use Rattle.judge_lines.specs.Pass.{firstUnread, finishedScan, StandsAt, passed};
 use judge_line::Step;
 use judge_missing::Group;
 use judge_missing::ROWS;
@@ -21,10 +21,12 @@ use line_scan::Scan;
 use meaning::Refusal;
 use meaning::SetType;
 
-// The next line: its label and its whole length.
-struct Next {
-    label: usize,
-    size: usize,
+// What stands at a line start.
+enum LineOrEnd {
+    // A line of this set: its label and its whole length.
+    Line { label: usize, size: usize },
+    // No line of this set: the set ends there, or the line is refused by 7 or 2 to 6.
+    End,
 }
 
 // The step of the line of `size` bytes at an offset.
@@ -39,7 +41,7 @@ fn line_step(
     top: &mut [bool; ROWS],
 ) -> Step
     requires { ⌜ (10 ≤ size) × (at + size ≤ length (now s)) ⌝ }
-    ensures { λ r. ⌜ Stepped (rowOf settype label) settype (stateOf group (now (members .entry)) (now (top .entry))) (group .lack) at label (contentOf (now (s .entry)) at size) r (now (members .exit)) (now (top .exit)) ⌝ }
+    ensures { λ r. ⌜ Stepped (rowOf settype label) settype (flaggedOf group (now (members .entry)) (now (top .entry))) (group .lack) at label (lineContent (now (s .entry)) at size) r (now (members .exit)) (now (top .exit)) ⌝ }
 {
     let from = at + meaning::LINE_LEAD;
     let end = at + size - meaning::LINE_END;
@@ -60,26 +62,25 @@ pub fn unless_unread(s: &[u8], from: usize, before: usize, r: Refusal) -> Refusa
     }
 }
 
-// The line at an offset that has so many lines before it. Where no line of this set is read there its label is 8000, which starts another set.
-fn next_line(s: &[u8], at: usize, before: usize) -> Next
-    ensures { λ r. ⌜ NextAt (now (s .entry)) at before (r .label) (r .size) ⌝ }
+// What stands at an offset that has `before` lines before it. A line 8000 starts another set.
+fn next_line(s: &[u8], at: usize, before: usize) -> LineOrEnd
+    ensures { λ r. ⌜ StandsAt (now (s .entry)) at before r ⌝ }
 {
     if SetType::LINES <= before {
-        return Next {
-            label: meaning::LABEL_8000,
-            size: 0,
-        };
+        return LineOrEnd::End;
     }
     match line_read::usual_line(s, at) {
-        Line::Read { label, size } => Next { label, size },
-        Line::Refused(_) => Next {
-            label: meaning::LABEL_8000,
-            size: 0,
-        },
+        Line::Read { label, size } => {
+            if label == meaning::LABEL_8000 {
+                return LineOrEnd::End;
+            }
+            LineOrEnd::Line { label, size }
+        }
+        Line::Refused(_) => LineOrEnd::End,
     }
 }
 
-// Behind a line that is the last to be read: the set ends there, and 16 is asked, or the first refusal by 7 and 2 to 6 is given.
+// After a line that is the last to be read: the set ends there, and 16 is asked, or the first refusal by 7 and 2 to 6 is given.
 fn ended(
     s: &[u8],
     settype: SetType,
@@ -90,7 +91,7 @@ fn ended(
     before: usize,
 ) -> Scan
     requires { ⌜ (from ≤ length (now s)) × (before ≤ maxLines) ⌝ }
-    ensures { λ r. ⌜ r ≡ finishedScan (finish settype (stateOf group (now (members .entry)) (now (top .entry))) (group .lack)) (scanFrom (now (s .entry)) from before (maxLines - before)) ⌝ }
+    ensures { λ r. ⌜ r ≡ finishedScan (finish settype (flaggedOf group (now (members .entry)) (now (top .entry))) (group .lack)) (scanFrom (now (s .entry)) from before (maxLines - before)) ⌝ }
 {
     match line_scan::scan_from(s, from, before) {
         Scan::Refused(unread) => Scan::Refused(unread),
@@ -105,9 +106,9 @@ fn ended(
 }
 
 // The lines of a set of this type, each read once: 11 to 15 of each, then 16. Line 1 ends at `start` and names the type: no rule refuses it. A refusal by 11 to 15 waits until the
-// lines behind it are read.
+// lines after it are read.
 pub fn pass(s: &[u8], settype: SetType, start: usize) -> Scan
-    requires { ⌜ (lineAt (now s) 0 ≡ Read 8000 start) × (typeNamed (contentOf (now s) 0 start) ≡ Of settype) ⌝ }
+    requires { ⌜ (lineAt (now s) 0 ≡ Read 8000 start) × (typeNamed (lineContent (now s) 0 start) ≡ Of settype) ⌝ }
     ensures { λ r. ⌜ r ≡ passed (now (s .entry)) settype (scanSet (now (s .entry))) ⌝ }
 {
     let mut members = [false; ROWS];
@@ -122,23 +123,13 @@ pub fn pass(s: &[u8], settype: SetType, start: usize) -> Scan
     let mut lines: usize = 1;
     loop {
         let next = next_line(s, at, lines);
-        let label = next.label;
-        if label == meaning::LABEL_8000 {
+        let LineOrEnd::Line { label, size } = next else {
             return ended(s, settype, group, &members, &top, at, lines);
-        }
-        let step = line_step(
-            s,
-            settype,
-            at,
-            label,
-            next.size,
-            group,
-            &mut members,
-            &mut top,
-        );
+        };
+        let step = line_step(s, settype, at, label, size, group, &mut members, &mut top);
         let no = step.no;
         let place = at;
-        at += next.size;
+        at += size;
         lines += 1;
         if no != 0 {
             return Scan::Refused(unless_unread(s, at, lines, Refusal { no, place, label }));

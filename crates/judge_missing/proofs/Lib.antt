@@ -1,4 +1,4 @@
 -- The laws that the proofs of this crate and of later ones cite.
-pub mod Laws
+pub mod HeaderLackLaws
 pub mod FlagLaws
-pub mod LackLaws
+pub mod LackMeaning

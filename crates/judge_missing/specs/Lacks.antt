@@ -1,4 +1,4 @@
--- Which rows were seen, as flags, and what is then missing, as the code walks it. proofs/LackLaws ties it to `Missing` of `meaning`.
+-- Which labels were seen, as flags, and what is then missing, as the code walks it. proofs/LackMeaning ties it to `Missing` of `meaning`.
 use mathlib.Core.Bool.{Bool, false, cond, not, _&&_, _||_}
 use mathlib.Core.List.{List, [], _∷_}
 use Prim.Native.Nat.{ℕ, _+_}
@@ -11,15 +11,16 @@ use Rattle.meaning.specs.Refusals.{refusal, missing}
 use Rattle.meaning.specs.Tables.{rowLabel}
 use Rattle.meaning.specs.Groups.{noHeader}
 use Rattle.meaning.specs.Answers.{noRefusal, orElse}
-use Rattle.table_find.specs.LookUp.{numberOf}
+use Rattle.table_fields.specs.LabelNumbers.{labelNumber}
 use Rattle.judge_missing.specs.declared.Group.{Group}
 
--- ---- what the lines so far leave behind, as `Groups.State`, with flags by row number in the place of labels and the header's place in the place of its line
+-- ---- what the lines so far leave, as `Groups.State`, with flags by a label's number in the place of labels and the header's place in the place of its line
 
 abbrev pub rowCount : ℕ
 rowCount = 57
 
-pub record State : Type 0 where
+-- the open header or name, the place of its line, and which labels were seen: in its group, and at set level
+pub record Flagged : Type 0 where
   pub header : ℕ
   pub place : ℕ
   pub members : List Bool
@@ -28,12 +29,13 @@ pub record State : Type 0 where
 abbrev pub noFlags : List Bool
 noFlags = replicate rowCount false
 
-abbrev pub begin : State
-begin = record { header = noHeader; place = 0; members = noFlags; top = noFlags }
+-- before line 1
+abbrev pub noneSeen : Flagged
+noneSeen = record { header = noHeader; place = 0; members = noFlags; top = noFlags }
 
 -- a label's flag
 unfoldable pub seen : List Bool → ℕ → Bool
-seen on l = getD on (numberOf l) false
+seen on l = getD on (labelNumber l) false
 
 -- ---- 16, by the few labels that are needed
 
@@ -94,7 +96,7 @@ requiredLabels T6302 = patientLabels
 requiredLabels T6310 = testLabels
 requiredLabels T6311 = basicLabels
 
--- the open group's lack, where one is open
+-- the open group's lack, if one is open
 unfoldable pub openLack : SetType → ℕ → ℕ → List Bool → Refusal
 openLack settype header place members = cond (eqb header noHeader) noRefusal (groupLack settype (seen members) header place)
 
@@ -107,9 +109,9 @@ unfoldable pub setLack : SetType → List Bool → Refusal
 setLack settype top = lackAll (seen top) (requiredLabels settype)
 
 -- set level first, then groups and pairs in order
-unfoldable pub finish : SetType → State → Refusal → Refusal
+unfoldable pub finish : SetType → Flagged → Refusal → Refusal
 finish settype st lack = orElse (setLack settype (st .top)) (firstLack settype (st .header) (st .place) (st .members) lack)
 
--- the state that the code holds in parts
-abbrev pub stateOf : Group → List Bool → List Bool → State
-stateOf g members top = record { header = g .header; place = g .place; members = members; top = top }
+-- the same, from the parts that the code holds
+abbrev pub flaggedOf : Group → List Bool → List Bool → Flagged
+flaggedOf g members top = record { header = g .header; place = g .place; members = members; top = top }

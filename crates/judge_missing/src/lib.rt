@@ -1,6 +1,6 @@
 // Which labels were seen, as flags by the label's number, and rule 16: what a group and the set lack.
 // `finish_at` has no `requires`; `has` and `mark`, which only other crates here call, assume that a label has the number that they are given. Each contract
-// cites a walk of specs/, and proofs/LackLaws says what the walks mean.
+// cites a walk of specs/, and proofs/LackMeaning says what the walks mean.
 ghost use mathlib.Core.Path.{_≡_};
 ghost use mathlib.Core.Bool.{true, false, cond};
 ghost use Prim.Native.Nat.{_<_};
@@ -8,7 +8,7 @@ ghost use lib.ListN.{getD, set};
 ghost use Rattle.meaning.specs.Refusals.{refusal};
 ghost use Rattle.meaning.specs.Tables.{rowLabel};
 ghost use Rattle.meaning.specs.Answers.{noRefusal};
-ghost use Rattle.judge_missing.specs.Lacks.{rowCount, noFlags, seen, valued, lack8437, lack8410, lack6302, lackName, lackUnder, lackAll, basicLabels, patientLabels, testLabels, groupLack, firstLack, setLack, finish, stateOf};
+ghost use Rattle.judge_missing.specs.Lacks.{rowCount, noFlags, seen, valued, lack8437, lack8410, lack6302, lackName, lackUnder, lackAll, basicLabels, patientLabels, testLabels, groupLack, firstLack, setLack, finish, flaggedOf};
 use meaning::Refusal;
 use meaning::SetType;
 
@@ -289,14 +289,14 @@ fn set_lack(settype: SetType, top: &[bool; ROWS]) -> Refusal
     }
 }
 
-// 16 behind the last line: "set level before groups and pairs in order".
+// 16 after the last line: "set level before groups and pairs in order".
 pub fn finish_at(
     settype: SetType,
     group: Group,
     members: &[bool; ROWS],
     top: &[bool; ROWS],
 ) -> Refusal
-    ensures { λ r. ⌜ r ≡ finish settype (stateOf group (now (members .entry)) (now (top .entry))) (group .lack) ⌝ }
+    ensures { λ r. ⌜ r ≡ finish settype (flaggedOf group (now (members .entry)) (now (top .entry))) (group .lack) ⌝ }
 {
     let lack = set_lack(settype, top);
     if lack.no != 0 {

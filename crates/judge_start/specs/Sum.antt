@@ -17,6 +17,6 @@ abbrev pub sumIs : Number → ℕ → Bool
 sumIs (Is n) total = eqb n total
 sumIs None total = false
 
--- 17, where line 2 stands at `at` and its content fits
+-- 17, if line 2 stands at `at` and its content fits
 unfoldable pub sumWalk : List ℕ → ℕ → ℕ → Refusal
 sumWalk s at total = cond (sumIs (numberAt s (at + lineLead) sumDigits) total) noRefusal (refusal badSum at 0)

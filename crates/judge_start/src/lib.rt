@@ -1,5 +1,5 @@
 // The start of a set: the set type that line 1 names, 9, and whether line 2 writes the set's length, 17.
-// Assumes nothing of a content; `sum_at`, which only other crates here call, assumes that line 2 starts within the bytes. proofs/Laws says what each `return` has to show.
+// Assumes nothing of a content; `sum_at`, which only other crates here call, assumes that line 2 starts within the bytes. proofs/TypeAndSumLaws says what each `return` has to show.
 ghost use mathlib.Core.Path.{_≡_};
 ghost use Prim.Native.Nat.{_≤_};
 ghost use lib.ListN.{length};

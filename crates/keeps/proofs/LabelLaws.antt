@@ -15,9 +15,11 @@ use Rattle.meaning.specs.Field.{Field, labelAtLine, elem}
 use Rattle.meaning.specs.Tables.{setLevel, isPairLabel, rowLabel, table, find}
 use Rattle.meaning.specs.Groups.{State, strayed, member, belongs, roleOf, role, labelFaults}
 use Rattle.meaning.proofs.FaultLaws.{ask-last}
-use Rattle.keeps.specs.Keeps.{HasRow, AtSetLevel, MemberOf, Repeats, IsOdd, InGroup, LabelsInTable, MembersInGroups, OddsAfterNames, OnceInSet, OnceInGroups, KeepsRules}
-use Rattle.keeps.proofs.TableFacts.{Paired, inside, below, above, paired, le-cases, ne-cases, no-absurd, label-of, odd-row-label, Regular, row-regular, row-label, one-row, not-0, not-6330, member-no-pair, odd-row-odd, odd-is-pair}
-use Rattle.keeps.proofs.StateLaws.{roleBehind, stateAt, OpenAt, Opened, open-at, at-start, behind-odd, Behind, behind-first, behind-next, Stands, at-set-level, in-open, behind-name, role-top, role-open, role-odd}
+use Rattle.keeps.specs.Keeps.{HasRow, AtSetLevel, MemberOf, Repeats, IsOdd, InGroup, LabelsInTable, MembersInGroups, OddsAfterNames, NotRepeatedInSet, NotRepeatedInGroups, KeepsRules}
+use Rattle.keeps.proofs.TableFacts.{Paired, inside, below, above, paired, le-cases, ne-cases, no-absurd, label-of, odd-row-label, Regular}
+use Rattle.keeps.proofs.TableFacts.{row-regular, row-label, one-row, not-0, not-6330, member-no-pair, odd-row-odd, odd-is-pair}
+use Rattle.keeps.proofs.StateLaws.{roleBehind, stateAt, OpenAt, Opened, open-at, at-start, behind-odd, Behind, behind-first, behind-next}
+use Rattle.keeps.proofs.StateLaws.{Stands, at-set-level, in-open, behind-name, role-top, role-open, role-odd}
 
 module _ (t : SetType) where
   -- ---- a member is never at set level, no header and no label of a pair
@@ -126,15 +128,15 @@ module _ (t : SetType) (fs : List Field) where
   abbrev MayStand : Row → List ℕ → Type 0
   MayStand r ls = r .many || not (elem (r .label) ls) ≡ true
 
-  pub once-top : (k : ℕ) (st : State) (r : Row) → HasRow t (labelAtLine fs k) r → r .under ≡ setLevel
+  pub not-repeated-top : (k : ℕ) (st : State) (r : Row) → HasRow t (labelAtLine fs k) r → r .under ≡ setLevel
       → labelFaults (roleBehind t fs st k) st k (labelAtLine fs k) ≡ [] → MayStand r (st .top)
   unfolding labelFaults
-  once-top k st r h u e = ask-last _ _ (rw (role-top t fs k st r h u) at e)
+  not-repeated-top k st r h u e = ask-last _ _ (rw (role-top t fs k st r h u) at e)
 
-  pub once-open : (k : ℕ) (st : State) (r : Row) → HasRow t (labelAtLine fs k) r → (r .under ≡ 8410) ⊎ (r .under ≡ 6302) → st .header ≡ r .under
+  pub not-repeated-open : (k : ℕ) (st : State) (r : Row) → HasRow t (labelAtLine fs k) r → (r .under ≡ 8410) ⊎ (r .under ≡ 6302) → st .header ≡ r .under
       → labelFaults (roleBehind t fs st k) st k (labelAtLine fs k) ≡ [] → MayStand r (st .members)
   unfolding labelFaults
-  once-open k st r h u p e = ask-last _ _ (rw (role-open t fs k st r h u p) at e)
+  not-repeated-open k st r h u p e = ask-last _ _ (rw (role-open t fs k st r h u p) at e)
 
   repeats-so : (r : Row) (ls : List ℕ) → MayStand r ls → elem (r .label) ls ≡ true → r .many ≡ true
   repeats-so r ls m e = go (r .many) m
@@ -218,7 +220,7 @@ module _ (t : SetType) (fs : List Field) where
       repeats-in-set i p e a =
           let r = a .0 in
           let x : elem (r .label) (st .top) ≡ true = b .top-seen .sees i r (p, a .2) (subst (λ (y : ℕ). HasRow t y r) (sym e) (a .1)) in
-          (r, a .1, repeats-so r (st .top) (once-top k st r (a .1) (a .2) fine) x)
+          (r, a .1, repeats-so r (st .top) (not-repeated-top k st r (a .1) (a .2) fine) x)
 
       -- and one that stood in the group before
       pub repeats-in-group : (h i : ℕ) → i < k → InGroup t fs h i → InGroup t fs h k → labelAtLine fs i ≡ labelAtLine fs k → Repeats t (labelAtLine fs k)
@@ -235,7 +237,7 @@ module _ (t : SetType) (fs : List Field) where
               let same : j ≡ h = same-header h j k st f o in
               let x : elem (m .1 .label) (st .members) ≡ true =
               o .members-seen .sees i (m .1) (omega (arith, g .behind), p) (subst (λ (y : ℕ). HasRow t y (m .1)) (sym e) (m .2)) in
-              (m .1, m .2, repeats-so (m .1) (st .members) (once-open k st (m .1) (m .2) (member-under t _ _ m) (header-so ∙ sym (m .3)) fine) x)
+              (m .1, m .2, repeats-so (m .1) (st .members) (not-repeated-open k st (m .1) (m .2) (member-under t _ _ m) (header-so ∙ sym (m .3)) fine) x)
           go (at-start x q) = absurd (header-no-0 _ (m .0) (sym header-so ∙ q))
           go (behind-odd y x o q) = absurd (header-no-0 _ (m .0) (sym header-so ∙ q))
 
@@ -267,8 +269,8 @@ module _ (t : SetType) (fs : List Field) where
     later-set : (i j : ℕ) → i < j → j < length fs → labelAtLine fs i ≡ labelAtLine fs j → AtSetLevel t (labelAtLine fs j) → Repeats t (labelAtLine fs j)
     later-set i j p l e a = repeats-in-set j (stateAt t fs j) l (all-behind j (omega arith)) (all-stand j l) (fine j l) i p e a
 
-    pub set-once : OnceInSet t fs
-    set-once i j p q n e a = go (ne-cases i j n)
+    pub none-repeated-in-set : NotRepeatedInSet t fs
+    none-repeated-in-set i j p q n e a = go (ne-cases i j n)
       where
         at-j : AtSetLevel t (labelAtLine fs j)
         at-j = subst (λ (y : ℕ). AtSetLevel t y) e a
@@ -281,8 +283,8 @@ module _ (t : SetType) (fs : List Field) where
     later-group h i j p g f e =
         repeats-in-group j (stateAt t fs j) (f .a-line) (all-behind j (omega (arith, f .a-line))) (all-stand j (f .a-line)) (fine j (f .a-line)) h i p g f e
 
-    pub groups-once : OnceInGroups t fs
-    groups-once h i j g f n e = go (ne-cases i j n)
+    pub none-repeated-in-groups : NotRepeatedInGroups t fs
+    none-repeated-in-groups h i j g f n e = go (ne-cases i j n)
       where
         go : (i < j) ⊎ (j < i) → Repeats t (labelAtLine fs i)
         go (inl x) = subst (λ (y : ℕ). Repeats t y) (sym e) (later-group h i j x g f e)
@@ -326,17 +328,17 @@ module _ (t : SetType) (fs : List Field) where
   single-no-name : (l : ℕ) (r : Row) → HasRow t l r → r .many ≡ false → r .label ≡ 6330 → ⊥
   single-no-name l r h m q = true≢false (sym (row-regular t l r h .name-repeats q) ∙ m)
 
-  pub again-top : (k : ℕ) (st : State) (r : Row) → Behind t fs k st → HasRow t (labelAtLine fs k) r → r .under ≡ setLevel → r .many ≡ false → elem (r .label) (st .top) ≡ true
+  pub repeated-top : (k : ℕ) (st : State) (r : Row) → Behind t fs k st → HasRow t (labelAtLine fs k) r → r .under ≡ setLevel → r .many ≡ false → elem (r .label) (st .top) ≡ true
       → (i : ℕ) × (i < k) × (labelAtLine fs i ≡ labelAtLine fs k)
-  again-top k st r b h u m e =
+  repeated-top k st r b h u m e =
       let s = b .top-seen .seen (r .label) e in
       (s .0, s .2 .0, alone t (labelAtLine fs k) r (s .1) (labelAtLine fs (s .0)) h (s .3) (s .4) (single-no-name _ r h m) (λ q. omega (arith, row-regular t _ r h .under-name q)))
 
   -- The label was seen in the open group, so a line of that group has its row, and that row is of one label.
-  pub again-member : (k : ℕ) (st : State) (r : Row) → k < length fs → Behind t fs k st → HasRow t (labelAtLine fs k) r → (r .under ≡ 8410) ⊎ (r .under ≡ 6302)
+  pub repeated-member : (k : ℕ) (st : State) (r : Row) → k < length fs → Behind t fs k st → HasRow t (labelAtLine fs k) r → (r .under ≡ 8410) ⊎ (r .under ≡ 6302)
       → st .header ≡ r .under → elem (r .label) (st .members) ≡ true
       → (h : ℕ) × (i : ℕ) × (i < k) × InGroup t fs h i × InGroup t fs h k × (labelAtLine fs i ≡ labelAtLine fs k)
-  again-member k st r l b h u e x = go (b .opened-is)
+  repeated-member k st r l b h u e x = go (b .opened-is)
     where
       g : Regular r
       g = row-regular t _ r h
@@ -363,9 +365,9 @@ module _ (t : SetType) (fs : List Field) where
       go (behind-odd j p o q) = no-absurd (eq-eqb (r .under) 0 (sym e ∙ q)) (not-0 (r .under) u)
 
   -- nothing stands between a name and its odd label
-  pub again-odd : (k : ℕ) (st : State) (r : Row) → Behind t fs k st → HasRow t (labelAtLine fs k) r → r .under ≡ 6330 → st .header + 1 ≡ labelAtLine fs k
+  pub repeated-odd : (k : ℕ) (st : State) (r : Row) → Behind t fs k st → HasRow t (labelAtLine fs k) r → r .under ≡ 6330 → st .header + 1 ≡ labelAtLine fs k
       → elem (r .label) (st .members) ≡ true → ⊥
-  again-odd k st r b h u e x = go (b .opened-is)
+  repeated-odd k st r b h u e x = go (b .opened-is)
     where
       o : IsOdd (labelAtLine fs k)
       o = odd-row-odd t _ r h u
@@ -422,12 +424,12 @@ module _ (t : SetType) (fs : List Field) where
     not-repeated l r h m x = true≢false (sym (x .2) ∙ (ap (λ (y : Row). y .many) (one-row t l (x .0) r (x .1) h) ∙ m))
 
     top-may : (k : ℕ) (st : State) (r : Row) → k < length fs → Behind t fs k st → HasRow t (labelAtLine fs k) r → r .under ≡ setLevel → MayStand r (st .top)
-    top-may k st r l b h u = may-stand r (st .top) (λ m e. seen-before m (again-top k st r b h u m e))
+    top-may k st r l b h u = may-stand r (st .top) (λ m e. seen-before m (repeated-top k st r b h u m e))
       where
         seen-before : r .many ≡ false → (i : ℕ) × (i < k) × (labelAtLine fs i ≡ labelAtLine fs k) → ⊥
         seen-before m x =
             not-repeated (labelAtLine fs k) r h m
-            (rules .once-in-set k (x .0) l (omega (arith, x .1)) (λ q. omega (arith, x .1)) (sym (x .2)) (r, h, u))
+            (rules .not-repeated-in-set k (x .0) l (omega (arith, x .1)) (λ q. omega (arith, x .1)) (sym (x .2)) (r, h, u))
 
     member-may : (k : ℕ) (st : State) (r : Row) → k < length fs → Behind t fs k st → HasRow t (labelAtLine fs k) r → (r .under ≡ 8410) ⊎ (r .under ≡ 6302)
         → st .header ≡ r .under → MayStand r (st .members)
@@ -435,11 +437,11 @@ module _ (t : SetType) (fs : List Field) where
       where
         seen-before : r .many ≡ false → elem (r .label) (st .members) ≡ true → ⊥
         seen-before m x =
-            let y = again-member k st r l b h u e x in
-            not-repeated (labelAtLine fs k) r h m (rules .once-in-groups (y .0) k (y .1) (y .4) (y .3) (λ q. omega (arith, y .2)) (sym (y .5)))
+            let y = repeated-member k st r l b h u e x in
+            not-repeated (labelAtLine fs k) r h m (rules .not-repeated-in-groups (y .0) k (y .1) (y .4) (y .3) (λ q. omega (arith, y .2)) (sym (y .5)))
 
     odd-may : (k : ℕ) (st : State) (r : Row) → Behind t fs k st → HasRow t (labelAtLine fs k) r → r .under ≡ 6330 → st .header + 1 ≡ labelAtLine fs k → MayStand r (st .members)
-    odd-may k st r b h u e = may-stand r (st .members) (λ m x. again-odd k st r b h u e x)
+    odd-may k st r b h u e = may-stand r (st .members) (λ m x. repeated-odd k st r b h u e x)
 
     pub labels-fine : (k : ℕ) → k < length fs → labelFaults (roleBehind t fs (stateAt t fs k) k) (stateAt t fs k) k (labelAtLine fs k) ≡ []
     unfolding labelFaults

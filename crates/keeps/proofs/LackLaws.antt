@@ -20,8 +20,11 @@ use Rattle.meaning.specs.Missing.{onCondition, needed, rowsUnder, insert, ascen
 use Rattle.meaning.proofs.Bools.{or-right, Every}
 use Rattle.meaning.proofs.FaultLaws.{append-none, none-both, ask-none}
 use Rattle.keeps.specs.Keeps.{HasRow, AtSetLevel, Required, MemberOf, IsName, IsOdd, InGroup, GroupHas, SetComplete, KeepsRules}
-use Rattle.keeps.proofs.TableFacts.{or-cases, le-cases, lt-or-le, no-absurd, label-of, name-of, name-row-label, conditional, Regular, row-regular, row-label, one-row, no-row-0, only-6310, not-0, not-6330, odd-row-odd, every-row, row-every}
-use Rattle.keeps.proofs.StateLaws.{roleBehind, stateAt, OpenAt, Opened, open-at, at-start, behind-odd, Stands, at-set-level, in-open, behind-name, role-top, role-open, role-odd, open-next-top, open-next-member}
+use Rattle.keeps.proofs.TableFacts.{or-cases, le-cases, lt-or-le, no-absurd, label-of, name-of, name-row-label, conditional, Regular}
+use Rattle.keeps.proofs.TableFacts.{row-regular, row-label, one-row, no-row-0, only-6310, not-0, not-6330, not-name-row, not-odd-row}
+use Rattle.keeps.proofs.TableFacts.{odd-row-odd, every-row, row-every}
+use Rattle.keeps.proofs.StateLaws.{roleBehind, stateAt, OpenAt, Opened, open-at, at-start, behind-odd, Stands, at-set-level, in-open}
+use Rattle.keeps.proofs.StateLaws.{behind-name, role-top, role-open, role-odd, open-next-top, open-next-member}
 use Rattle.keeps.proofs.LabelLaws.{alone, member-not-top, member-under, odd-not-top, between-group, all-stand, all-behind, table-kept, behind-kept, stand-kept}
 
 -- ---- no lack among some rows is that each row that is needed is there
@@ -614,15 +617,7 @@ module _ (t : SetType) (fs : List Field) where
       group-met r x u e w = go w
         where
           is-header : labelAtLine fs h ≡ r .under
-          is-header = label-of (labelAtLine fs h) (r .under) (sym e) (not-name u) (not-odd u)
-            where
-              not-name : (r .under ≡ 8410) ⊎ (r .under ≡ 6302) → r .under ≡ 6330 → ⊥
-              not-name (inl p) q = omega arith
-              not-name (inr p) q = omega arith
-
-              not-odd : (r .under ≡ 8410) ⊎ (r .under ≡ 6302) → r .under ≡ 6331 → ⊥
-              not-odd (inl p) q = omega arith
-              not-odd (inr p) q = omega arith
+          is-header = label-of (labelAtLine fs h) (r .under) (sym e) (not-name-row (r .under) u) (not-odd-row (r .under) u)
 
           m : MemberOf t (labelAtLine fs h) (r .label)
           m = (subst (λ (y : ℕ). (y ≡ 8410) ⊎ (y ≡ 6302)) (sym is-header) u, r, x, sym is-header)

@@ -30,8 +30,9 @@ use Rattle.meaning.proofs.RuleLaws.{line-fits, Ruled, begins-of}
 use Rattle.keeps.specs.Keeps.{StartsWith, ContentsFit, VersionIs0210, GroupHas, KeepsRules}
 use Rattle.keeps.proofs.TableFacts.{le-cases}
 use Rattle.keeps.proofs.StateLaws.{roleBehind, stateAt}
-use Rattle.keeps.proofs.LabelLaws.{table-kept, groups-kept, odds-kept, set-once, groups-once, labels-fine}
-use Rattle.keeps.proofs.LackLaws.{ClearTo, clear-all, no-lack, lack-none-all, after-all, set-has, groups-have, values-have-units, has-8437-with-8438, names-have-odds, set-lacks-none, groups-lack-none}
+use Rattle.keeps.proofs.LabelLaws.{table-kept, groups-kept, odds-kept, none-repeated-in-set, none-repeated-in-groups, labels-fine}
+use Rattle.keeps.proofs.LackLaws.{ClearTo, clear-all, no-lack, lack-none-all, after-all, set-has, groups-have, values-have-units}
+use Rattle.keeps.proofs.LackLaws.{has-8437-with-8438, names-have-odds, set-lacks-none, groups-lack-none}
 
 -- ---- the type that line 1 names
 
@@ -236,8 +237,8 @@ module _ (t : SetType) (fs : List Field) where
         in-table = table-kept t fs fine;
         in-groups = groups-kept t fs fine;
         after-names = odds-kept t fs fine;
-        once-in-set = set-once t fs fine;
-        once-in-groups = groups-once t fs fine;
+        not-repeated-in-set = none-repeated-in-set t fs fine;
+        not-repeated-in-groups = none-repeated-in-groups t fs fine;
         contents-fit = contents-so h;
         version = version-so h;
         set-complete = set-has t fs fine (m .0);

@@ -246,6 +246,14 @@ pub not-6330 : (u : ℕ) → (u ≡ 8410) ⊎ (u ≡ 6302) → eqb u 6330 ≡ fa
 not-6330 u (inl e) = ne-eqb u 6330 (λ q. omega arith)
 not-6330 u (inr e) = ne-eqb u 6330 (λ q. omega arith)
 
+pub not-name-row : (u : ℕ) → (u ≡ 8410) ⊎ (u ≡ 6302) → u ≡ 6330 → ⊥
+not-name-row u (inl e) q = omega arith
+not-name-row u (inr e) q = omega arith
+
+pub not-odd-row : (u : ℕ) → (u ≡ 8410) ⊎ (u ≡ 6302) → u ≡ 6331 → ⊥
+not-odd-row u (inl e) q = omega arith
+not-odd-row u (inr e) q = omega arith
+
 -- a member of a group is no label of a pair: those have the rows 6330 and 6331, which stand at set level and under 6330
 pub member-no-pair : (t : SetType) (l : ℕ) (r : Row) → HasRow t l r → (r .under ≡ 8410) ⊎ (r .under ≡ 6302) → isPairLabel l ≡ false
 member-no-pair t l r h u = go (paired l)

@@ -109,13 +109,13 @@ abbrev pub OddsAfterNames : List Field → Type 0
 OddsAfterNames fs = (k : ℕ) → k < length fs → IsOdd (labelAtLine fs k) → (j : ℕ) × (k ≡ suc j) × (labelAtLine fs k ≡ suc (labelAtLine fs j))
 
 -- no "single label again in the set": what stands on two lines, at set level, repeats
-abbrev pub OnceInSet : SetType → List Field → Type 0
-OnceInSet t fs =
+abbrev pub NotRepeatedInSet : SetType → List Field → Type 0
+NotRepeatedInSet t fs =
     (i j : ℕ) → i < length fs → j < length fs → i ≢ j → labelAtLine fs i ≡ labelAtLine fs j → AtSetLevel t (labelAtLine fs i) → Repeats t (labelAtLine fs i)
 
 -- "or its group": what stands on two lines of one group repeats
-abbrev pub OnceInGroups : SetType → List Field → Type 0
-OnceInGroups t fs =
+abbrev pub NotRepeatedInGroups : SetType → List Field → Type 0
+NotRepeatedInGroups t fs =
     (h i j : ℕ) → InGroup t fs h i → InGroup t fs h j → i ≢ j → labelAtLine fs i ≡ labelAtLine fs j → Repeats t (labelAtLine fs i)
 
 -- no "content breaks length, kind or rule" of its field
@@ -158,8 +158,8 @@ pub record KeepsRules (t : SetType) (fs : List Field) : Type 0 where
   pub in-table : LabelsInTable t fs
   pub in-groups : MembersInGroups t fs
   pub after-names : OddsAfterNames fs
-  pub once-in-set : OnceInSet t fs
-  pub once-in-groups : OnceInGroups t fs
+  pub not-repeated-in-set : NotRepeatedInSet t fs
+  pub not-repeated-in-groups : NotRepeatedInGroups t fs
   -- field table
   pub contents-fit : ContentsFit fs
   pub version : VersionIs0210 fs

@@ -1,4 +1,4 @@
--- What the first seven bytes of a line tell: by `told_length` and `told_label` where the line is read, and that a line is read where they are digits and the rest is right.
+-- What the first seven bytes of a line say: by `told_length` and `told_label` if the line is read, and that a line is read if they are digits and the rest is right.
 use mathlib.Core.Path.{_≡_, refl, sym, ap, _∙_}
 use mathlib.Core.Bool.{Bool, true, false}
 use mathlib.Core.List.{List, [], _∷_}
@@ -19,7 +19,7 @@ use Rattle.line_read.specs.declared.Line.the-variants.{Read}
 use Rattle.line_read.specs.Number.{numberAt}
 use Rattle.line_read.specs.Line.{must, mustRead, labelledLine, sizedLine, lineAt}
 use Rattle.line_read.specs.Told.{threeBytes, threeZeros, fourBytes, fourZeros, toldLength, toldLabel}
-use Rattle.line_read.proofs.Bridge.{number-is, read-back}
+use Rattle.line_read.proofs.LineMeaning.{number-is, read-back}
 
 -- ---- the walks, by whether seven bytes stand at the offset
 
@@ -42,7 +42,7 @@ module _ (s : List ℕ) (at : ℕ) where
     unfolding toldLabel
     label-told e = rw (le-leb (at + lineLead) (length s) h, ← e)
 
-  -- where a length is told, seven bytes stand
+  -- if a length is said, seven bytes stand there
   pub told-there : (n : ℕ) → n ≡ toldLength s at → (n ≡ 0 → ⊥) → at + lineLead ≤ length s
   told-there n e z = go (leb (at + lineLead) (length s)) refl
     where
@@ -125,7 +125,7 @@ read-bytes s at {l} {n} e =
     let label : l ≡ number (take 4 (drop (at + 3) s)) = r .label-so ∙ ap (λ (u : List ℕ). number (take 4 u)) (drop-drop 3 at s) in
     (k, omega (arith, three-are s at (omega arith) (w .three), r .size-so), omega (arith, four-are s (at + 3) (omega arith) four, label))
 
--- It tells the length of its content and its label.
+-- It says the length of its content and its label.
 pub read-told : (s : List ℕ) (at : ℕ) {l n : ℕ} → lineAt s at ≡ Read l n → (toldLength s at ≡ n - (lineLead + lineEnd)) × (toldLabel s at ≡ l)
 read-told s at {l} {n} e =
     let b = read-bytes s at e in
@@ -151,7 +151,7 @@ module _ (s : List ℕ) (at : ℕ) where
         le-leb k k (omega arith),
       )
 
-  -- A line is read whose first seven bytes are digits, of which three tell its length, and whose content and end, at offset `end`, are right.
+  -- A line is read whose first seven bytes are digits, of which three say its length, and whose content and end, at offset `end`, are right.
   pub line-sound : (n end : ℕ) → n ≡ threeBytes s at - threeZeros → minLineBytes ≤ n → at + n ≤ length s → end + lineEnd ≡ at + n
       → allDigits (take lineLead (drop at s)) ≡ true → firstLow s (at + lineLead) (end - (at + lineLead)) ≡ end
       → getD s end 0 ≡ cr → getD s (end + 1) 0 ≡ lf

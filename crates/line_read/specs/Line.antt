@@ -1,5 +1,5 @@
 -- The walk of `line_at`: the tests 2 to 6 of one line, over the bytes and an offset, in the code's order.
--- What they mean is `line-is` in proofs/Bridge.
+-- What they mean is `line-is` in proofs/LineMeaning.
 use mathlib.Core.Bool.{Bool, true, false, _&&_}
 use mathlib.Core.List.{List}
 use Prim.Native.Nat.{ℕ, _+_, _-_}
@@ -14,12 +14,12 @@ use Rattle.line_read.specs.declared.Number.{Number}
 use Rattle.line_read.specs.declared.Number.the-variants.{Is, None}
 use Rattle.line_read.specs.Number.{numberAt}
 
--- a rule: what follows where its test holds, else the refusal of this number at this place
+-- a rule: what follows if its test holds, else the refusal of this number at this place
 unfoldable pub must : Bool → ℕ → ℕ → Line → Line
 must true n place l = l
 must false n place l = Refused (refusal n place 0)
 
--- a rule that reads a number: what follows it where there is one, else the refusal
+-- a rule that reads a number: what follows it if there is one, else the refusal
 unfoldable pub mustRead : Number → ℕ → ℕ → (ℕ → Line) → Line
 mustRead (Is m) n place f = f m
 mustRead None n place f = Refused (refusal n place 0)
@@ -43,5 +43,5 @@ unfoldable pub lineAt : List ℕ → ℕ → Line
 lineAt s at = mustRead (numberAt s at lengthDigits) badLength at (λ size. sizedLine s at size)
 
 -- the content of a line of n bytes at an offset
-abbrev pub contentOf : List ℕ → ℕ → ℕ → List ℕ
-contentOf s at n = take (n - (lineLead + lineEnd)) (drop (at + lineLead) s)
+abbrev pub lineContent : List ℕ → ℕ → ℕ → List ℕ
+lineContent s at n = take (n - (lineLead + lineEnd)) (drop (at + lineLead) s)

@@ -1,4 +1,4 @@
--- The walks of `told_length` and `told_label`: what the bytes of a line that was read before tell, without a test of its digits, its end or its content.
+-- The walks of `told_length` and `told_label`: what the bytes of a line that was read before say, without a test of its digits, its end or its content.
 -- What they are for a line that is read is `read-told` in proofs/ToldLaws.
 use mathlib.Core.Bool.{cond}
 use mathlib.Core.List.{List}
@@ -26,6 +26,6 @@ fourZeros = digitZero * 1111
 unfoldable pub toldLength : List ℕ → ℕ → ℕ
 toldLength s at = cond (leb (at + lineLead) (length s)) (threeBytes s at - (threeZeros + (lineLead + lineEnd))) 0
 
--- the label, by the four bytes behind these: less what `0000` comes to
+-- the label, by the four bytes after these: less what `0000` comes to
 unfoldable pub toldLabel : List ℕ → ℕ → ℕ
 toldLabel s at = cond (leb (at + lineLead) (length s)) (fourBytes s (at + lengthDigits) - fourZeros) 0

@@ -1,5 +1,5 @@
-// One line of a set at an offset, and what a line tells that was read before: 2 to 6 of the paper's replies.
-// Assumes nothing of the bytes. Each contract cites a walk of specs/, and proofs/Bridge and proofs/ToldLaws say what the walks mean.
+// One line of a set at an offset, and what a line says that was read before: 2 to 6 of the paper's replies.
+// Assumes nothing of the bytes. Each contract cites a walk of specs/, and proofs/LineMeaning and proofs/ToldLaws say what the walks mean.
 ghost use mathlib.Core.Path.{_≡_};
 ghost use mathlib.Core.Bool.{true};
 ghost use Prim.Native.Nat.{_+_, _-_, _*_, _≤_, _<_};
@@ -34,7 +34,7 @@ const THREE_ZEROS: usize = meaning::DIGIT_ZERO as usize * 111;
 
 const FOUR_ZEROS: usize = meaning::DIGIT_ZERO as usize * 1111;
 
-// So many digits write no number that is too large for a usize.
+// This many digits write no number that is too large for a usize.
 const MOST_DIGITS: usize = 9;
 
 // What the bytes of a number write.
@@ -145,7 +145,7 @@ pub fn line_at(s: &[u8], at: usize) -> Line
     }
 }
 
-// ---- what a line tells that was read before: its bytes are taken as digits, and nothing is tested
+// ---- what a line says that was read before: its bytes are taken as digits, and nothing is tested
 
 // Three bytes, each times the value of its digit.
 fn three_bytes(a: u8, b: u8, c: u8) -> usize
@@ -177,7 +177,7 @@ fn four_at(s: &[u8], at: usize) -> usize
     four_bytes(s[at], s[at + 1], s[at + 2], s[at + 3])
 }
 
-// The length of the content that the line at an offset tells by its first three bytes; 0 where it tells none.
+// The length of the content that the line at an offset says in its first three bytes; 0 if it says none.
 pub fn told_length(s: &[u8], at: usize) -> usize
     ensures { λ r. ⌜ (r ≡ toldLength (now (s .entry)) at) × (r < 65536) ⌝ }
 {
@@ -194,7 +194,7 @@ pub fn told_length(s: &[u8], at: usize) -> usize
     n - (THREE_ZEROS + LINE_FRAME)
 }
 
-// The label that it tells by the four bytes behind these; 0 where it tells none.
+// The label that it says in the four bytes after these; 0 if it says none.
 pub fn told_label(s: &[u8], at: usize) -> usize
     ensures { λ r. ⌜ r ≡ toldLabel (now (s .entry)) at ⌝ }
 {
@@ -246,7 +246,7 @@ fn line_ends(a: u8, b: u8) -> bool
     a as usize + b as usize * meaning::BYTE_VALUES == CR_LF
 }
 
-// The line at an offset keeps 2 to 6: it starts with digits, these tell where it ends, and then the rest is tested. A line that is not a usual one may keep them too.
+// The line at an offset keeps 2 to 6: it starts with digits, these say where it ends, and then the rest is tested. A line that is not a usual one may keep them too.
 fn sound_at(s: &[u8], at: usize) -> bool
     ensures { λ r. ⌜ (r ≡ true → lineAt (now (s .entry)) at ≡ Read (fourBytes (now (s .entry)) (at + lengthDigits) - fourZeros) (threeBytes (now (s .entry)) at - threeZeros)) ⌝ }
 {

@@ -1,3 +1,3 @@
 -- The laws that the proofs of this crate and of later ones cite.
-pub mod Laws
-pub mod Bridge
+pub mod ScanWalkLaws
+pub mod ScanMeaning

@@ -1,6 +1,7 @@
 -- The walks of `ends_at` and `scan_from`, and that of a whole set: its lines, over the bytes and an offset.
--- What they mean is `ends-is` and `scan-is` in proofs/Bridge.
+-- What they mean is `ends-is` and `scan-is` in proofs/ScanMeaning.
 use mathlib.Core.Bool.{Bool, cond, _&&_, _||_}
+use mathlib.Core.Path.{_≡_}
 use mathlib.Core.List.{List}
 use Prim.Native.Nat.{ℕ, zero, suc, _+_, _-_}
 use lib.ListN.{length, getD}
@@ -26,15 +27,20 @@ unfoldable pub endsAt : List ℕ → ℕ → Bool
 endsAt s at = leb (length s) at || (leb lineLead (length s - at) && reads8000 s (at + lengthDigits))
 
 -- what follows a line that is read, by its size; else its refusal
-abbrev pub after : Line → (ℕ → Scan) → Scan
-after (Read label size) f = f size
-after (Line.Refused r) f = Refused r
+abbrev pub scanAfter : Line → (ℕ → Scan) → Scan
+scanAfter (Read label size) f = f size
+scanAfter (Line.Refused r) f = Refused r
 
--- the lines from an offset on, with n lines before them; 7 where more than k start
+-- the lines from an offset on, with n lines before them; 7 if more than k start
 unfoldable pub scanFrom : List ℕ → ℕ → ℕ → ℕ → Scan
 scanFrom s at n zero = cond (endsAt s at) (Done at n) (Refused (refusal tooManyLines at 0))
-scanFrom s at n (suc k) = cond (endsAt s at) (Done at n) (after (lineAt s at) (λ size. scanFrom s (at + size) (n + 1) k))
+scanFrom s at n (suc k) = cond (endsAt s at) (Done at n) (scanAfter (lineAt s at) (λ size. scanFrom s (at + size) (n + 1) k))
 
 -- the lines of the set at the front: 1, the first line whatever its label is, then at most 511 more
 unfoldable pub scanSet : List ℕ → Scan
-scanSet s = cond (eqb (length s) 0) (Refused (refusal empty 0 0)) (after (lineAt s 0) (λ size. scanFrom s size 1 (maxLines - 1)))
+scanSet s = cond (eqb (length s) 0) (Refused (refusal empty 0 0)) (scanAfter (lineAt s 0) (λ size. scanFrom s size 1 (maxLines - 1)))
+
+-- a scan that has k lines before it and reads no more
+abbrev pub Stops : ℕ → Scan → Type 0
+Stops k (Done total lines) = lines ≡ k
+Stops k (Refused r) = Unit

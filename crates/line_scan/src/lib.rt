@@ -1,6 +1,6 @@
 // Where a set ends, and the scan of the lines from an offset on: 2 to 7 of the paper's replies.
 // Assumes nothing of the bytes; `scan_from`, which only other crates here call, assumes that its offset lies within them and has at most 512 lines before it. Each contract cites a
-// walk of specs/, and proofs/Bridge says what the walks mean.
+// walk of specs/, and proofs/ScanMeaning says what the walks mean.
 ghost use mathlib.Core.Path.{_≡_};
 ghost use Prim.Native.Nat.{_-_, _≤_};
 ghost use lib.ListN.{length};
@@ -18,7 +18,7 @@ pub enum Scan {
     Refused(Refusal),
 }
 
-// The set ends before an offset: at the end of the input, or where "seven or more bytes remain and bytes four to seven read `8000`", whatever the three
+// The set ends before an offset: at the end of the input, or if "seven or more bytes remain and bytes four to seven read `8000`", whatever the three
 // bytes before them are (B1).
 pub fn ends_at(s: &[u8], at: usize) -> bool
     ensures { λ r. ⌜ r ≡ endsAt (now (s .entry)) at ⌝ }
@@ -45,7 +45,7 @@ pub fn ends_at(s: &[u8], at: usize) -> bool
     true
 }
 
-// The lines of a set from a line start on that has so many lines before it: at each the set's end is asked first, then 7, then 2 to 6 (B2).
+// The lines of a set from a line start on that has `before` lines before it: at each the set's end is asked first, then 7, then 2 to 6 (B2).
 pub fn scan_from(s: &[u8], start: usize, before: usize) -> Scan
     requires { ⌜ (start ≤ length (now s)) × (before ≤ maxLines) ⌝ }
     ensures { λ r. ⌜ r ≡ scanFrom (now (s .entry)) start before (maxLines - before) ⌝ }

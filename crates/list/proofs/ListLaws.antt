@@ -31,14 +31,14 @@ use Rattle.meaning.proofs.RuleLaws.{ruled, begins-of}
 use Rattle.meaning.proofs.SetLaws.{Standing, accepted, sum-back}
 use Rattle.meaning.proofs.Demands.{judge-read}
 use Rattle.line_read.specs.declared.Line.the-variants.{Read}
-use Rattle.line_read.specs.Line.{lineAt, contentOf}
+use Rattle.line_read.specs.Line.{lineAt, lineContent}
 use Rattle.line_read.specs.Told.{toldLength, toldLabel}
-use Rattle.line_read.proofs.Bridge.{read-line, read-back, reads-content, reads-on}
+use Rattle.line_read.proofs.LineMeaning.{read-line, read-back, reads-content, reads-on}
 use Rattle.line_read.proofs.ToldLaws.{read-told}
 use Rattle.byte_put.specs.Places.{over}
 use Rattle.byte_put.proofs.LendLaws.{mid-tail, put-tail}
 use Rattle.byte_put.proofs.OverLaws.{over-none, Turned, here-fits, turned, over-lent, front-then-zeros}
-use Rattle.list.specs.Listing.{AllRead, lineEntry, entriesFrom}
+use Rattle.list.specs.Listing.{AllRead, lineEntry, listedFrom}
 use Rattle.meaning.proofs.LeftLaws.{one-more, none-left}
 
 -- ---- one entry
@@ -55,7 +55,7 @@ entry-then f t = ap (λ (u : List ℕ). twoBytes (length (f .content)) (twoBytes
 pub length-entry : (f : Field) → length (entryThen f []) ≡ length (f .content) + entryLead
 length-entry f = omega (arith, length-append (f .content) [])
 
--- the length, the label in the part behind it, the content in the part behind that
+-- the length, the label in the part after it, the content in the part after that
 pub entry-put : (b b₁ y₂ y₃ c : List ℕ) (l : ℕ) → length c + entryLead ≤ length b
     → b₁ ≡ twoBytes (length c) (drop 2 b)
     → y₂ ≡ twoBytes l (drop 2 (midOf 2 (length b₁ - 2) b₁))
@@ -98,7 +98,7 @@ module _ (k l : ℕ) (c : List ℕ) where
         (q ∙ (sym (entry-then (field l c) _) ∙ ap₂ (λ (u : List ℕ) (m : ℕ). u ++ drop m (midOf to (length b - to) b)) (sym (other-entry e)) (sym (other-length e)))),
   )
 
--- ---- the walk over lines that are all read: no line is left, or the line tells its label and the length of its content
+-- ---- the walk over lines that are all read: no line is left, or the line gives its label and the length of its content
 
 module _ (s : List ℕ) (at k n : ℕ) where
   first-read : k < n → AllRead s at (n - k) → (l : ℕ) × (m : ℕ) × (lineAt s at ≡ Read l m) × AllRead s (at + m) (n - (k + 1))
@@ -118,12 +118,12 @@ module _ (s : List ℕ) (at k n : ℕ) where
   pub all-within : k < n → AllRead s at (n - k) → (w : ℕ) → w ≡ toldLength s at → at + (w + 9) ≤ length s
   all-within h a w p = read-back s at (all-told h a w (toldLabel s at) p refl .0) .within
 
-  pub entries-end : n ≤ k → entriesFrom s at k (n - k) ≡ []
-  unfolding entriesFrom
+  pub entries-end : n ≤ k → listedFrom s at k (n - k) ≡ []
+  unfolding listedFrom
   entries-end h = rw (none-left h)
 
-  pub entries-on : k < n → {l m : ℕ} → lineAt s at ≡ Read l m → entriesFrom s at k (n - k) ≡ lineEntry k l (contentOf s at m) ++ entriesFrom s (at + m) (k + 1) (n - (k + 1))
-  unfolding entriesFrom
+  pub entries-on : k < n → {l m : ℕ} → lineAt s at ≡ Read l m → listedFrom s at k (n - k) ≡ lineEntry k l (lineContent s at m) ++ listedFrom s (at + m) (k + 1) (n - (k + 1))
+  unfolding listedFrom
   entries-on h e = rw (one-more h, e)
 
 -- the content of a line, by the line's start and the content's length
@@ -132,24 +132,24 @@ content-length at n = omega arith
 
 -- one turn: the entry of one line, and what is left after it
 module _ (s : List ℕ) (at k n : ℕ) (h : k < n) {l m : ℕ} (e : lineAt s at ≡ Read l m) (w : ℕ) (q : w ≡ m - 9) (out : List ℕ) (to : ℕ)
-    (g : to + length (entriesFrom s at k (n - k)) ≤ length out) where
+    (g : to + length (listedFrom s at k (n - k)) ≤ length out) where
   abbrev here : List ℕ
   here = lineEntry k l (take w (drop (at + 7) s))
 
-  abbrev behind : List ℕ
-  behind = entriesFrom s (at + m) (k + 1) (n - (k + 1))
+  abbrev rest : List ℕ
+  rest = listedFrom s (at + m) (k + 1) (n - (k + 1))
 
-  both : entriesFrom s at k (n - k) ≡ here ++ behind
-  both = entries-on s at k n h e ∙ ap (λ (x : ℕ). lineEntry k l (take x (drop (at + 7) s)) ++ behind) (sym q)
+  both : listedFrom s at k (n - k) ≡ here ++ rest
+  both = entries-on s at k n h e ∙ ap (λ (x : ℕ). lineEntry k l (take x (drop (at + 7) s)) ++ rest) (sym q)
 
   pub line-fits : to + length here ≤ length out
-  line-fits = here-fits out to _ here behind both g
+  line-fits = here-fits out to _ here rest both g
 
   pub line-short : length (take w (drop (at + 7) s)) < 65536
   line-short = omega (arith, read-back s at e .most, length-take w (drop (at + 7) s))
 
-  pub put-turn : (to′ : ℕ) (out′ : List ℕ) → to′ ≡ to + length here → out′ ≡ over to here out → Turned out out′ (entriesFrom s at k (n - k)) behind to to′
-  put-turn = turned out to _ here behind both g
+  pub put-turn : (to′ : ℕ) (out′ : List ℕ) → to′ ≡ to + length here → out′ ≡ over to here out → Turned out out′ (listedFrom s at k (n - k)) rest to to′
+  put-turn = turned out to _ here rest both g
 
 -- ---- the walk over the lines of a set
 
@@ -161,9 +161,9 @@ module _ (s : List ℕ) where
   all-read (f ∷ fs) t at h w =
       (f .label, lineSize f, read-line s at f (render fs t) w (h .0), all-read fs t (at + lineSize f) (h .1) (reads-on s at f (render fs t) (h .0) w))
 
-  -- the lines behind line 2: by induction on fs
-  later-entries : (fs : List Field) (t : List ℕ) (at k : ℕ) → Every Sound fs → drop at s ≡ render fs t → 2 ≤ k → entriesFrom s at k (length fs) ≡ putAll entryForm fs []
-  unfolding entriesFrom
+  -- the lines after line 2: by induction on fs
+  later-entries : (fs : List Field) (t : List ℕ) (at k : ℕ) → Every Sound fs → drop at s ≡ render fs t → 2 ≤ k → listedFrom s at k (length fs) ≡ putAll entryForm fs []
+  unfolding listedFrom
   later-entries [] t at k h w g = refl
   later-entries (f ∷ fs) t at k h w g =
       rw (read-line s at f (render fs t) w (h .0), reads-content s at f (render fs t) (h .0) w, other-entry k (f .label) (f .content) (λ e. omega arith))
@@ -172,8 +172,8 @@ module _ (s : List ℕ) where
 
   -- all lines: the first has its entry, the second none
   all-entries : (f g : Field) (fs : List Field) (t : List ℕ) → Every Sound (f ∷ g ∷ fs) → s ≡ render (f ∷ g ∷ fs) t
-      → entriesFrom s 0 0 (length (f ∷ g ∷ fs)) ≡ putAll entryForm (f ∷ fs) []
-  unfolding entriesFrom
+      → listedFrom s 0 0 (length (f ∷ g ∷ fs)) ≡ putAll entryForm (f ∷ fs) []
+  unfolding listedFrom
   all-entries f g fs t h w =
       let w₁ : drop (0 + lineSize f) s ≡ render (g ∷ fs) t = reads-on s 0 f (render (g ∷ fs) t) (h .0) w in
       let w₂ : drop (0 + lineSize f + lineSize g) s ≡ render fs t = reads-on s (0 + lineSize f) g (render fs t) (h .1 .0) w₁ in
@@ -182,7 +182,7 @@ module _ (s : List ℕ) where
         reads-content s 0 f (render (g ∷ fs) t) (h .0) w,
         other-entry 0 (f .label) (f .content) (λ e. omega arith),
         read-line s (0 + lineSize f) g (render fs t) w₁ (h .1 .0),
-        second-none (0 + 1) (g .label) (contentOf s (0 + lineSize f) (lineSize g)) (omega arith),
+        second-none (0 + 1) (g .label) (lineContent s (0 + lineSize f) (lineSize g)) (omega arith),
       ) (ap (λ (u : List ℕ). entryThen f [] ++ u) (later-entries fs t (0 + lineSize f + lineSize g) (0 + 1 + 1) (h .1 .1) w₂ (omega arith))
       ∙ entry-then f (putAll entryForm fs []))
 
@@ -196,8 +196,8 @@ pub record Entries (s : List ℕ) (x : Shape) : Type 0 where
   pub some : 2 ≤ x .lines
   pub few : x .lines ≤ maxLines
   pub long : 14 + (x .lines - 1) * 10 ≤ x .length
-  pub need : x .length - 14 - (x .lines - 1) * 5 ≡ length (entriesFrom s 0 0 (x .lines))
-  pub listed : (room : ℕ) → list s room ≡ withRoom (leb (length (entriesFrom s 0 0 (x .lines))) room) (length (entriesFrom s 0 0 (x .lines))) (entriesFrom s 0 0 (x .lines))
+  pub need : x .length - 14 - (x .lines - 1) * 5 ≡ length (listedFrom s 0 0 (x .lines))
+  pub listed : (room : ℕ) → list s room ≡ withRoom (leb (length (listedFrom s 0 0 (x .lines))) room) (length (listedFrom s 0 0 (x .lines))) (listedFrom s 0 0 (x .lines))
 
 module _ (s : List ℕ) (d : Parsed) (e : read s ≡ done d) where
   list-is : (es : List ℕ) → putAll entryForm (withoutSum (d .fields)) [] ≡ es → (room : ℕ) → list s room ≡ withRoom (leb (length es) room) (length es) es
@@ -210,7 +210,7 @@ module _ (s : List ℕ) (d : Parsed) (e : read s ≡ done d) where
   two-lines (f ∷ []) q st w = let z : _≡_ {A = ℕ} 0 8100 = begins-of (f ∷ []) (ruled (f ∷ []) (st .right) .0 .begins) .second-label in absurd (omega arith)
   two-lines (f ∷ g ∷ fs) q st w =
       let es : List ℕ = putAll entryForm (f ∷ fs) [] in
-      let a : entriesFrom s 0 0 (length (f ∷ g ∷ fs)) ≡ es = all-entries s f g fs (d .rest) (st .sound) w in
+      let a : listedFrom s 0 0 (length (f ∷ g ∷ fs)) ≡ es = all-entries s f g fs (d .rest) (st .sound) w in
       let n : length es ≡ listSize (f ∷ fs) = length-entries (f ∷ fs) in
       let five : size (f ∷ g ∷ fs) ≡ 14 + size (f ∷ fs) = ap size (sum-back (f ∷ g ∷ fs) (st .right)) ∙ omega (arith, length-digits 5 (lineSize f + (14 + size fs))) in
       record {
@@ -219,12 +219,12 @@ module _ (s : List ℕ) (d : Parsed) (e : read s ≡ done d) where
         few = st .few;
         long = omega (arith, five, at-least (f ∷ fs) (st .sound .0, st .sound .1 .1));
         need = omega (arith, five, lines-over-entries (f ∷ fs), n, ap length a);
-        listed = list-is (entriesFrom s 0 0 (length (f ∷ g ∷ fs))) (ap (λ (x : List Field). putAll entryForm (withoutSum x) []) q ∙ sym a);
+        listed = list-is (listedFrom s 0 0 (length (f ∷ g ∷ fs))) (ap (λ (x : List Field). putAll entryForm (withoutSum x) []) q ∙ sym a);
       }
 
 -- A set that is accepted, by its shape.
-pub entries-are : (s : List ℕ) (x : Shape) → judge s ≡ Accepted x → Entries s x
-entries-are s x e =
+pub listed-are : (s : List ℕ) (x : Shape) → judge s ≡ Accepted x → Entries s x
+listed-are s x e =
     let d = judge-read s x e in
     let a = accepted s (d .0) (d .1) in
     let r = two-lines s (d .0) (d .1) (d .0 .fields) refl (a .standing) (a .bytes) in
@@ -248,23 +248,23 @@ answer-refused s b r e = let q = sym (list-refused s r (length b) e) in (ap made
 -- an accepted set, whose list needs n bytes
 module _ (s : List ℕ) (x : Shape) (e : judge s ≡ Accepted x) (b : List ℕ) (n : ℕ) (q : n ≡ x .length - 14 - (x .lines - 1) * 5) where
   abbrev es : List ℕ
-  es = entriesFrom s 0 0 (x .lines)
+  es = listedFrom s 0 0 (x .lines)
 
   need-so : n ≡ length es
-  need-so = q ∙ entries-are s x e .need
+  need-so = q ∙ listed-are s x e .need
 
   -- there is no room for them
   pub answer-full : length b < n → (NotMade (refusal noRoom n 0) ≡ listCall s b .answer) × (b ≡ listCall s b .buffer)
   answer-full h =
       let l : refused (refusal noRoom n 0) ≡ list s (length b) =
       ap (λ (m : ℕ). refused (refusal noRoom m 0)) need-so
-      ∙ sym (entries-are s x e .listed (length b) ∙ ap (λ (t : Bool). withRoom t (length es) es) (lt-leb (length es) (length b) (omega (arith, need-so)))) in
+      ∙ sym (listed-are s x e .listed (length b) ∙ ap (λ (t : Bool). withRoom t (length es) es) (lt-leb (length es) (length b) (omega (arith, need-so)))) in
       (ap made l, ap (λ (y : Reply (List ℕ)). bytesLeft y b) l)
 
-  -- they were put at the front, and zeros behind them
+  -- they were put at the front, and zeros after them
   pub answer-made : (b′ y : List ℕ) → n ≤ length b → b′ ≡ over 0 es b → y ≡ replicate (length (midOf n (length b′ - n) b′)) 0
       → (Done n ≡ listCall s b .answer) × (putMid n (length b′ - n) b′ y ≡ listCall s b .buffer)
   answer-made b′ y h p z =
       let l : done es ≡ list s (length b) =
-      sym (entries-are s x e .listed (length b) ∙ ap (λ (t : Bool). withRoom t (length es) es) (le-leb (length es) (length b) (omega (arith, need-so)))) in
+      sym (listed-are s x e .listed (length b) ∙ ap (λ (t : Bool). withRoom t (length es) es) (le-leb (length es) (length b) (omega (arith, need-so)))) in
       (ap Done need-so ∙ ap made l, front-then-zeros b b′ y es n p need-so z ∙ ap (λ (u : Reply (List ℕ)). bytesLeft u b) l)

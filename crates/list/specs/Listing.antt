@@ -1,5 +1,5 @@
 -- The walk of `put_entries` over a set's bytes, line by line: the entries of the lines, without that of line 2.
--- `entries-are` in proofs/ListLaws ties the walk of an accepted set to its list.
+-- `listed-are` in proofs/ListLaws ties the walk of an accepted set to its list.
 use mathlib.Core.Path.{_≡_}
 use mathlib.Core.Bool.{cond}
 use mathlib.Core.List.{List, [], _++_}
@@ -9,7 +9,7 @@ use Rattle.meaning.specs.Field.{field}
 use Rattle.meaning.specs.Entries.{entryThen}
 use Rattle.line_read.specs.declared.Line.{Line}
 use Rattle.line_read.specs.declared.Line.the-variants.{Read, Refused}
-use Rattle.line_read.specs.Line.{lineAt, contentOf}
+use Rattle.line_read.specs.Line.{lineAt, lineContent}
 
 -- the n lines from an offset on are all read
 unfoldable pub AllRead : List ℕ → ℕ → ℕ → Type 0
@@ -20,12 +20,12 @@ AllRead s at (suc n) = (l : ℕ) × (m : ℕ) × (lineAt s at ≡ Read l m) × A
 unfoldable pub lineEntry : ℕ → ℕ → List ℕ → List ℕ
 lineEntry k l c = cond (eqb k 1) [] (entryThen (field l c) [])
 
--- by what was read, nothing where no line is read
-abbrev pub entriesBy : Line → (ℕ → ℕ → List ℕ) → List ℕ
-entriesBy (Read l n) f = f l n
-entriesBy (Refused r) f = []
+-- by what was read, nothing if no line is read
+abbrev pub listedBy : Line → (ℕ → ℕ → List ℕ) → List ℕ
+listedBy (Read l n) f = f l n
+listedBy (Refused r) f = []
 
 -- the entries of the n lines from an offset on, with k lines before them
-unfoldable pub entriesFrom : List ℕ → ℕ → ℕ → ℕ → List ℕ
-entriesFrom s at k zero = []
-entriesFrom s at k (suc n) = entriesBy (lineAt s at) (λ l m. let rest = entriesFrom s (at + m) (k + 1) n in lineEntry k l (contentOf s at m) ++ rest)
+unfoldable pub listedFrom : List ℕ → ℕ → ℕ → ℕ → List ℕ
+listedFrom s at k zero = []
+listedFrom s at k (suc n) = listedBy (lineAt s at) (λ l m. let rest = listedFrom s (at + m) (k + 1) n in lineEntry k l (lineContent s at m) ++ rest)

@@ -9,7 +9,7 @@ ghost use Rattle.meaning.specs.Entries.{twoBytes, entryLead, entryThen};
 ghost use Rattle.meaning.specs.Reading as Reading;
 ghost use Rattle.meaning.specs.Answers.{listCall};
 ghost use Rattle.byte_put.specs.Places.{over};
-ghost use Rattle.list.specs.Listing.{AllRead, lineEntry, entriesFrom};
+ghost use Rattle.list.specs.Listing.{AllRead, lineEntry, listedFrom};
 use meaning::Judged;
 use meaning::Made;
 use meaning::Refusal;
@@ -37,7 +37,7 @@ fn put_entry(label: usize, content: &[u8], out: &mut [u8])
     byte_put::copy_front(&mut out[meaning::ENTRY_LEAD..], content);
 }
 
-// The entry of the line that has k lines before it, at offset `to`, and the offset behind it. "8100 has no entry."
+// The entry of the line that has k lines before it, at offset `to`, and the offset after it. "8100 has no entry."
 fn put_listed(k: usize, label: usize, content: &[u8], out: &mut [u8], to: usize) -> usize
     requires { ⌜ (label < 65536) × (length (now content) < 65536) × (to + length (lineEntry k label (now content)) ≤ length (now out)) ⌝ }
     ensures { λ r. ⌜ (r ≡ to + length (lineEntry k label (now (content .entry)))) × (now (out .exit) ≡ over to (lineEntry k label (now (content .entry))) (now (out .entry))) ⌝ }
@@ -52,8 +52,8 @@ fn put_listed(k: usize, label: usize, content: &[u8], out: &mut [u8], to: usize)
 // The entries of the first `lines` lines, entry after entry, nothing between. These lines are those of an accepted set.
 fn put_entries(set: &[u8], lines: usize, out: &mut [u8])
     requires { ⌜ AllRead (now set) 0 lines ⌝ }
-    requires { ⌜ length (entriesFrom (now set) 0 0 lines) ≤ length (now out) ⌝ }
-    ensures { λ _. ⌜ now (out .exit) ≡ over 0 (entriesFrom (now (set .entry)) 0 0 lines) (now (out .entry)) ⌝ }
+    requires { ⌜ length (listedFrom (now set) 0 0 lines) ≤ length (now out) ⌝ }
+    ensures { λ _. ⌜ now (out .exit) ≡ over 0 (listedFrom (now (set .entry)) 0 0 lines) (now (out .entry)) ⌝ }
 {
     let mut at: usize = 0;
     let mut to: usize = 0;

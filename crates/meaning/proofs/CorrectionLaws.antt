@@ -38,14 +38,17 @@ resum-set (f ∷ x ∷ fs) zero g h = refl
 resum-set (f ∷ x ∷ fs) (suc zero) g h = absurd (h refl)
 resum-set (f ∷ x ∷ fs) (suc (suc k)) g h = refl
 
+pub line-resum : (fs : List Field) (k : ℕ) → (1 ≡ k → ⊥) → getD (resum fs) k noField ≡ getD fs k noField
+line-resum [] k h = refl
+line-resum (f ∷ []) zero h = refl
+line-resum (f ∷ []) (suc zero) h = absurd (h refl)
+line-resum (f ∷ []) (suc (suc k)) h = refl
+line-resum (f ∷ x ∷ fs) zero h = refl
+line-resum (f ∷ x ∷ fs) (suc zero) h = absurd (h refl)
+line-resum (f ∷ x ∷ fs) (suc (suc k)) h = refl
+
 label-resum : (fs : List Field) (k : ℕ) → (1 ≡ k → ⊥) → labelAtLine (resum fs) k ≡ labelAtLine fs k
-label-resum [] k h = refl
-label-resum (f ∷ []) zero h = refl
-label-resum (f ∷ []) (suc zero) h = absurd (h refl)
-label-resum (f ∷ []) (suc (suc k)) h = refl
-label-resum (f ∷ x ∷ fs) zero h = refl
-label-resum (f ∷ x ∷ fs) (suc zero) h = absurd (h refl)
-label-resum (f ∷ x ∷ fs) (suc (suc k)) h = refl
+label-resum fs k h = ap (λ (f : Field). f .label) (line-resum fs k h)
 
 label-set : (fs : List Field) (i j : ℕ) (g : Field) → (j ≡ i → ⊥) → labelAtLine (set fs i g) j ≡ labelAtLine fs j
 label-set fs i j g h = ap (λ (f : Field). f .label) (getD-set-other fs i j g noField h)

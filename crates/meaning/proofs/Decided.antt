@@ -6,7 +6,8 @@ use Prim.Native.Nat.{ℕ}
 use lib.ListN.{replicate}
 use Rattle.meaning.specs.Field.{Field, field}
 use Rattle.meaning.specs.Computes.{computes}
-use Rattle.meaning.proofs.Asking.{text, line, setOf, entriesOf, judging, indexing, listing, writing, correcting, viewing, accepted, refusedBy, headers, holds, shows, answer, Example, example, asked, expected}
+use Rattle.meaning.proofs.Asking.{text, line, setOf, entriesOf, judging, indexing, listing, writing, correcting, viewing, accepted, refusedBy}
+use Rattle.meaning.proofs.Asking.{headers, holds, shows, answer, Example, example, asked, expected}
 
 -- ---- sets that the points are shown on
 

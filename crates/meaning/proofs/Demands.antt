@@ -23,7 +23,8 @@ use Rattle.meaning.proofs.EntryLaws.{Byte, length-entries}
 use Rattle.meaning.proofs.LineLaws.{length-render, take-render}
 use Rattle.meaning.proofs.SetLaws.{Standing, accepted, read-render}
 use Rattle.meaning.proofs.WriterLaws.{listOf, without-with, list-only, list-makes, write-makes, write-only}
-use Rattle.meaning.proofs.CorrectionLaws.{twice, recontent-comm, Change, change-same, not-second, upright, still-standing, alike-changed, Holds, holds-standing, same-lines, leaves, length-leaves, holds-leaves, correct-makes, correct-only}
+use Rattle.meaning.proofs.CorrectionLaws.{twice, recontent-comm, Change, change-same, not-second, upright, still-standing, alike-changed}
+use Rattle.meaning.proofs.CorrectionLaws.{Holds, holds-standing, same-lines, leaves, length-leaves, holds-leaves, correct-makes, correct-only}
 
 -- ---- every contract is an equation: two answers that meet it are equal
 

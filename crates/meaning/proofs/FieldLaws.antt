@@ -1,4 +1,4 @@
--- A content that fits its field has 1 to 60 bytes: by one computed test over the field table. What 8100's row asks.
+-- A content that fits its field has 1 to 60 bytes: by one computed test over the field table. And what the row of 8100 says.
 use mathlib.Core.Path.{_≡_, refl}
 use mathlib.Core.Bool.{Bool, true, false, cond, _&&_}
 use mathlib.Core.List.{List, [], _∷_}

@@ -4,6 +4,7 @@ pub mod LeftLaws
 pub mod DigitLaws
 pub mod FaultLaws
 pub mod FirstLaws
+pub mod RealLaws
 pub mod PieceLaws
 pub mod LineLaws
 pub mod EntryLaws

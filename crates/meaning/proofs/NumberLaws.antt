@@ -9,14 +9,17 @@ use Rattle.meaning.specs.declared.Row.{Row}
 use Rattle.meaning.specs.Limits.{maxLines, maxEntries, maxSetBytes}
 use Rattle.meaning.specs.Digits.{number}
 use Rattle.meaning.specs.Field.{Field, field, elem, isNil, labels, labelAtLine, contentAtLine}
-use Rattle.meaning.specs.Refusals.{Spot, Fault, atLine, atByte, ask, Reply, refused, done, thenTo, verdict, withRoom, empty, badLength, cutLine, badEnd, badLabel, badByte, tooManyLines, noStart, unknownSet, noSum, notInSet, stray, repeated, badContent, otherVersion, missing, badSum, badUse, noSuchLine, fixedLine, badList, noRoom}
+use Rattle.meaning.specs.Refusals.{Spot, Fault, atLine, atByte, ask, Reply, refused, done, thenTo, verdict, withRoom, empty, badLength, cutLine}
+use Rattle.meaning.specs.Refusals.{badEnd, badLabel, badByte, tooManyLines, noStart, unknownSet, noSum, notInSet, stray, repeated, badContent}
+use Rattle.meaning.specs.Refusals.{otherVersion, missing, badSum, badUse, noSuchLine, fixedLine, badList, noRoom}
 use Rattle.meaning.specs.Pieces.{Form, Parsed, andBefore, pieceThen, pieces, putAll}
 use Rattle.meaning.specs.Lines.{leastByte, lowBytes, contentAt, lineFaults, lineForm, lengthOk, wholeOk, endOk, labelOk, size, render}
 use Rattle.meaning.specs.Entries.{entryOk, entryWhole, entryLabel, entryContent, entryField, entryWidth, entryFaults, entryForm, listSize}
 use Rattle.meaning.specs.Groups.{State, first, Role, unknown, strayed, atSetLevel, member, role, next, after, labelFaults, noHeader}
 use Rattle.meaning.specs.Tables.{setLevel, find}
 use Rattle.meaning.specs.Missing.{needed, rowsUnder, ascending, missingLabel, lackingOf, lacking, among, openLacking, stays, groupsLacking, missingFaults}
-use Rattle.meaning.specs.Rules.{Profile, profile, rowsOf, roleIn, labelIs, typeKnown, startFaults, fits, current, contentFaults, contentRules, lineRules, rulesFrom, sumFaults, ruleFaults, setFaults}
+use Rattle.meaning.specs.Rules.{Profile, profile, rowsOf, roleIn, labelIs, typeKnown, startFaults, fits, current, contentFaults, contentRules}
+use Rattle.meaning.specs.Rules.{lineRules, rulesFrom, sumFaults, ruleFaults, setFaults}
 use Rattle.meaning.specs.Reading.{scan, inSet, byRules, read}
 use Rattle.meaning.specs.Index.{indexOf, index}
 use Rattle.meaning.specs.Lists.{withoutSum, withSum, list, inList, setWithRoom, written, write}

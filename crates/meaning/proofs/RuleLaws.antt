@@ -1,4 +1,4 @@
--- The rules under the replacement of one content: what sees labels and profile alone stays, and the new content must fit by itself.
+-- The rules when one content is replaced: those that see labels and profile alone hold as before, and the new content must fit by itself.
 use mathlib.Core.Path.{_≡_, refl, sym, ap, _∙_}
 use mathlib.Core.Bool.{true}
 use mathlib.Core.List.{List, [], _∷_, cons≢nil}
@@ -10,7 +10,8 @@ use Rattle.meaning.specs.Field.{Field, labels, noField, labelAtLine, con
 use Rattle.meaning.specs.Refusals.{atLine, unknownSet, noSum}
 use Rattle.meaning.specs.Groups.{State, first, Role, unknown, strayed, atSetLevel, member, next, labelFaults}
 use Rattle.meaning.specs.Missing.{missingFaults}
-use Rattle.meaning.specs.Rules.{labelIs, typeKnown, Profile, profile, rowsOf, roleIn, startFaults, fits, current, contentFaults, contentRules, lineRules, rulesFrom, sumFaults, ruleFaults, setFaults}
+use Rattle.meaning.specs.Rules.{labelIs, typeKnown, Profile, profile, rowsOf, roleIn, startFaults, fits, current, contentFaults, contentRules}
+use Rattle.meaning.specs.Rules.{lineRules, rulesFrom, sumFaults, ruleFaults, setFaults}
 use Rattle.meaning.proofs.FaultLaws.{append-none, none-both, ask-none, ask-last, cond-none}
 
 -- ---- one line

@@ -4,7 +4,7 @@ use mathlib.Core.Path.{_≡_, refl, sym, ap, _∙_, subst}
 use mathlib.Core.Bool.{Bool, true, false, cond}
 use mathlib.Core.List.{List, [], _∷_}
 use mathlib.Core.Option.{Option, none, some}
-use Prim.Native.Nat.{ℕ, zero, suc, pred, _+_, _≤_, _<_}
+use Prim.Native.Nat.{ℕ, pred, _+_, _≤_, _<_}
 use native.Mathlib.Omega.{arith}
 use lib.Dec.{eqb}
 use lib.ListN.{length, take, drop}
@@ -26,7 +26,7 @@ use Rattle.meaning.proofs.EntryLaws.{Byte, content-entry, label-entry, 
 use Rattle.meaning.proofs.FieldLaws.{fits-short}
 use Rattle.meaning.proofs.SetLaws.{accepted, read-render}
 use Rattle.meaning.proofs.PlaceLaws.{content-at}
-use Rattle.meaning.proofs.CorrectionLaws.{Change, change, no-change-faults, Holds, holds-standing, same-lines, alike-changed, still-standing, correct-only}
+use Rattle.meaning.proofs.CorrectionLaws.{line-resum, Change, change, no-change-faults, Holds, holds-standing, same-lines, alike-changed, still-standing, correct-only}
 
 -- ---- the form of a sheet's entries
 
@@ -107,13 +107,7 @@ view-shows s h n fs es b r lo hi q =
 -- ---- "as it would stand": under a sheet with one pending correction a line shows what it holds once that correction is made
 
 content-resum : (fs : List Field) (k : ℕ) → (k ≡ 1 → ⊥) → contentAtLine (resum fs) k ≡ contentAtLine fs k
-content-resum [] k h = refl
-content-resum (f ∷ []) zero h = refl
-content-resum (f ∷ []) (suc zero) h = absurd (h refl)
-content-resum (f ∷ []) (suc (suc k)) h = refl
-content-resum (f ∷ x ∷ fs) zero h = refl
-content-resum (f ∷ x ∷ fs) (suc zero) h = absurd (h refl)
-content-resum (f ∷ x ∷ fs) (suc (suc k)) h = refl
+content-resum fs k h = ap (λ (f : Field). f .content) (line-resum fs k (λ q. h (sym q)))
 
 newest-one : (fs : List Field) (n m : ℕ) (c : List ℕ) → 1 ≤ n → n ≤ length fs → 1 ≤ m
     → newest m (field n c ∷ []) (contentAtLine fs (pred m)) ≡ contentAtLine (recontent fs (pred n) c) (pred m)

@@ -3,7 +3,7 @@
 ghost use mathlib.Core.Path.{_≡_};
 ghost use Rattle.meaning.specs.Tables.{isPairLabel, rowLabel};
 ghost use Rattle.meaning.specs.FieldTable.{fieldTable, fieldRowIn, fieldRow};
-ghost use Rattle.table_fields.specs.Codes.{fieldCode, leastIn, mostIn, kindIn};
+ghost use Rattle.table_fields.specs.FieldCodes.{fieldCode, leastIn, mostIn, kindIn};
 
 // ---- a row's code: the least length, which is below 16, 16 times the most, which is below 64, and 1,024 times the number of the kind
 
@@ -278,7 +278,7 @@ pub const NO_9218: u8 = 56;
 // No length fits a label that has no row.
 const OF_NONE: u16 = FROM_ONE + ALNUM * KIND;
 
-// A name, or the odd label behind one.
+// A name, or the odd label after one.
 pub fn is_pair(label: usize) -> bool
     ensures { λ r. ⌜ r ≡ isPairLabel label ⌝ }
 {
@@ -288,7 +288,7 @@ pub fn is_pair(label: usize) -> bool
     label <= meaning::LABEL_6399
 }
 
-// The label that a label's row is printed under: 6330 for the names, 6331 for the odd labels behind them.
+// The label that a label's row is printed under: 6330 for the names, 6331 for the odd labels after them.
 pub fn row_label(label: usize) -> usize
     ensures { λ r. ⌜ r ≡ rowLabel label ⌝ }
 {

@@ -4,7 +4,7 @@ ghost use mathlib.Core.Path.{_≡_};
 ghost use mathlib.Core.Bool.{cond};
 ghost use Rattle.meaning.specs.Tables.{rows6300, rows6301, rows6302, rows6310, rows6311, table, isPairLabel, rowLabel};
 ghost use Rattle.table_find.specs.LookUp.{findFrom};
-ghost use Rattle.table_find.specs.Codes.{rowCode, code, numberIn, underIn, manyIn, fieldIn};
+ghost use Rattle.table_find.specs.RowCodes.{rowCode, code, numberIn, underIn, manyIn, fieldIn};
 use meaning::SetType;
 use table_fields as fields;
 
@@ -117,7 +117,7 @@ fn find_6302(label: usize) -> usize
     }
 }
 
-// The two rows of the pairs in the table of 6310: 6330 is printed for all names, 6331 for the odd labels behind them.
+// The two rows of the pairs in the table of 6310: 6330 is printed for all names, 6331 for the odd labels after them.
 fn find_pair(label: usize) -> usize
     ensures { λ r. ⌜ r ≡ cond (isPairLabel label) (code (findFrom rows6310 (rowLabel label))) 0 ⌝ }
 {

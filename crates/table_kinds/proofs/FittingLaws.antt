@@ -15,13 +15,13 @@ use Rattle.meaning.specs.Kinds.{sameBytes, ofKind}
 use Rattle.meaning.specs.Tables.{rowLabel}
 use Rattle.meaning.specs.FieldTable.{fieldTable, fieldRowIn, fieldRow, hasLength, fitsRow, fitsLabel}
 use Rattle.meaning.proofs.Bools.{and-no}
-use Rattle.table_fields.specs.Codes.{kindOf, fieldCode, kindIn}
-use Rattle.table_fields.proofs.CodeLaws.{Small, row-small, kind-back, code-least, code-most, code-kind}
+use Rattle.table_fields.specs.FieldCodes.{kindOf, fieldCode, kindIn}
+use Rattle.table_fields.proofs.FieldCodeLaws.{Small, row-small, kind-back, code-least, code-most, code-kind}
 use Rattle.table_kinds.specs.Fitting.{lengthFits}
 
 -- ---- a content and the code of a field row
 
--- a content fits a row where it has the length and is of the kind that the row's code tells
+-- a content fits a row if it has the length and is of the kind that the row's code says
 fits-coded : (x : FieldRow) (c : List ℕ) → Small x → fitsRow x c ≡ lengthFits (fieldCode x) (length c) && ofKind (kindOf (kindIn (fieldCode x))) c
 unfolding lengthFits fitsRow hasLength
 fits-coded x c s = rw (code-least x s, code-most x s, code-kind x s, kind-back (x .kind))
@@ -50,7 +50,7 @@ same-lengths [] (y ∷ d) h = refl
 same-lengths (x ∷ c) [] h = refl
 same-lengths (x ∷ c) (y ∷ d) h = and-no (eqb x y) (same-lengths c d (λ e. h (omega arith)))
 
--- where a byte of each is left
+-- if a byte of each is left
 module _ (c d : List ℕ) (i : ℕ) (h : i < length c) (g : i < length d) where
   pub same-more : getD c i 0 ≡ getD d i 0 → sameBytes (drop i c) (drop i d) ≡ sameBytes (drop (i + 1) c) (drop (i + 1) d)
   unfolding sameBytes
@@ -60,7 +60,7 @@ module _ (c d : List ℕ) (i : ℕ) (h : i < length c) (g : i < length d) where
   unfolding sameBytes
   same-stop n = rw (drop-cons c i 0, drop-cons d i 0, ne-eqb (getD c i 0) (getD d i 0) n)
 
--- where none of either is left
+-- if none of either is left
 pub same-end : (c d : List ℕ) (i : ℕ) → length c ≤ i → length d ≤ i → sameBytes (drop i c) (drop i d) ≡ true
 unfolding sameBytes
 same-end c d i h g = rw (drop-of-length-le c h, drop-of-length-le d g)

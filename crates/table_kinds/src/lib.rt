@@ -3,7 +3,7 @@
 ghost use mathlib.Core.Path.{_≡_};
 ghost use Rattle.meaning.specs.Kinds.{isNum, isRule112, isRule116, isCharset, isVersion, sameBytes, is0210, ofKind};
 ghost use Rattle.meaning.specs.FieldTable.{fitsLabel};
-ghost use Rattle.table_fields.specs.Codes.{kindOf};
+ghost use Rattle.table_fields.specs.FieldCodes.{kindOf};
 ghost use Rattle.table_kinds.specs.Fitting.{lengthFits};
 
 // "num: digits only."

@@ -332,7 +332,7 @@ pub const M_6305: Row = Row {
     required: true,
 };
 
-// The odd labels, which 6331 stands for: required once behind their name.
+// The odd labels, which 6331 stands for: required once after their name.
 pub const M_6331: Row = Row {
     label: 6331,
     under: 6330,

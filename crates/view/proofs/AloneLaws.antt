@@ -58,7 +58,7 @@ module _ (s h : List ℕ) (d : Parsed) (r : read s ≡ done d) (n : ℕ) where
   abbrev fs : List Field
   fs = d .fields
 
-  -- the set fills its slice where no byte follows it
+  -- the set fills its slice if no byte follows it
   fills : leb (length s) (size fs) ≡ isNil (d .rest)
   fills = go (d .rest) (ap length (accepted s d r .bytes) ∙ length-render fs (d .rest))
     where
@@ -66,9 +66,9 @@ module _ (s h : List ℕ) (d : Parsed) (r : read s ≡ done d) (n : ℕ) where
       go [] e = le-leb (length s) (size fs) (omega arith)
       go (b ∷ t) e = lt-leb (length s) (size fs) (omega arith)
 
-  -- behind all lines stands the set's length
-  behind-all : offset fs (length fs) + 0 ≡ size fs
-  behind-all = add-zero (offset fs (length fs)) ∙ ap size (take-all (length fs) fs (omega arith))
+  -- after all lines stands the set's length
+  after-all : offset fs (length fs) + 0 ≡ size fs
+  after-all = add-zero (offset fs (length fs)) ∙ ap size (take-all (length fs) fs (omega arith))
 
   alone-is : shownAlone s (shape fs) h n ≡ viewed s h n
   unfolding viewed viewing shownAlone
@@ -78,8 +78,8 @@ module _ (s h : List ℕ) (d : Parsed) (r : read s ≡ done d) (n : ℕ) where
           → cond a (cond b (shownUnder s (shape fs) h n) (Refused (refusal noSuchLine (size fs) 0))) (Refused (refusal badUse (size fs) 0))
           ≡ viewAnswer (thenTo (verdict (inSet fs) (ask a (atLine badUse (length fs) 0) ++ ask b (atLine noSuchLine (length fs) 0)) fs) (λ gs.
           thenTo (sheet gs h) (λ e. done (shownPart gs n (latest n 0 (e .fields) none)))))
-      go false b q = rw behind-all
-      go true false q = rw behind-all
+      go false b q = rw after-all
+      go true false q = rw after-all
       go true true q = under-is s h d r n (leb-true 1 n (and-left (leb 1 n) _ q)) (leb-true n (length fs) (and-right (leb 1 n) _ q))
 
 -- ---- the answer

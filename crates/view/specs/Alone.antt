@@ -1,4 +1,4 @@
--- The walk of `viewed` behind `judge`: the tests of an accepted set, then the sheet, in the code's order.
+-- The walk of `viewed` after `judge`: the tests of an accepted set, then the sheet, in the code's order.
 -- What it means is `viewed-accepted` in proofs/AloneLaws.
 use mathlib.Core.Bool.{cond, _&&_}
 use mathlib.Core.List.{List}

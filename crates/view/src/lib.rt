@@ -12,7 +12,7 @@ use meaning::Shape;
 use meaning::Viewed;
 
 // A refusal that concerns the set: "the label 0, unless said otherwise".
-fn refused(no: usize, place: usize) -> Viewed
+fn refused_view(no: usize, place: usize) -> Viewed
     ensures { λ r. ⌜ r ≡ Viewed.Refused (refusal no place 0) ⌝ }
 {
     Viewed::Refused(Refusal::at(no, place))
@@ -25,14 +25,14 @@ fn shown_alone(set: &[u8], shape: Shape, sheet: &[u8], line: usize) -> Viewed
 {
     // 18, BadUse: "another set follows (place: first set's length)"
     if shape.length < set.len() {
-        return refused(Refusal::BAD_USE, shape.length);
+        return refused_view(Refusal::BAD_USE, shape.length);
     }
     // 19, NoSuchLine: "line number 0 or beyond the set; place: set length"
     if line < 1 {
-        return refused(Refusal::NO_SUCH_LINE, shape.length);
+        return refused_view(Refusal::NO_SUCH_LINE, shape.length);
     }
     if shape.lines < line {
-        return refused(Refusal::NO_SUCH_LINE, shape.length);
+        return refused_view(Refusal::NO_SUCH_LINE, shape.length);
     }
     view_sheet::shown_under(set, shape, sheet, line)
 }

@@ -1,4 +1,4 @@
--- The part that is shown behind one more entry of a sheet, and that a part lies within its slice.
+-- The part that is shown after one more entry of a sheet, and that a part lies within its slice.
 use mathlib.Core.Bool.{cond}
 use mathlib.Core.List.{List}
 use Prim.Native.Nat.{ℕ, _+_, _≤_}
@@ -8,7 +8,7 @@ use Rattle.meaning.specs.declared.Part.{Part}
 use Rattle.meaning.specs.declared.Viewed.{Viewed}
 use Rattle.meaning.specs.declared.Viewed.the-variants.{Sheet, Set, Refused}
 
--- "the last for a line counts": the part p of an entry for line k, where line n is asked for
+-- "the last for a line counts": the part p of an entry for line k, if line n is asked for
 unfoldable pub newer : Viewed → Part → ℕ → ℕ → Viewed
 newer v p k n = cond (eqb k n) (Sheet p) v
 

@@ -6,7 +6,7 @@ ghost use Rattle.view_part.specs.Parts.{newer, Within};
 use meaning::Part;
 use meaning::Viewed;
 
-// "The last for a line counts": the part of the sheet where the entry is for the line asked for, else what was shown before.
+// "The last for a line counts": the part of the sheet if the entry is for the line asked for, else what was shown before.
 pub fn newer_part(shown: Viewed, part: Part, named: usize, line: usize) -> Viewed
     ensures { λ r. ⌜ r ≡ newer shown part named line ⌝ }
 {

@@ -30,14 +30,14 @@ use Rattle.correct_offer.specs.Offered.{offered, offerLine, offerSpot, offerFau
 use Rattle.correct_offer.proofs.OfferLaws.{line-stands, offer-is}
 use Rattle.view_part.specs.Parts.{newer, Within}
 use Rattle.view_part.proofs.PartLaws.{newer-within}
-use Rattle.view_sheet.specs.declared.Checked.{Checked}
-use Rattle.view_sheet.specs.declared.Checked.the-variants.{Good}
-use Rattle.view_sheet.specs.Showing.{byOffer, byHead, checkedAt, setPart, checkedThen, shownFrom, shownUnder}
-use Rattle.view_sheet.proofs.WalkLaws.{check-within, line-inside}
+use Rattle.view_sheet.specs.declared.SheetEntry.{SheetEntry}
+use Rattle.view_sheet.specs.declared.SheetEntry.the-variants.{Good}
+use Rattle.view_sheet.specs.Showing.{byOffer, sheetEntryBy, sheetEntryAt, setPart, goodThen, shownFrom, shownUnder}
+use Rattle.view_sheet.proofs.SheetWalkLaws.{sheet-within, line-inside}
 
 -- ---- the sheet
 
--- only the first fault of a piece is told
+-- only the first fault of a piece counts
 first-piece : (F : Form) (xs : List Fault) (at : ℕ) (s : List ℕ) (k : ℕ → List ℕ → Reply Parsed) → pieceThen F xs at s k ≡ pieceThen F (take 1 xs) at s k
 first-piece F [] at s k = refl
 first-piece F (x ∷ xs) at s k = refl
@@ -49,7 +49,7 @@ module _ (s h : List ℕ) (d : Parsed) (r : read s ≡ done d) (n : ℕ) where
   abbrev F : Form
   F = sheetForm fs
 
-  -- what line n shows behind the entries that were read from offset `at` on, where `found` is the last one for it before them
+  -- what line n shows after the entries that were read from offset `at` on, with `found` the last one for it before them
   abbrev shownBehind : Reply Parsed → ℕ → Option Pending → Viewed
   shownBehind e at found = viewAnswer (thenTo e (λ y. done (shownPart fs n (latest n at (y .fields) found))))
 
@@ -73,7 +73,7 @@ module _ (s h : List ℕ) (d : Parsed) (r : read s ≡ done d) (n : ℕ) where
       go true = refl
       go false = refl
 
-  -- what the walk does behind a good entry at `at`
+  -- what the walk does after a good entry at `at`
   abbrev goOn : ℕ → ℕ → Option Pending → ℕ → ℕ → Viewed
   goOn m at found k l = shownFrom s (shape fs) h n m (at + (entryLead + l)) (newer (shownPart fs n found) (part (at + entryLead) l) k n)
 
@@ -86,7 +86,7 @@ module _ (s h : List ℕ) (d : Parsed) (r : read s ≡ done d) (n : ℕ) where
     abbrev here : List ℕ
     here = drop at h
 
-    -- behind an entry of the length that its head tells
+    -- after an entry of the length that its head gives
     further : (k : ℕ) (c : List ℕ) (l : ℕ) → length c ≡ l
         → shownBehind (andBefore (field k c) (pieces F m (at + (entryLead + l)) (drop (entryLead + l) here))) at found ≡ goOn m at found k l
     further k c l e =
@@ -96,7 +96,7 @@ module _ (s h : List ℕ) (d : Parsed) (r : read s ≡ done d) (n : ℕ) where
     -- by the first fault of the entry
     offer-then : (o : Offer) (xs : List Fault) → take 1 xs ≡ offerFaults o (length fs) (entryLabel here) → length (entryContent here) ≡ twoBytesAt here 0
         → shownBehind (pieceThen F xs at here (λ p t. pieces F m p t)) at found
-        ≡ checkedThen (byOffer o at (entryLabel here) (twoBytesAt here 0)) (goOn m at found)
+        ≡ goodThen (byOffer o at (entryLabel here) (twoBytesAt here 0)) (goOn m at found)
     unfolding offerFaults
     offer-then o xs e l = ap (λ (y : Reply Parsed). shownBehind y at found) (first-piece F xs at here (λ p t. pieces F m p t)) ∙ rw e (go (eqb (o .no) 0))
       where
@@ -104,20 +104,20 @@ module _ (s h : List ℕ) (d : Parsed) (r : read s ≡ done d) (n : ℕ) where
         x = record { no = o .no; line = offerLine o (length fs) (entryLabel here); spot = offerSpot o; label = o .label }
 
         go : (b : Bool) → shownBehind (pieceThen F (cond b [] (x ∷ [])) at here (λ p t. pieces F m p t)) at found
-            ≡ checkedThen (cond b (Good (entryLabel here) (twoBytesAt here 0)) (Checked.Refused (refusal (o .no) (at + behind entryLead (offerSpot o)) (o .label))))
+            ≡ goodThen (cond b (Good (entryLabel here) (twoBytesAt here 0)) (SheetEntry.Refused (refusal (o .no) (at + behind entryLead (offerSpot o)) (o .label))))
             (goOn m at found)
         go true = further (entryLabel here) (entryContent here) (twoBytesAt here 0) l
         go false = refl
 
     -- by its head, then by what speaks against its content
     entry-then : shownBehind (pieceThen F (sheetEntryFaults fs here) at here (λ p t. pieces F m p t)) at found
-        ≡ checkedThen (checkedAt s (shape fs) h at) (goOn m at found)
-    unfolding sheetEntryFaults checkedAt
+        ≡ goodThen (sheetEntryAt s (shape fs) h at) (goOn m at found)
+    unfolding sheetEntryFaults sheetEntryAt
     entry-then = rw (entry-is h at) (go (entryWhole here) refl)
       where
         go : (b : Bool) → entryWhole here ≡ b
             → shownBehind (pieceThen F (ask b (atLine badList 0 0) ++ changeFaults fs (entryLabel here) (entryContent here)) at here (λ p t. pieces F m p t)) at found
-            ≡ checkedThen (byHead s (shape fs) h at (headOf b here)) (goOn m at found)
+            ≡ goodThen (sheetEntryBy s (shape fs) h at (headOf b here)) (goOn m at found)
         go true w =
             let l : length (entryContent here) ≡ twoBytesAt here 0 =
             length-take (twoBytesAt here 0) (drop entryLead here) ∙ omega (arith, entire here w .within, length-drop entryLead here) in
@@ -139,7 +139,7 @@ module _ (s h : List ℕ) (d : Parsed) (r : read s ≡ done d) (n : ℕ) where
   sheet-is zero at found = rw (end-is h at) (ends-or (isNil (drop at h)) at found (drop at h) (refused (refusal tooManyLines at 0)) (Refused (refusal tooManyLines at 0)) refl)
   sheet-is (suc m) at found =
       rw (end-is h at) (ends-or (isNil (drop at h)) at found (drop at h) (pieceThen F (sheetEntryFaults fs (drop at h)) at (drop at h) (λ p t. pieces F m p t))
-      (checkedThen (checkedAt s (shape fs) h at) (goOn m at found)) (entry-then m (λ p o. sheet-is m p o) at found))
+      (goodThen (sheetEntryAt s (shape fs) h at) (goOn m at found)) (entry-then m (λ p o. sheet-is m p o) at found))
 
   -- ---- the set
 
@@ -165,13 +165,13 @@ module _ (s : List ℕ) (x : Shape) (h : List ℕ) (n : ℕ) where
       go : (b : Bool) → Within s h (cond b v (Refused (refusal tooManyLines at 0)))
       go true = w
       go false = tt
-  shown-within (suc m) at v w = go (λ at′ v′. shown-within m at′ v′) (leb (length h) at) (checkedAt s x h at) refl
+  shown-within (suc m) at v w = go (λ at′ v′. shown-within m at′ v′) (leb (length h) at) (sheetEntryAt s x h at) refl
     where
-      go : ((at′ : ℕ) (v′ : Viewed) → Within s h v′ → Within s h (shownFrom s x h n m at′ v′)) → (b : Bool) (y : Checked) → checkedAt s x h at ≡ y
-          → Within s h (cond b v (checkedThen y (λ k l. shownFrom s x h n m (at + (entryLead + l)) (newer v (part (at + entryLead) l) k n))))
+      go : ((at′ : ℕ) (v′ : Viewed) → Within s h v′ → Within s h (shownFrom s x h n m at′ v′)) → (b : Bool) (y : SheetEntry) → sheetEntryAt s x h at ≡ y
+          → Within s h (cond b v (goodThen y (λ k l. shownFrom s x h n m (at + (entryLead + l)) (newer v (part (at + entryLead) l) k n))))
       go ih true y e = w
-      go ih false (Good k l) e = ih (at + (entryLead + l)) (newer v (part (at + entryLead) l) k n) (newer-within s h v (part (at + entryLead) l) k n (omega (arith, check-within s x h at k l e)) w)
-      go ih false (Checked.Refused r) e = tt
+      go ih false (Good k l) e = ih (at + (entryLead + l)) (newer v (part (at + entryLead) l) k n) (newer-within s h v (part (at + entryLead) l) k n (omega (arith, sheet-within s x h at k l e)) w)
+      go ih false (SheetEntry.Refused r) e = tt
 
   -- the content of a line of an accepted set
   set-within : judge s ≡ Accepted x → 1 ≤ n → n ≤ x .lines → Within s h (Set (setPart s n))

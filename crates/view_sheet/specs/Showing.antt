@@ -19,23 +19,23 @@ use Rattle.entry_read.specs.Head.{entryAt}
 use Rattle.correct_offer.specs.declared.Offer.{Offer}
 use Rattle.correct_offer.specs.Offered.{lineAfter, offered, offerSpot}
 use Rattle.view_part.specs.Parts.{newer}
-use Rattle.view_sheet.specs.declared.Checked.{Checked}
-use Rattle.view_sheet.specs.declared.Checked.the-variants.{Good}
+use Rattle.view_sheet.specs.declared.SheetEntry.{SheetEntry}
+use Rattle.view_sheet.specs.declared.SheetEntry.the-variants.{Good}
 
 -- ---- one entry of the sheet
 
 -- the entry at offset `at`, by what speaks against its content
-abbrev pub byOffer : Offer → ℕ → ℕ → ℕ → Checked
-byOffer o at k n = cond (eqb (o .no) 0) (Good k n) (Checked.Refused (refusal (o .no) (at + behind entryLead (offerSpot o)) (o .label)))
+abbrev pub byOffer : Offer → ℕ → ℕ → ℕ → SheetEntry
+byOffer o at k n = cond (eqb (o .no) 0) (Good k n) (SheetEntry.Refused (refusal (o .no) (at + behind entryLead (offerSpot o)) (o .label)))
 
 -- by its head
-abbrev pub byHead : List ℕ → Shape → List ℕ → ℕ → Head → Checked
-byHead s x h at (Whole k n) = byOffer (offered s x k (take n (drop (at + entryLead) h))) at k n
-byHead s x h at Cut = Checked.Refused (refusal badList at 0)
+abbrev pub sheetEntryBy : List ℕ → Shape → List ℕ → ℕ → Head → SheetEntry
+sheetEntryBy s x h at (Whole k n) = byOffer (offered s x k (take n (drop (at + entryLead) h))) at k n
+sheetEntryBy s x h at Cut = SheetEntry.Refused (refusal badList at 0)
 
 -- the entry at an offset of the sheet h: "21 (cut only), 19, 20, 6, 14"
-unfoldable pub checkedAt : List ℕ → Shape → List ℕ → ℕ → Checked
-checkedAt s x h at = byHead s x h at (entryAt h at)
+unfoldable pub sheetEntryAt : List ℕ → Shape → List ℕ → ℕ → SheetEntry
+sheetEntryAt s x h at = sheetEntryBy s x h at (entryAt h at)
 
 -- ---- what is shown
 
@@ -44,21 +44,21 @@ unfoldable pub setPart : List ℕ → ℕ → Part
 setPart s n = part (lineAfter s (pred n) .at + lineLead) (lineAfter s (pred n) .size - (lineLead + lineEnd))
 
 -- a refusal stands; else what f makes of an entry
-abbrev pub checkedThen : Checked → (ℕ → ℕ → Viewed) → Viewed
-checkedThen (Good k n) f = f k n
-checkedThen (Checked.Refused r) f = Refused r
+abbrev pub goodThen : SheetEntry → (ℕ → ℕ → Viewed) → Viewed
+goodThen (Good k n) f = f k n
+goodThen (SheetEntry.Refused r) f = Refused r
 
--- what line n shows behind the entries from offset `at` of the sheet on, of which there are at most m, where v was shown before them
+-- what line n shows after the entries from offset `at` of the sheet on, of which there are at most m, if v was shown before them
 unfoldable pub shownFrom : List ℕ → Shape → List ℕ → ℕ → ℕ → ℕ → Viewed → Viewed
 shownFrom s x h n zero at v = cond (leb (length h) at) v (Refused (refusal tooManyLines at 0))
 shownFrom s x h n (suc m) at v =
     cond (leb (length h) at) v
-    (checkedThen (checkedAt s x h at) (λ k l. shownFrom s x h n m (at + (entryLead + l)) (newer v (part (at + entryLead) l) k n)))
+    (goodThen (sheetEntryAt s x h at) (λ k l. shownFrom s x h n m (at + (entryLead + l)) (newer v (part (at + entryLead) l) k n)))
 
 -- what the whole sheet shows, or nothing of the set; a sheet never has more entries than bytes
 unfoldable pub shownBySheet : List ℕ → Shape → List ℕ → ℕ → Viewed
 shownBySheet s x h n = shownFrom s x h n (length h) 0 (Set (part 0 0))
 
--- the part of the set where the sheet has no entry for the line
+-- the part of the set if the sheet has no entry for the line
 unfoldable pub shownUnder : List ℕ → Shape → List ℕ → ℕ → Viewed
 shownUnder s x h n = shownFrom s x h n (length h) 0 (Set (setPart s n))

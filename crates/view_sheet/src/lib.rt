@@ -5,7 +5,7 @@ ghost use mathlib.Core.Path.{_≡_};
 ghost use Prim.Native.Nat.{_≤_};
 ghost use Rattle.meaning.specs.Refusals.{refusal};
 ghost use Rattle.meaning.specs.Reading.{judge};
-ghost use Rattle.view_sheet.specs.Showing.{setPart, checkedAt, shownBySheet, shownUnder};
+ghost use Rattle.view_sheet.specs.Showing.{setPart, sheetEntryAt, shownBySheet, shownUnder};
 use entry_read::Head;
 use meaning::Judged;
 use meaning::Part;
@@ -14,7 +14,7 @@ use meaning::Shape;
 use meaning::Viewed;
 
 // What judging one entry of a sheet finds.
-pub enum Checked {
+pub enum SheetEntry {
     // The entry keeps 21, 19, 20, 6, 14: the number of its line, and the length of its content.
     Good { named: usize, length: usize },
     // The first of them that it breaks.
@@ -22,15 +22,15 @@ pub enum Checked {
 }
 
 // A refusal of an entry.
-fn bad_entry(no: usize, place: usize, label: usize) -> Checked
-    ensures { λ r. ⌜ r ≡ Checked.Refused (refusal no place label) ⌝ }
+fn bad_entry(no: usize, place: usize, label: usize) -> SheetEntry
+    ensures { λ r. ⌜ r ≡ SheetEntry.Refused (refusal no place label) ⌝ }
 {
-    Checked::Refused(Refusal { no, place, label })
+    SheetEntry::Refused(Refusal { no, place, label })
 }
 
 // The entry of a sheet at an offset: "21 (cut only), 19, 20, 6, 14, with places in the sheet (the entry's first byte, for 6 the byte)".
-fn check_entry(set: &[u8], shape: Shape, sheet: &[u8], at: usize) -> Checked
-    ensures { λ r. ⌜ r ≡ checkedAt (now (set .entry)) shape (now (sheet .entry)) at ⌝ }
+fn sheet_entry_at(set: &[u8], shape: Shape, sheet: &[u8], at: usize) -> SheetEntry
+    ensures { λ r. ⌜ r ≡ sheetEntryAt (now (set .entry)) shape (now (sheet .entry)) at ⌝ }
 {
     match entry_read::entry_at(sheet, at) {
         Head::Cut => bad_entry(Refusal::BAD_LIST, at, 0),
@@ -42,7 +42,7 @@ fn check_entry(set: &[u8], shape: Shape, sheet: &[u8], at: usize) -> Checked
             let end = content + length;
             let offer = correct_offer::judge_offer(set, shape, named, &sheet[content..end]);
             if offer.no == 0 {
-                return Checked::Good { named, length };
+                return SheetEntry::Good { named, length };
             }
             if offer.no == Refusal::BAD_BYTE {
                 return bad_entry(offer.no, content + offer.byte, offer.label);
@@ -65,7 +65,7 @@ fn part_of_set(set: &[u8], shape: Shape, line: usize) -> Part
     }
 }
 
-// What the sheet shows for a line: the part of the last entry for it, or nothing of the set where it has none. Each entry is judged.
+// What the sheet shows for a line: the part of the last entry for it, or nothing of the set if it has none. Each entry is judged.
 fn shown_by_sheet(set: &[u8], shape: Shape, sheet: &[u8], line: usize) -> Viewed
     ensures { λ r. ⌜ r ≡ shownBySheet (now (set .entry)) shape (now (sheet .entry)) line ⌝ }
 {
@@ -75,11 +75,11 @@ fn shown_by_sheet(set: &[u8], shape: Shape, sheet: &[u8], line: usize) -> Viewed
     });
     let mut at = 0;
     while at < sheet.len() {
-        match check_entry(set, shape, sheet, at) {
-            Checked::Refused(r) => {
+        match sheet_entry_at(set, shape, sheet, at) {
+            SheetEntry::Refused(r) => {
                 return Viewed::Refused(r);
             }
-            Checked::Good { named, length } => {
+            SheetEntry::Good { named, length } => {
                 let place = at + meaning::ENTRY_LEAD;
                 shown = view_part::newer_part(shown, Part { place, length }, named, line);
                 at = place + length;

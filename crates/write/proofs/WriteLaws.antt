@@ -32,9 +32,9 @@ use Rattle.entry_read.specs.Head.{entryAt}
 use Rattle.meaning.proofs.FirstLaws.{firstOf, Real}
 use Rattle.byte_put.specs.Places.{over}
 use Rattle.byte_put.proofs.OverLaws.{Turned, here-fits, turned, front-then-zeros}
-use Rattle.write_judge.specs.declared.Checked.{Checked}
-use Rattle.write_judge.specs.declared.Checked.the-variants.{Done as Counted, Refused as Unchecked}
-use Rattle.write_judge.specs.Judging.{byHead, contentOf, checkFrom, judgeEntries, doneUnless, ruled, judgedList}
+use Rattle.write_judge.specs.declared.ListJudged.{ListJudged}
+use Rattle.write_judge.specs.declared.ListJudged.the-variants.{Done as Counted, Refused as Unchecked}
+use Rattle.write_judge.specs.Judging.{byHead, listContent, checkFrom, judgeEntries, countUnless, ruled, judgedList}
 use Rattle.write_judge.proofs.CheckLaws.{Reads, check-entered, check-refused}
 use Rattle.write_judge.proofs.EntryPass.{entries-found, rules-real}
 use Rattle.write_lines.specs.EntryLines.{entryLines}
@@ -55,7 +55,7 @@ module _ (l sum : List ℕ) where
   lines-none at zero h = refl
   lines-none at (suc k) h = rw (le-leb (length l) at h)
 
-  -- so many entries as there are bytes are enough
+  -- as many entries as bytes are enough: a larger count gives the same lines
   lines-enough : (k j at : ℕ) → length l ≤ at + k → length l ≤ at + j → linesFrom l sum at k ≡ linesFrom l sum at j
   unfolding linesFrom
   lines-enough zero j at h g = sym (lines-none at j (omega arith))
@@ -64,10 +64,10 @@ module _ (l sum : List ℕ) where
       go (entryAt l at) (λ m. lines-enough k j (at + (entryLead + m)) (omega arith) (omega arith))
     where
       go : (x : Head) → ((m : ℕ) → linesFrom l sum (at + (entryLead + m)) k ≡ linesFrom l sum (at + (entryLead + m)) j)
-          → cond (leb (length l) at) [] (byHead x [] (λ label m. entryLines at label (contentOf l at m) sum ++ linesFrom l sum (at + (entryLead + m)) k))
-          ≡ cond (leb (length l) at) [] (byHead x [] (λ label m. entryLines at label (contentOf l at m) sum ++ linesFrom l sum (at + (entryLead + m)) j))
+          → cond (leb (length l) at) [] (byHead x [] (λ label m. entryLines at label (listContent l at m) sum ++ linesFrom l sum (at + (entryLead + m)) k))
+          ≡ cond (leb (length l) at) [] (byHead x [] (λ label m. entryLines at label (listContent l at m) sum ++ linesFrom l sum (at + (entryLead + m)) j))
       go Cut ih = refl
-      go (Whole label m) ih = ap (λ (u : List ℕ). cond (leb (length l) at) [] (entryLines at label (contentOf l at m) sum ++ u)) (ih m)
+      go (Whole label m) ih = ap (λ (u : List ℕ). cond (leb (length l) at) [] (entryLines at label (listContent l at m) sum ++ u)) (ih m)
 
   pub lines-end : (at : ℕ) → length l ≤ at → linesLeft l sum at ≡ []
   lines-end at h = lines-none at (length l - at) h
@@ -77,34 +77,34 @@ module _ (l sum : List ℕ) where
     unfolding linesFrom
     lines-cut e = rw (one-more h, lt-leb (length l) at h, e)
 
-    lines-on : {label m : ℕ} → entryAt l at ≡ Whole label m → linesLeft l sum at ≡ entryLines at label (contentOf l at m) sum ++ linesLeft l sum (at + (entryLead + m))
+    lines-on : {label m : ℕ} → entryAt l at ≡ Whole label m → linesLeft l sum at ≡ entryLines at label (listContent l at m) sum ++ linesLeft l sum (at + (entryLead + m))
     unfolding linesFrom
     lines-on {label} {m} e =
         rw (one-more h, lt-leb (length l) at h, e)
-        (ap (λ (u : List ℕ). entryLines at label (contentOf l at m) sum ++ u)
+        (ap (λ (u : List ℕ). entryLines at label (listContent l at m) sum ++ u)
         (lines-enough (length l - (at + 1)) (length l - (at + (entryLead + m))) (at + (entryLead + m)) (omega arith) (omega arith)))
 
--- one turn: the lines of one entry, and what is left behind them
+-- one turn: the lines of one entry, and what is left after them
 module _ (l sum : List ℕ) (at : ℕ) (h : at < length l) {label m : ℕ} (e : entryAt l at ≡ Whole label m) (w : ℕ) (q : w ≡ m) (end : ℕ) (x : end ≡ at + (entryLead + m))
     (out : List ℕ) (to : ℕ) (g : to + length (linesLeft l sum at) ≤ length out) where
   abbrev here : List ℕ
   here = entryLines at label (take w (drop (at + entryLead) l)) sum
 
-  abbrev behind : List ℕ
-  behind = linesLeft l sum end
+  abbrev rest : List ℕ
+  rest = linesLeft l sum end
 
-  both : linesLeft l sum at ≡ here ++ behind
+  both : linesLeft l sum at ≡ here ++ rest
   both = lines-on l sum at h e ∙ ap₂ (λ (y z : ℕ). entryLines at label (take y (drop (at + entryLead) l)) sum ++ linesLeft l sum z) (sym q) (sym x)
 
   pub lines-fit : to + length here ≤ length out
-  lines-fit = here-fits out to _ here behind both g
+  lines-fit = here-fits out to _ here rest both g
 
-  pub put-turn : (to′ : ℕ) (out′ : List ℕ) → to′ ≡ to + length here → out′ ≡ over to here out → Turned out out′ (linesLeft l sum at) behind to to′
-  put-turn = turned out to _ here behind both g
+  pub put-turn : (to′ : ℕ) (out′ : List ℕ) → to′ ≡ to + length here → out′ ≡ over to here out → Turned out out′ (linesLeft l sum at) rest to to′
+  put-turn = turned out to _ here rest both g
 
 -- ---- what the walk gives
 
--- the entries behind the first: by induction on fs
+-- the entries after the first: by induction on fs
 later-lines : (l sum : List ℕ) (fs : List Field) (at k : ℕ) → Reads l at fs → at + listSize fs ≡ length l → length fs ≤ k → 1 ≤ at → linesFrom l sum at k ≡ render fs []
 unfolding linesFrom
 later-lines l sum [] at k rd w g h = lines-none l sum at k (omega arith)
@@ -114,7 +114,7 @@ later-lines l sum (f ∷ fs) at (suc k) rd w g h =
     (ap (λ (u : List ℕ). lineThen f [] ++ u) (later-lines l sum fs (at + (entryLead + length (f .content))) k (rd .2) (omega arith) (omega arith) (omega arith))
     ∙ line-then f (render fs []))
 
--- all entries: behind the first stands the line of 8100
+-- all entries: after the first stands the line of 8100
 all-lines : (l sum : List ℕ) (f : Field) (fs : List Field) (k : ℕ) → Reads l 0 (f ∷ fs) → listSize (f ∷ fs) ≡ length l → length (f ∷ fs) ≤ k
     → linesFrom l sum 0 k ≡ render (f ∷ field 8100 sum ∷ fs) []
 unfolding linesFrom
@@ -142,7 +142,7 @@ totalOf l n = length l + n * 5 + 14
 abbrev pub sumOf : List ℕ → ℕ → List ℕ
 sumOf l n = digits sumDigits (totalOf l n)
 
--- where a fault is found it is the answer, else what follows
+-- a fault that is found is the answer, else what follows
 by-first : {A : Type 0} (pl : ℕ → Spot → ℕ) (xs : List Fault) (d : A) (k : A → Reply (List ℕ)) → Real xs
     → thenTo (verdict pl xs d) k ≡ cond (eqb (firstOf pl xs .no) 0) (k d) (refused (firstOf pl xs))
 by-first pl [] d k h = refl
@@ -190,8 +190,8 @@ module _ (l : List ℕ) (n : ℕ) (some : 0 < length l) where
   answers-are e = let x = check-entered l n e in answers-of (x .entries) (x .left) (x .scanned) (x .count) (x .reads) (x .whole) (x .few)
 
 -- a list that is not refused
-list-done : (x : Checked) (f : ℕ → Refusal) {n : ℕ} → ruled x f ≡ Counted n → (x ≡ Counted n) × (f n .no ≡ 0)
-unfolding doneUnless
+list-done : (x : ListJudged) (f : ℕ → Refusal) {n : ℕ} → ruled x f ≡ Counted n → (x ≡ Counted n) × (f n .no ≡ 0)
+unfolding countUnless
 list-done (Counted m) f {n} e = go (eqb (f m .no) 0) refl e
   where
     go : (b : Bool) → eqb (f m .no) 0 ≡ b → cond b (Counted m) (Unchecked (f m)) ≡ Counted n → (Counted m ≡ Counted n) × (f n .no ≡ 0)
@@ -210,7 +210,7 @@ module _ (l : List ℕ) (n : ℕ) (some : 0 < length l) (e : judgedList l ≡ Co
   pub not-many : n ≤ maxEntries
   not-many = answers .few
 
-  -- the lines have as many bytes as is told
+  -- the lines have the bytes that were counted
   pub set-fits : {room : ℕ} → totalOf l n ≤ room → length (linesLeft l (sumOf l n) 0) ≤ room
   set-fits h = omega (arith, answers .need)
 
@@ -231,7 +231,7 @@ module _ (l : List ℕ) (n : ℕ) (some : 0 < length l) (e : judgedList l ≡ Co
           let q : refused (refusal noRoom (totalOf l n) 0) ≡ write l (length b) = sym (by-room ∙ rw (le-leb (totalOf l n) (length b) g, lt-leb (totalOf l n) maxSetBytes m)) in
           (ap made q, ap (λ (x : Reply (List ℕ)). bytesLeft x b) q)
 
-      -- the set at the front, and zeros behind it
+      -- the set at the front, and zeros after it
       pub answer-set : totalOf l n ≤ maxSetBytes → (b′ y : List ℕ) → b′ ≡ over 0 (linesLeft l (sumOf l n) 0) b
           → y ≡ replicate (length (midOf (totalOf l n) (length b′ - totalOf l n) b′)) 0
           → (Done (totalOf l n) ≡ writeCall l b .answer) × (putMid (totalOf l n) (length b′ - totalOf l n) b′ y ≡ writeCall l b .buffer)
@@ -256,7 +256,7 @@ unchecked-so l room r h e = rw (not-nil l h, check-refused l r e)
 
 -- and 8, 9, 11 to 16
 pub answer-refused : (l b : List ℕ) (r : Refusal) → 0 < length l → judgedList l ≡ Unchecked r → (Refused r ≡ writeCall l b .answer) × (b ≡ writeCall l b .buffer)
-unfolding judgedList doneUnless
+unfolding judgedList countUnless
 answer-refused l b r h e =
     let q : refused r ≡ write l (length b) = sym (go (checkFrom l 0 0 maxEntries) refl e) in
     (ap made q, ap (λ (x : Reply (List ℕ)). bytesLeft x b) q)
@@ -266,6 +266,6 @@ answer-refused l b r h e =
     judged n true x q g = let z : _≡_ {A = ℕ} 0 1 = cc in absurd (omega arith)
     judged n false x q g = let z : judgeEntries l n ≡ r = cc in answers-are l n h x .answer (length b) ∙ (rw q (ap refused z))
 
-    go : (x : Checked) → checkFrom l 0 0 maxEntries ≡ x → ruled x (λ n. judgeEntries l n) ≡ Unchecked r → write l (length b) ≡ refused r
+    go : (x : ListJudged) → checkFrom l 0 0 maxEntries ≡ x → ruled x (λ n. judgeEntries l n) ≡ Unchecked r → write l (length b) ≡ refused r
     go (Unchecked q) x g = let z : q ≡ r = cc in unchecked-so l (length b) q h x ∙ ap refused z
     go (Counted n) x g = judged n (eqb (judgeEntries l n .no) 0) x refl g

@@ -7,14 +7,14 @@ ghost use Rattle.meaning.specs.Digits.{digits};
 ghost use Rattle.meaning.specs.Lists.{sumDigits};
 ghost use Rattle.meaning.specs.Answers.{writeCall};
 ghost use Rattle.byte_put.specs.Places.{over};
-ghost use Rattle.write_judge.specs.declared.Checked.the-variants.{Done};
+ghost use Rattle.write_judge.specs.declared.ListJudged.the-variants.{Done};
 ghost use Rattle.write_judge.specs.Judging.{judgedList};
 ghost use Rattle.write.specs.Writing.{linesLeft};
 use entry_read::Head;
 use meaning::Made;
 use meaning::Refusal;
 use meaning::SetType;
-use write_judge::Checked;
+use write_judge::ListJudged;
 
 // ---- the lines
 
@@ -69,7 +69,7 @@ pub fn write(list: &[u8], out: &mut [u8]) -> Made
         return Made::Refused(Refusal::at(Refusal::EMPTY, 0));
     }
     match write_judge::judge_list(list) {
-        Checked::Refused(r) => Made::Refused(r),
-        Checked::Done(n) => write_entries(list, n, out),
+        ListJudged::Refused(r) => Made::Refused(r),
+        ListJudged::Done(n) => write_entries(list, n, out),
     }
 }

@@ -24,13 +24,13 @@ use Rattle.meaning.proofs.PieceLaws.{piece-back}
 use Rattle.byte_low.specs.Low.{firstLow}
 use Rattle.entry_read.specs.declared.Head.{Head}
 use Rattle.entry_read.specs.declared.Head.the-variants.{Whole, Cut}
-use Rattle.entry_read.specs.Head.{entryAt, behindHead, headsEnd}
+use Rattle.entry_read.specs.Head.{entryAt, afterHead, headsEnd}
 use Rattle.entry_read.proofs.HeadLaws.{headOf, entry-is, whole-back}
 use Rattle.write_judge.specs.declared.Item.{Item}
 use Rattle.write_judge.specs.declared.Item.the-variants.{Read}
-use Rattle.write_judge.specs.declared.Checked.{Checked}
-use Rattle.write_judge.specs.declared.Checked.the-variants.{Done, Refused}
-use Rattle.write_judge.specs.Judging.{byHead, contentOf, checkContent, checkEntry, afterEntry, checkFrom}
+use Rattle.write_judge.specs.declared.ListJudged.{ListJudged}
+use Rattle.write_judge.specs.declared.ListJudged.the-variants.{Done, Refused}
+use Rattle.write_judge.specs.Judging.{byHead, listContent, checkContent, checkEntry, afterEntry, checkFrom}
 
 -- ---- one entry, as the code takes it
 
@@ -94,8 +94,8 @@ checked-head l at {label} {m} e = go (entryAt l at) e
 pub checked-within : (l : List ℕ) (at : ℕ) {label m : ℕ} → checkEntry l at ≡ Read label m → at + (entryLead + m) ≤ length l
 checked-within l at e = whole-back l at (checked-head l at e) .within
 
--- the entries that a check counts, where it is done
-abbrev pub Counts : ℕ → Checked → Type 0
+-- the entries that a check counts, if it refuses nothing
+abbrev pub Counts : ℕ → ListJudged → Type 0
 Counts n (Done m) = n ≤ m
 Counts n (Refused r) = Unit
 
@@ -109,7 +109,7 @@ check-counts l zero at n = go (leb (length l) at)
     go false = tt
 check-counts l (suc k) at n = go (leb (length l) at) (checkEntry l at) (λ m. check-counts l k (at + (entryLead + m)) (n + 1))
   where
-    fewer : (x : Checked) → Counts (n + 1) x → Counts n x
+    fewer : (x : ListJudged) → Counts (n + 1) x → Counts n x
     fewer (Done m) h = omega arith
     fewer (Refused r) h = tt
 
@@ -120,11 +120,11 @@ check-counts l (suc k) at n = go (leb (length l) at) (checkEntry l at) (λ m. ch
     go false (Item.Refused r) h = tt
 
 -- a check that refuses
-abbrev pub Refuses : Checked → Type 0
+abbrev pub Refuses : ListJudged → Type 0
 Refuses (Done n) = ⊥
 Refuses (Refused r) = Unit
 
--- the check refuses where the heads do not lead to the end
+-- the check refuses if the heads do not lead to the end
 pub heads-refuse : (l : List ℕ) (k at n : ℕ) → headsEnd l at k ≡ false → Refuses (checkFrom l at n k)
 unfolding headsEnd checkFrom checkEntry checkContent
 heads-refuse l zero at n e = go (leb (length l) at) e
@@ -134,7 +134,7 @@ heads-refuse l zero at n e = go (leb (length l) at) e
     go false q = tt
 heads-refuse l (suc k) at n e = go (leb (length l) at) (entryAt l at) e (λ m. heads-refuse l k (at + (entryLead + m)) (n + 1))
   where
-    rest : ℕ → Checked
+    rest : ℕ → ListJudged
     rest m = checkFrom l (at + (entryLead + m)) (n + 1) k
 
     by : (label m : ℕ) (a b : Bool) (r q : Refusal) → Refuses (rest m) → Refuses (afterEntry (cond a (cond b (Read label m) (Item.Refused r)) (Item.Refused q)) rest)
@@ -142,7 +142,7 @@ heads-refuse l (suc k) at n e = go (leb (length l) at) (entryAt l at) e (λ m. h
     by label m true false r q h = tt
     by label m false b r q h = tt
 
-    go : (b : Bool) (h : Head) → cond b true (behindHead h (λ m. headsEnd l (at + (entryLead + m)) k)) ≡ false
+    go : (b : Bool) (h : Head) → cond b true (afterHead h (λ m. headsEnd l (at + (entryLead + m)) k)) ≡ false
         → ((m : ℕ) → headsEnd l (at + (entryLead + m)) k ≡ false → Refuses (rest m))
         → Refuses (cond b (Done n) (afterEntry (byHead h (Item.Refused (refusal badList at 0)) (λ label m. checkContent l at label m)) rest))
     go true h q ih = let z : _≡_ {A = ℕ} 0 1 = cc in absurd (omega arith)
@@ -156,7 +156,7 @@ abbrev judgedEntry : ℕ → List Fault → Item → Item
 judgedEntry at [] c = c
 judgedEntry at (x ∷ xs) c = Item.Refused (refusal (x .no) (at + behind entryLead (x .spot)) (x .label))
 
--- the first byte under 20h of a part of a content is the first fault of that part, which stands at offset a, behind i bytes of the content
+-- the first byte under 20h of a part of a content is the first fault of that part, which stands at offset a, after i bytes of the content
 low-is : (l : List ℕ) (k a at i : ℕ) (c : Item) → a ≡ at + (entryLead + i) → a + k ≤ length l
     → cond (leb (a + k) (firstLow l a k)) c (Item.Refused (refusal badByte (firstLow l a k) 0)) ≡ judgedEntry at (lowBytes 0 i (take k (drop a l))) c
 unfolding firstLow
@@ -176,7 +176,7 @@ low-is l (suc k) a at i c e h =
     go true ih = ih
     go false ih = rw (lt-leb ((a + 1) + k) a (omega arith), e)
 
--- The entry at an offset: its label and the length of its content where the bytes from there on have no fault, else the refusal of their first fault.
+-- The entry at an offset: its label and the length of its content if the bytes from there on have no fault, else the refusal of their first fault.
 check-is : (l : List ℕ) (at : ℕ) → checkEntry l at ≡ judgedEntry at (entryFaults (drop at l)) (Read (entryLabel (drop at l)) (twoBytesAt (drop at l) 0))
 unfolding checkEntry checkContent entryFaults
 check-is l at = rw (entry-is l at) (go (entryWhole (drop at l)) refl)
@@ -207,7 +207,7 @@ digits-high (b ∷ c) e =
     (omega (arith, leb-true digitZero b (and-left (leb digitZero b) _ d)), digits-high c (and-right (digit b) (allDigits c) e))
 
 -- an entry whose content is digits keeps 6
-pub digits-kept : (l : List ℕ) (at : ℕ) {label m : ℕ} → entryAt l at ≡ Whole label m → label ≤ maxLabel → allDigits (contentOf l at m) ≡ true → checkEntry l at ≡ Read label m
+pub digits-kept : (l : List ℕ) (at : ℕ) {label m : ℕ} → entryAt l at ≡ Whole label m → label ≤ maxLabel → allDigits (listContent l at m) ≡ true → checkEntry l at ≡ Read label m
 unfolding entryFaults
 digits-kept l at {label} {m} e h q =
     let w = whole-back l at e in
@@ -216,8 +216,8 @@ digits-kept l at {label} {m} e h q =
     let n : twoBytesAt (drop at l) 0 ≡ m = omega (arith, w .width-so) in
     check-is l at ∙ (rw (w .whole, k, c) (ap₂ Read (sym (w .label-so)) n))
 
--- what the check tells of the pieces, with n entries before them
-abbrev pub summary : ℕ → Reply Parsed → Checked
+-- what the check makes of the pieces, with n entries before them
+abbrev pub summary : ℕ → Reply Parsed → ListJudged
 summary n (refused r) = Refused r
 summary n (done d) = Done (n + length (d .fields))
 
@@ -225,8 +225,8 @@ summary-before : (n : ℕ) (f : Field) (r : Reply Parsed) → summary (n + 1) r 
 summary-before n f (refused r) = refl
 summary-before n f (done d) = let q : (n + 1) + length (d .fields) ≡ n + suc (length (d .fields)) = omega arith in rw q
 
--- one entry, and then what is known of those behind it
-entry-then : (l : List ℕ) (at n : ℕ) (k : ℕ → List ℕ → Reply Parsed) (f : ℕ → Checked)
+-- one entry, and then what is known of those after it
+entry-then : (l : List ℕ) (at n : ℕ) (k : ℕ → List ℕ → Reply Parsed) (f : ℕ → ListJudged)
     → ((m : ℕ) → f m ≡ summary (n + 1) (k (at + (entryLead + m)) (drop (at + (entryLead + m)) l)))
     → afterEntry (checkEntry l at) f ≡ summary n (pieceThen entryForm (entryFaults (drop at l)) at (drop at l) k)
 entry-then l at n k f h = rw (check-is l at) (go (entryFaults (drop at l)))
@@ -245,7 +245,7 @@ over-is l at = go (leb (length l) at) refl
     go true e = rw (drop-of-length-le l (leb-true (length l) at e))
     go false e = rw (byte-then l at (leb-false (length l) at e))
 
-ends-or : (b : Bool) (n : ℕ) (t : List ℕ) (x : Checked) (y : Reply Parsed) → x ≡ summary n y → cond b (Done n) x ≡ summary n (cond b (done (parsed [] t)) y)
+ends-or : (b : Bool) (n : ℕ) (t : List ℕ) (x : ListJudged) (y : Reply Parsed) → x ≡ summary n y → cond b (Done n) x ≡ summary n (cond b (done (parsed [] t)) y)
 ends-or true n t x y e = rw (add-zero n)
 ends-or false n t x y e = e
 
@@ -262,7 +262,7 @@ from-is l (suc k) at n =
 abbrev pub Reads : List ℕ → ℕ → List Field → Type 0
 Reads l at [] = Unit
 Reads l at (f ∷ fs) =
-    (entryAt l at ≡ Whole (f .label) (length (f .content))) × (contentOf l at (length (f .content)) ≡ f .content) × Reads l (at + (entryLead + length (f .content))) fs
+    (entryAt l at ≡ Whole (f .label) (length (f .content))) × (listContent l at (length (f .content)) ≡ f .content) × Reads l (at + (entryLead + length (f .content))) fs
 
 -- the pieces from an offset on
 record Pieces (l : List ℕ) (k at : ℕ) (es : List Field) : Type 0 where
@@ -287,7 +287,7 @@ module _ (l : List ℕ) where
       let n : length (entryContent (drop at l)) ≡ twoBytesAt (drop at l) 0 = b .content-length in
       let r = ih (at + (entryLead + length (entryContent (drop at l)))) (omega (arith, n)) (omega (arith, n, b .within)) in
       record {
-        reads = (h ∙ ap (Whole (entryLabel (drop at l))) (sym n), ap (contentOf l at) n ∙ b .content-so, r .reads);
+        reads = (h ∙ ap (Whole (entryLabel (drop at l))) (sym n), ap (listContent l at) n ∙ b .content-so, r .reads);
         whole = omega (arith, r .whole);
         few = omega (arith, r .few);
       }

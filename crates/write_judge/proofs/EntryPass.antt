@@ -20,59 +20,59 @@ use Rattle.meaning.specs.Refusals.{start, refusal, noStart, unknownSet}
 use Rattle.meaning.specs.Entries.{entryLead, listSize}
 use Rattle.meaning.specs.Kinds.{isAlnum, ofKind}
 use Rattle.meaning.specs.FieldTable.{fieldTable, fieldRowIn, fieldRow, hasLength, fitsRow, fitsLabel}
-use Rattle.meaning.specs.Tables.{rows6300, rows6301, rows6302, rows6310, rows6311, table, rowLabel}
+use Rattle.meaning.specs.Tables.{rowLabel}
 use Rattle.meaning.specs.Groups as G
 use Rattle.meaning.specs.Rules.{profile, typeDigits, typeNamed, labelIs, isKnown, typeKnown, startFaults, ruleFaults}
 use Rattle.meaning.specs.Lists.{inList}
 use Rattle.meaning.specs.Answers.{noRefusal, orElse}
 use Rattle.meaning.proofs.Bools.{and-left, and-right}
-use Rattle.table_find.specs.LookUp.{Found, findFrom, numberOf, numberFrom}
 use Rattle.entry_read.specs.declared.Head.the-variants.{Whole}
 use Rattle.entry_read.specs.Head.{entryAt}
-use Rattle.judge_missing.specs.Lacks.{State, noFlags, begin, lackUnder, groupLack, openLack, firstLack, stateOf}
+use Rattle.judge_missing.specs.Lacks.{Flagged, noFlags, noneSeen, lackUnder, groupLack, openLack, firstLack, flaggedOf}
 use Rattle.meaning.proofs.FirstLaws.{firstOf, Real, real-append}
-use Rattle.judge_missing.proofs.FlagLaws.{Same, begin-same}
+use Rattle.judge_missing.proofs.FlagLaws.{Agrees, none-agrees}
 use Rattle.judge_line.specs.declared.Step.{Step}
-use Rattle.judge_line.specs.Steps.{rowOf, againNo, placeNo, labelNo, versionNo, contentNo, lineNo, nextState, staysIn, Stepped}
-use Rattle.judge_line.proofs.SameLaws.{whole, pass-line, pass-finish}
-use Rattle.judge_line.proofs.FoundLaws.{middle, real-middle, ofType, whole-found}
-use Rattle.judge_start.proofs.Laws.{starts, real-starts}
-use Rattle.write_judge.specs.Judging.{contentOf, stepThen, entriesPass, row8000, started, byKnown, firstEntry, judgeEntries}
+use Rattle.judge_line.specs.Steps.{rowOf, repeatedNo, placeNo, labelNo, versionNo, contentNo, lineNo, nextFlagged, staysIn, Stepped}
+use Rattle.meaning.proofs.RealLaws.{startFaultsBy, real-starts, faultsAfterStart, real-after-start, ofType}
+use Rattle.judge_line.proofs.StartRows.{row-8000, row-8100}
+use Rattle.judge_line.proofs.StepMeaning.{passFinds, pass-line, pass-finish, pass-finds}
+use Rattle.write_judge.specs.Judging.{listContent, stepThen, entriesPass, row8000, started, byKnown, firstEntry, judgeEntries}
 use Rattle.write_judge.proofs.CheckLaws.{Reads}
 
 -- ---- one line, as the code takes it
 
-module _ (settype : SetType) (st : State) (lack : Refusal) (at l : ℕ) (c : List ℕ) (r : Step) (members top : List Bool)
-    (e : Stepped (rowOf settype l) settype st lack at l c r members top) (F : State → Refusal → Refusal) where
+module _ (settype : SetType) (st : Flagged) (lack : Refusal) (at l : ℕ) (c : List ℕ) (r : Step) (members top : List Bool)
+    (e : Stepped (rowOf settype l) settype st lack at l c r members top) (F : Flagged → Refusal → Refusal) where
   pub step-bad : (r .no ≡ 0 → ⊥) → stepThen settype st lack at l c F ≡ refusal (r .no) at l
   step-bad g = rw (← e .number, ne-eqb (r .no) 0 g)
 
-  pub step-on : r .no ≡ 0 → stepThen settype st lack at l c F ≡ F (stateOf (r .group) members top) (r .group .lack)
-  step-on g = rw (← e .number, g) (ap₂ F (sym (e .state g)) (sym (e .lack-so g)))
+  pub step-on : r .no ≡ 0 → stepThen settype st lack at l c F ≡ F (flaggedOf (r .group) members top) (r .group .lack)
+  step-on g = rw (← e .number, g) (ap₂ F (sym (e .flagged-so g)) (sym (e .lack-so g)))
 
 -- the content as the code cuts it out
-pub step-entry : (l : List ℕ) (at m : ℕ) {o : Found} {settype : SetType} {st : State} {lack : Refusal} {label : ℕ} {r : Step} {members top : List Bool}
-    → Stepped o settype st lack at label (take (at + entryLead + m - (at + entryLead)) (drop (at + entryLead) l)) r members top → Stepped o settype st lack at label (contentOf l at m) r members top
-step-entry l at m {o} {settype} {st} {lack} {label} {r} {members} {top} e =
+pub step-entry : (l : List ℕ) (at m : ℕ) {settype : SetType} {st : Flagged} {lack : Refusal} {label : ℕ} {r : Step} {members top : List Bool}
+    → Stepped (rowOf settype label) settype st lack at label (take (at + entryLead + m - (at + entryLead)) (drop (at + entryLead) l)) r members top
+    → Stepped (rowOf settype label) settype st lack at label (listContent l at m) r members top
+step-entry l at m {settype} {st} {lack} {label} {r} {members} {top} e =
     let w : at + entryLead + m - (at + entryLead) ≡ m = omega arith in
-    subst (λ (n : ℕ). Stepped o settype st lack at label (take n (drop (at + entryLead) l)) r members top) w e
+    subst (λ (n : ℕ). Stepped (rowOf settype label) settype st lack at label (take n (drop (at + entryLead) l)) r members top) w e
 
--- ---- an entry behind the first: it is refused, or the pass goes on
+-- ---- an entry after the first: it is refused, or the pass goes on
 
-module _ (l : List ℕ) (settype : SetType) (at : ℕ) (st : State) (lack : Refusal) (label m : ℕ) (q : entryAt l at ≡ Whole label m) (r : Step) (members top : List Bool)
-    (e : Stepped (rowOf settype label) settype st lack at label (contentOf l at m) r members top) where
-  abbrev rest : ℕ → State → Refusal → Refusal
+module _ (l : List ℕ) (settype : SetType) (at : ℕ) (st : Flagged) (lack : Refusal) (label m : ℕ) (q : entryAt l at ≡ Whole label m) (r : Step) (members top : List Bool)
+    (e : Stepped (rowOf settype label) settype st lack at label (listContent l at m) r members top) where
+  abbrev rest : ℕ → Flagged → Refusal → Refusal
   rest n st′ lack′ = entriesPass l settype (at + (entryLead + m)) st′ lack′ n
 
-  here : (n : ℕ) → entriesPass l settype at st lack (suc n) ≡ stepThen settype st lack at label (contentOf l at m) (rest n)
+  here : (n : ℕ) → entriesPass l settype at st lack (suc n) ≡ stepThen settype st lack at label (listContent l at m) (rest n)
   unfolding entriesPass
   here n = rw q
 
   pub pass-bad : (r .no ≡ 0 → ⊥) → (n : ℕ) → entriesPass l settype at st lack (suc n) ≡ refusal (r .no) at label
-  pass-bad g n = here n ∙ step-bad settype st lack at label (contentOf l at m) r members top e (rest n) g
+  pass-bad g n = here n ∙ step-bad settype st lack at label (listContent l at m) r members top e (rest n) g
 
-  pub pass-on : r .no ≡ 0 → (n : ℕ) → entriesPass l settype at st lack (suc n) ≡ entriesPass l settype (at + (entryLead + m)) (stateOf (r .group) members top) (r .group .lack) n
-  pass-on g n = here n ∙ step-on settype st lack at label (contentOf l at m) r members top e (rest n) g
+  pub pass-on : r .no ≡ 0 → (n : ℕ) → entriesPass l settype at st lack (suc n) ≡ entriesPass l settype (at + (entryLead + m)) (flaggedOf (r .group) members top) (r .group .lack) n
+  pass-on g n = here n ∙ step-on settype st lack at label (listContent l at m) r members top e (rest n) g
 
 -- ---- line 1 and line 2
 
@@ -93,25 +93,21 @@ type-fits : (c : List ℕ) → length c ≡ typeDigits → fitsLabel 8000 c ≡ 
 unfolding fitsLabel fitsRow fieldRow fieldRowIn fieldTable rowLabel hasLength ofKind isAlnum
 type-fits c e = rw e
 
--- behind line 1
-abbrev begun : State
+-- after line 1
+abbrev begun : Flagged
 begun = record { header = 8000; place = 0; members = noFlags; top = set noFlags row8000 true }
 
-line-1 : (settype : SetType) (c : List ℕ) (F : State → Refusal → Refusal) → fitsLabel 8000 c ≡ true → stepThen settype begin noRefusal 0 8000 c F ≡ F begun noRefusal
-unfolding table rows6300 rows6301 rows6302 rows6310 rows6311 findFrom numberOf numberFrom fieldTable rowLabel lineNo labelNo placeNo againNo contentNo versionNo nextState staysIn orElse openLack firstLack
-line-1 T6300 c F e = rw e
-line-1 T6301 c F e = rw e
-line-1 T6302 c F e = rw e
-line-1 T6310 c F e = rw e
-line-1 T6311 c F e = rw e
+line-1 : (settype : SetType) (c : List ℕ) (F : Flagged → Refusal → Refusal) → fitsLabel 8000 c ≡ true → stepThen settype noneSeen noRefusal 0 8000 c F ≡ F begun noRefusal
+unfolding lineNo labelNo placeNo repeatedNo contentNo versionNo nextFlagged staysIn orElse openLack firstLack
+line-1 settype c F e = rw (row-8000 settype, e)
 
-line-2 : (settype : SetType) (c : List ℕ) (F : State → Refusal → Refusal) → fitsLabel 8100 c ≡ true → stepThen settype begun noRefusal 0 8100 c F ≡ F started noRefusal
-unfolding table rows6300 rows6301 rows6302 rows6310 rows6311 findFrom numberOf numberFrom fieldTable rowLabel lineNo labelNo placeNo againNo contentNo versionNo nextState staysIn orElse openLack firstLack groupLack lackUnder
-line-2 T6300 c F e = rw e
-line-2 T6301 c F e = rw e
-line-2 T6302 c F e = rw e
-line-2 T6310 c F e = rw e
-line-2 T6311 c F e = rw e
+line-2 : (settype : SetType) (c : List ℕ) (F : Flagged → Refusal → Refusal) → fitsLabel 8100 c ≡ true → stepThen settype begun noRefusal 0 8100 c F ≡ F started noRefusal
+unfolding rowLabel lineNo labelNo placeNo repeatedNo contentNo versionNo nextFlagged staysIn orElse openLack firstLack groupLack lackUnder
+line-2 T6300 c F e = rw (row-8100 T6300, e)
+line-2 T6301 c F e = rw (row-8100 T6301, e)
+line-2 T6302 c F e = rw (row-8100 T6302, e)
+line-2 T6310 c F e = rw (row-8100 T6310, e)
+line-2 T6311 c F e = rw (row-8100 T6311, e)
 
 -- ---- 8 and 9
 
@@ -121,17 +117,17 @@ module _ (l : List ℕ) (label m n : ℕ) where
   first-other h = rw (ne-eqb label 8000 h)
 
   module _ (h : label ≡ 8000) where
-    pub first-unknown : typeNamed (contentOf l 0 m) ≡ Nothing → firstEntry l label m n ≡ refusal unknownSet 0 0
+    pub first-unknown : typeNamed (listContent l 0 m) ≡ Nothing → firstEntry l label m n ≡ refusal unknownSet 0 0
     unfolding firstEntry
     first-unknown e = rw (eq-eqb label 8000 h, e)
 
-    pub first-known : {settype : SetType} → typeNamed (contentOf l 0 m) ≡ Of settype → firstEntry l label m n ≡ entriesPass l settype (entryLead + m) started noRefusal (n - 1)
+    pub first-known : {settype : SetType} → typeNamed (listContent l 0 m) ≡ Of settype → firstEntry l label m n ≡ entriesPass l settype (entryLead + m) started noRefusal (n - 1)
     unfolding firstEntry
     first-known e = rw (eq-eqb label 8000 h, e)
 
 -- ---- what the pass finds
 
--- the entry behind this one
+-- the entry after this one
 list-next : (es : List Field) (j : ℕ) (f : Field) (fs : List Field) → drop j es ≡ f ∷ fs
     → (listSize (take (suc j) es) ≡ listSize (take j es) + (entryLead + length (f .content))) × (drop (suc j) es ≡ fs)
 list-next [] zero f fs e = absurd (cons≢nil (sym e))
@@ -146,8 +142,8 @@ list-next (x ∷ es) (suc j) f fs e =
 
 module _ (l : List ℕ) (settype : SetType) (es : List Field) where
   -- the entries fs, with j entries before them and so, with line 2, j + 1 lines: by induction on fs
-  later-found : (fs : List Field) (at j : ℕ) (st : State) (ms : G.State) (lack : Refusal) → Reads l at fs → at ≡ inList es (suc j) start → drop j es ≡ fs
-      → Same (inList es) st ms → entriesPass l settype at st lack (length fs) ≡ whole settype (inList es) ms (suc j) fs lack
+  later-found : (fs : List Field) (at j : ℕ) (st : Flagged) (ms : G.State) (lack : Refusal) → Reads l at fs → at ≡ inList es (suc j) start → drop j es ≡ fs
+      → Agrees (inList es) st ms → entriesPass l settype at st lack (length fs) ≡ passFinds settype (inList es) ms (suc j) fs lack
   unfolding entriesPass
   later-found [] at j st ms lack rd e d sm = pass-finish settype (inList es) (suc j) st ms lack refl sm
   later-found (f ∷ fs) at j st ms lack rd e d sm =
@@ -156,27 +152,27 @@ module _ (l : List ℕ) (settype : SetType) (es : List Field) where
       rw (rd .0, rd .1) (pass-line settype (inList es) f fs at (suc j) st ms lack sm e
       (λ st′ lack′. entriesPass l settype (at + (entryLead + length (f .content))) st′ lack′ (length fs))
       (λ st′ ms′ lack′ sm′. later-found fs (at + (entryLead + length (f .content))) (suc j) st′ ms′ lack′ (rd .2) p (nx .1) sm′
-      ∙ ap (λ (k : ℕ). whole settype (inList es) ms′ k fs lack′) (sym (add-one (suc j)))))
+      ∙ ap (λ (k : ℕ). passFinds settype (inList es) ms′ k fs lack′) (sym (add-one (suc j)))))
 
 -- all lines: line 1, line 2, and the others
 set-found : (l : List ℕ) (settype : SetType) (c : List ℕ) (fs : List Field) (sum : List ℕ) → Reads l 0 (field 8000 c ∷ fs) → fitsLabel 8000 c ≡ true → fitsLabel 8100 sum ≡ true
     → entriesPass l settype (entryLead + length c) started noRefusal (length fs)
-    ≡ firstOf (inList (field 8000 c ∷ fs)) (middle (ofType settype) (field 8000 c ∷ field 8100 sum ∷ fs))
+    ≡ firstOf (inList (field 8000 c ∷ fs)) (faultsAfterStart (ofType settype) (field 8000 c ∷ field 8100 sum ∷ fs))
 set-found l settype c fs sum rd g₁ g₂ =
     let es : List Field = field 8000 c ∷ fs in
     let p : entryLead + length c ≡ inList es 2 start = omega arith in
     let rd′ : Reads l (entryLead + length c) fs = subst (λ (a : ℕ). Reads l a fs) (omega arith) (rd .2) in
-    let others : State → Refusal → Refusal = λ st lack. entriesPass l settype (entryLead + length c) st lack (length fs) in
-    let both : stepThen settype begin noRefusal 0 8000 c (λ st lack. stepThen settype st lack 0 8100 sum others) ≡ others started noRefusal =
+    let others : Flagged → Refusal → Refusal = λ st lack. entriesPass l settype (entryLead + length c) st lack (length fs) in
+    let both : stepThen settype noneSeen noRefusal 0 8000 c (λ st lack. stepThen settype st lack 0 8100 sum others) ≡ others started noRefusal =
     line-1 settype c (λ st lack. stepThen settype st lack 0 8100 sum others) g₁ ∙ line-2 settype sum others g₂ in
     sym both ∙ (
-    pass-line settype (inList es) (field 8000 c) (field 8100 sum ∷ fs) 0 0 begin G.first noRefusal (begin-same (inList es) refl) refl
+    pass-line settype (inList es) (field 8000 c) (field 8100 sum ∷ fs) 0 0 noneSeen G.first noRefusal (none-agrees (inList es) refl) refl
     (λ st lack. stepThen settype st lack 0 8100 sum others)
     (λ st ms lack sm. pass-line settype (inList es) (field 8100 sum) fs 0 (0 + 1) st ms lack sm refl others
     (λ st′ ms′ lack′ sm′. later-found l settype es fs (entryLead + length c) 1 st′ ms′ lack′ rd′ p refl sm′))
-    ∙ whole-found settype (inList es) (field 8000 c ∷ field 8100 sum ∷ fs))
+    ∙ pass-finds settype (inList es) (field 8000 c ∷ field 8100 sum ∷ fs))
 
--- "then 8, 9, and 11 to 16": the first fault of the entries, with the sum put in behind the first
+-- "then 8, 9, and 11 to 16": the first fault of the entries, with the sum put in after the first
 pub entries-found : (l : List ℕ) (f : Field) (fs : List Field) (sum : List ℕ) → Reads l 0 (f ∷ fs) → fitsLabel 8100 sum ≡ true
     → judgeEntries l (length (f ∷ fs)) ≡ firstOf (inList (f ∷ fs)) (ruleFaults (f ∷ field 8100 sum ∷ fs))
 unfolding judgeEntries firstEntry ruleFaults startFaults profile
@@ -187,17 +183,17 @@ entries-found l f fs sum rd g = rw (rd .0, rd .1) (go (eqb (f .label) 8000) refl
 
     go : (a : Bool) → eqb (f .label) 8000 ≡ a → (k : Known) → typeNamed (f .content) ≡ k
         → cond a (byKnown k (refusal unknownSet 0 0) (λ settype. entriesPass l settype (entryLead + length (f .content)) started noRefusal (suc (length fs) - 1))) (refusal noStart 0 0)
-        ≡ firstOf (inList (f ∷ fs)) (starts a (isKnown k) true ++ middle (record { setType = k }) all)
+        ≡ firstOf (inList (f ∷ fs)) (startFaultsBy a (isKnown k) true ++ faultsAfterStart (record { setType = k }) all)
     go false e k q = refl
     go true e Nothing q = refl
     go true e (Of settype) q =
         let x : field 8000 (f .content) ≡ f = λ i. record { label = sym (eqb-true (f .label) 8000 e) i; content = f .content } in
         let n : suc (length fs) - 1 ≡ length fs = omega arith in
         rw n (subst (λ (y : Field). entriesPass l settype (entryLead + length (y .content)) started noRefusal (length fs)
-        ≡ firstOf (inList (y ∷ fs)) (middle (ofType settype) (y ∷ field 8100 sum ∷ fs))) x
+        ≡ firstOf (inList (y ∷ fs)) (faultsAfterStart (ofType settype) (y ∷ field 8100 sum ∷ fs))) x
         (set-found l settype (f .content) fs sum (subst (λ (y : Field). Reads l 0 (y ∷ fs)) (sym x) rd) (type-fits (f .content) (type-digits (f .content) q .four)) g))
 
 -- its number says whether there is one
 pub rules-real : (fs : List Field) → Real (ruleFaults fs)
 unfolding ruleFaults startFaults
-rules-real fs = real-append (startFaults fs) (middle (profile fs) fs) (real-starts (labelIs fs 0 8000) (typeKnown fs) (labelIs fs 1 8100)) (real-middle (profile fs) fs)
+rules-real fs = real-append (startFaults fs) (faultsAfterStart (profile fs) fs) (real-starts (labelIs fs 0 8000) (typeKnown fs) (labelIs fs 1 8100)) (real-after-start (profile fs) fs)

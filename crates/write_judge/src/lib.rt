@@ -10,8 +10,8 @@ ghost use Rattle.meaning.specs.Entries.{entryLead};
 ghost use Rattle.meaning.specs.Answers.{noRefusal, orElse};
 ghost use Rattle.entry_read.specs.declared.Head.the-variants.{Whole};
 ghost use Rattle.entry_read.specs.Head.{entryAt, headsEnd};
-ghost use Rattle.judge_missing.specs.Lacks.{finish, stateOf};
-ghost use Rattle.write_judge.specs.Judging.{contentOf, checkEntry, checkFrom, Turned, started, firstEntry, doneUnless, ruled, entriesLeft, judgedList};
+ghost use Rattle.judge_missing.specs.Lacks.{finish, flaggedOf};
+ghost use Rattle.write_judge.specs.Judging.{listContent, checkEntry, checkFrom, Turned, started, firstEntry, countUnless, ruled, judgedFrom, judgedList};
 use entry_read::Head;
 use judge_missing::Group;
 use meaning::Known;
@@ -37,8 +37,8 @@ pub enum Item {
     Refused(Refusal),
 }
 
-// What a list is found to be: so many entries, or the first refusal.
-pub enum Checked {
+// What judging a list finds: how many entries it has, or its first refusal.
+pub enum ListJudged {
     Done(usize),
     Refused(Refusal),
 }
@@ -66,13 +66,13 @@ fn check_entry(list: &[u8], at: usize) -> Item
 
 // ---- 8, 9, 11 to 16
 
-// What the entries so far leave behind: a refusal by 8, 9 or 11 to 15 that waits until all entries are checked (number 0: none), and what is open.
+// What is known after the entries so far: a refusal by 8, 9 or 11 to 15 that waits until all entries are checked (number 0: none), and what is open.
 pub struct Turn {
     pub late: Refusal,
     pub group: Group,
 }
 
-// 11 to 15 of the entry at an offset, whose content has so many bytes; nothing is asked of it where a refusal waits.
+// 11 to 15 of the entry at an offset, whose content has this many bytes; it is not judged if a refusal waits.
 fn judge_entry(
     list: &[u8],
     settype: SetType,
@@ -84,7 +84,7 @@ fn judge_entry(
     top: &mut [bool; judge_missing::ROWS],
 ) -> Turn
     requires { ⌜ at + (entryLead + bytes) ≤ length (now list) ⌝ }
-    ensures { λ r. ⌜ Turned settype at label (contentOf (now (list .entry)) at bytes) turn (now (members .entry)) (now (top .entry)) r (now (members .exit)) (now (top .exit)) ⌝ }
+    ensures { λ r. ⌜ Turned settype at label (listContent (now (list .entry)) at bytes) turn (now (members .entry)) (now (top .entry)) r (now (members .exit)) (now (top .exit)) ⌝ }
 {
     let late = turn.late;
     if late.no != 0 {
@@ -104,29 +104,29 @@ fn judge_entry(
     Turn { late, group }
 }
 
-// 16 behind the last of n entries, where no refusal waits.
+// 16 after the last of n entries, if no refusal waits.
 fn finished(
     settype: SetType,
     turn: Turn,
     members: &[bool; judge_missing::ROWS],
     top: &[bool; judge_missing::ROWS],
     n: usize,
-) -> Checked
-    ensures { λ r. ⌜ r ≡ doneUnless (orElse (turn .late) (finish settype (stateOf (turn .group) (now (members .entry)) (now (top .entry))) (turn .group .lack))) n ⌝ }
+) -> ListJudged
+    ensures { λ r. ⌜ r ≡ countUnless (orElse (turn .late) (finish settype (flaggedOf (turn .group) (now (members .entry)) (now (top .entry))) (turn .group .lack))) n ⌝ }
 {
     let late = turn.late;
     if late.no != 0 {
-        return Checked::Refused(late);
+        return ListJudged::Refused(late);
     }
     let group = turn.group;
     let lack = judge_missing::finish_at(settype, group, members, top);
     if lack.no != 0 {
-        return Checked::Refused(lack);
+        return ListJudged::Refused(lack);
     }
-    Checked::Done(n)
+    ListJudged::Done(n)
 }
 
-// The entries from an offset on, which have so many before them, each read once: 7, 21, 6 and 11 to 15 of each, then 16. Line 1 and line 2 ("the writer adds it") stand
+// The entries from an offset on, with this many before them, each read once: 7, 21, 6 and 11 to 15 of each, then 16. Line 1 and line 2 ("the writer adds it") stand
 // before them, and are never refused here; `late` is a refusal that waits already.
 fn pass_entries(
     list: &[u8],
@@ -134,9 +134,9 @@ fn pass_entries(
     late: Refusal,
     start: usize,
     before: usize,
-) -> Checked
+) -> ListJudged
     requires { ⌜ (start ≤ length (now list)) × (before ≤ maxEntries) ⌝ }
-    ensures { λ r. ⌜ r ≡ entriesLeft (now (list .entry)) settype late started noRefusal start before ⌝ }
+    ensures { λ r. ⌜ r ≡ judgedFrom (now (list .entry)) settype late started noRefusal start before ⌝ }
 {
     let mut members = [false; judge_missing::ROWS];
     let mut top = [false; judge_missing::ROWS];
@@ -153,11 +153,11 @@ fn pass_entries(
     while at < list.len() {
         // 7, TooManyLines
         if ENTRIES <= n {
-            return Checked::Refused(Refusal::at(Refusal::TOO_MANY_LINES, at));
+            return ListJudged::Refused(Refusal::at(Refusal::TOO_MANY_LINES, at));
         }
         match check_entry(list, at) {
             Item::Refused(r) => {
-                return Checked::Refused(r);
+                return ListJudged::Refused(r);
             }
             Item::Read { label, length } => {
                 turn = judge_entry(
@@ -178,15 +178,15 @@ fn pass_entries(
     finished(settype, turn, &members, &top, n)
 }
 
-// 7, 21, 6 of each entry, and then this refusal, by 8 or 9. Any set type will do, since nothing is judged where a refusal waits.
-fn check_then(list: &[u8], late: Refusal) -> Checked
-    ensures { λ r. ⌜ r ≡ entriesLeft (now (list .entry)) T6300 late started noRefusal 0 0 ⌝ }
+// 7, 21, 6 of each entry; if none of them refuses, this refusal. No entry is judged by 11 to 16 here, so the set type makes no difference: 6300 stands for any.
+fn check_then(list: &[u8], late: Refusal) -> ListJudged
+    ensures { λ r. ⌜ r ≡ judgedFrom (now (list .entry)) T6300 late started noRefusal 0 0 ⌝ }
 {
     pass_entries(list, SetType::T6300, late, 0, 0)
 }
 
-// 7, 21, 6, and 8 to 16, where the first entry is whole.
-fn first_entry(list: &[u8], label: usize, bytes: usize) -> Checked
+// 7, 21, 6, and 8 to 16, if the first entry is whole.
+fn first_entry(list: &[u8], label: usize, bytes: usize) -> ListJudged
     requires { ⌜ entryAt (now list) 0 ≡ Whole label bytes ⌝ }
     ensures { λ r. ⌜ r ≡ ruled (checkFrom (now (list .entry)) 0 0 maxEntries) (λ n. firstEntry (now (list .entry)) label bytes n) ⌝ }
 {
@@ -215,15 +215,15 @@ fn breaks_off(list: &[u8]) -> bool
     true
 }
 
-// "It checks entries in order: more than 511 (7), 21, 6; then 8, 9, and 11 to 16". No rule is asked of a list that is known to be refused before them.
-pub fn judge_list(list: &[u8]) -> Checked
+// "It checks entries in order: more than 511 (7), 21, 6; then 8, 9, and 11 to 16". A long list that 7, 21 or 6 is known to refuse is not judged by the rules.
+pub fn judge_list(list: &[u8]) -> ListJudged
     ensures { λ r. ⌜ r ≡ judgedList (now (list .entry)) ⌝ }
 {
     if breaks_off(list) {
         return check_then(list, Refusal::at(Refusal::BAD_LIST, 0));
     }
     match entry_read::entry_at(list, 0) {
-        Head::Cut => Checked::Refused(Refusal::at(Refusal::BAD_LIST, 0)),
+        Head::Cut => ListJudged::Refused(Refusal::at(Refusal::BAD_LIST, 0)),
         Head::Whole { label, length } => first_entry(list, label, length),
     }
 }

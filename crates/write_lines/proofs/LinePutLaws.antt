@@ -1,4 +1,4 @@
--- The parts of a line put one behind the other are the line, and the lines of an entry: what each `return` has to show.
+-- The parts of a line put one after the other are the line, and the lines of an entry: what each `return` has to show.
 use mathlib.Core.Path.{_≡_, refl, sym, ap, ap₂, _∙_}
 use mathlib.Core.Bool.{Bool, true, false}
 use mathlib.Core.List.{List, [], _∷_, _++_, append-assoc, append-nil}
@@ -18,7 +18,7 @@ use Rattle.write_lines.specs.EntryLines.{entryLines}
 
 -- ---- one line
 
--- length, label, content and end, each put behind what stands
+-- length, label, content and end, each put after what stands
 pub line-put : (b b₁ b₂ b₃ b₄ c : List ℕ) (l to : ℕ) → to + (length c + (lineLead + lineEnd)) ≤ length b
     → b₁ ≡ over to (digits 3 (length c + 9)) b
     → b₂ ≡ over (to + 3) (digits 4 l) b₁

@@ -1,5 +1,5 @@
-// The lines of one entry of a list, put into a lent buffer: its own, and behind the first that of 8100.
-// Assumes of each call that what it puts lies within the buffer: only another crate here calls it, and proves that. The contract tells every byte of the buffer afterwards.
+// The lines of one entry of a list, put into a lent buffer: its own, and after the first that of 8100.
+// Assumes of each call that what it puts lies within the buffer: only another crate here calls it, and proves that. The contract says what every byte of the buffer is afterwards.
 ghost use mathlib.Core.Path.{_≡_};
 ghost use mathlib.Core.List.{[], _∷_};
 ghost use Prim.Native.Nat.{_+_, _≤_};
@@ -55,7 +55,7 @@ fn put_sum(total: usize, out: &mut [u8], to: usize)
     put_end(out, from + meaning::SUM_DIGITS);
 }
 
-// The lines of the entry at `from` in the list, at an offset: its own, and behind the first that of 8100. The offset behind them.
+// The lines of the entry at `from` in the list, at an offset: its own, and after the first that of 8100. The offset after them.
 pub fn put_lines(
     from: usize,
     label: usize,

@@ -1,4 +1,4 @@
--- The loop of `all_digits`: the bytes left are digits exactly where all are.
+-- The loop of `all_digits`: the bytes left are digits exactly if all are.
 use mathlib.Core.Path.{_≡_, refl, sym, _∙_}
 use Prim.Native.Nat.{_-_}
 use native.Mathlib.Omega.{arith}
@@ -32,13 +32,19 @@ loop-less c = search needs
 
 loop-again : tie.Need-loop-again Inv-loop μ-loop
 loop-again c =
-    let l = c .before .before .before .before .loop in
-    sym (digits-more _ (l .i) (omega arith) (sym (c .before .is-digit .ensures) ∙ c .if1 .taken)) ∙ l .inv
+    let at-is-digit = c .before in
+    let at-loop-test = at-is-digit .before .before in
+    let at-loop = at-loop-test .before in
+    let l = at-loop .loop in
+    sym (digits-more _ (l .i) (omega arith) (sym (at-is-digit .is-digit .ensures) ∙ c .if1 .taken)) ∙ l .inv
 
 returns : tie.Need-returns Inv-loop μ-loop
 returns c =
-    let l = c .before .before .before .before .loop in
-    sym (digits-stop _ (l .i) (omega arith) (sym (c .before .is-digit .ensures) ∙ c .if1 .left)) ∙ l .inv
+    let at-is-digit = c .before in
+    let at-loop-test = at-is-digit .before .before in
+    let at-loop = at-loop-test .before in
+    let l = at-loop .loop in
+    sym (digits-stop _ (l .i) (omega arith) (sym (at-is-digit .is-digit .ensures) ∙ c .if1 .left)) ∙ l .inv
 
 returns-2 : tie.Need-returns-2 Inv-loop μ-loop
 returns-2 c =

@@ -1,4 +1,4 @@
--- `two_at` asks the two bytes, where there are two.
+-- `two_at` asks the two bytes, if there are two.
 use mathlib.Core.Path.{sym}
 use native.Mathlib.Omega.{arith}
 use borrow.Author.Needs.{needs}

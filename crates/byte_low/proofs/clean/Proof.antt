@@ -7,7 +7,7 @@ use borrow.Author.Needs.{needs}
 use borrow.Author.Tests.{leb-true}
 use Rattle.meaning.proofs.Bools.{and-left, and-right}
 use Rattle.byte_low.specs.Low.{firstLow}
-use Rattle.byte_low.proofs.Laws.{low-step, low-done}
+use Rattle.byte_low.proofs.LowLaws.{low-step, low-done}
 use Rattle.byte_low.proofs.clean.Statement.{statement}
 use Rattle.byte_low.proofs.clean.Tie as tie
 

@@ -1,10 +1,10 @@
--- `clean_content`: the search among the bytes behind clean blocks finds what the search among all finds, and in the last block it finds nothing.
+-- `clean_content`: the search among the bytes after clean blocks finds what the search among all finds, and in the last block it finds nothing.
 use mathlib.Core.Path.{_≡_, refl, sym, _∙_}
 use Prim.Native.Nat.{_-_, _≤_}
 use native.Mathlib.Omega.{arith}
 use borrow.Author.Needs.{needs}
 use Rattle.byte_low.specs.Low.{firstLow}
-use Rattle.byte_low.proofs.Laws.{low-on, low-tail}
+use Rattle.byte_low.proofs.LowLaws.{low-on, low-tail}
 use Rattle.byte_low.proofs.clean_content.Statement.{statement}
 use Rattle.byte_low.proofs.clean_content.Tie as tie
 
@@ -49,8 +49,10 @@ loop-less c = search needs
 
 loop-again : tie.Need-loop-again Inv-loop μ-loop Inv-loop2 μ-loop2
 loop-again c =
-    let l = c .before .before .before .loop in
-    (omega arith, omega arith, sym (low-on _ _ (l .i) _ (omega arith) (c .before .clean2 .ensures (c .if2 .taken))) ∙ l .inv .2)
+    let at-clean2 = c .before in
+    let at-loop = at-clean2 .before .before in
+    let l = at-loop .loop in
+    (omega arith, omega arith, sym (low-on _ _ (l .i) _ (omega arith) (at-clean2 .clean2 .ensures (c .if2 .taken))) ∙ l .inv .2)
 
 returns-2 : tie.Need-returns-2 Inv-loop μ-loop Inv-loop2 μ-loop2
 returns-2 c = λ e. search needs
@@ -72,8 +74,10 @@ loop2-less c = search needs
 
 loop2-again : tie.Need-loop2-again Inv-loop μ-loop Inv-loop2 μ-loop2
 loop2-again c =
-    let l = c .before .before .before .loop2 in
-    (omega arith, omega arith, sym (low-on _ _ (l .i) _ (omega arith) (c .before .clean3 .ensures (c .if3 .taken))) ∙ l .inv .2)
+    let at-clean3 = c .before in
+    let at-loop2 = at-clean3 .before .before in
+    let l = at-loop2 .loop2 in
+    (omega arith, omega arith, sym (low-on _ _ (l .i) _ (omega arith) (at-clean3 .clean3 .ensures (c .if3 .taken))) ∙ l .inv .2)
 
 returns-3 : tie.Need-returns-3 Inv-loop μ-loop Inv-loop2 μ-loop2
 returns-3 c = λ e. search needs

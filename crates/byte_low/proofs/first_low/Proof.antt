@@ -1,10 +1,10 @@
--- `first_low` is the walk `firstLow`: the search among the bytes behind clean blocks finds what the search among all finds.
+-- `first_low` is the walk `firstLow`: the search among the bytes after clean blocks finds what the search among all finds.
 use mathlib.Core.Path.{_≡_, sym, ap, _∙_}
 use Prim.Native.Nat.{_-_, _≤_}
 use native.Mathlib.Omega.{arith}
 use borrow.Author.Needs.{needs}
 use Rattle.byte_low.specs.Low.{firstLow}
-use Rattle.byte_low.proofs.Laws.{low-on}
+use Rattle.byte_low.proofs.LowLaws.{low-on}
 use Rattle.byte_low.proofs.first_low.Statement.{statement}
 use Rattle.byte_low.proofs.first_low.Tie as tie
 
@@ -40,8 +40,10 @@ loop-less c = search needs
 
 loop-again : tie.Need-loop-again Inv-loop μ-loop Inv-loop2 μ-loop2
 loop-again c =
-    let l = c .before .before .before .loop in
-    (omega arith, sym (low-on _ _ (l .i) _ (omega arith) (c .before .clean .ensures (c .if1 .taken))) ∙ l .inv .1)
+    let at-clean = c .before in
+    let at-loop = at-clean .before .before in
+    let l = at-loop .loop in
+    (omega arith, sym (low-on _ _ (l .i) _ (omega arith) (at-clean .clean .ensures (c .if1 .taken))) ∙ l .inv .1)
 
 sub-seek-low : tie.Need-sub-seek-low Inv-loop μ-loop Inv-loop2 μ-loop2
 sub-seek-low c = search needs
@@ -50,7 +52,10 @@ seek-low-requires : tie.Need-seek-low-requires Inv-loop μ-loop Inv-loop2 μ-loo
 seek-low-requires c κs = search needs
 
 returns : tie.Need-returns Inv-loop μ-loop Inv-loop2 μ-loop2
-returns c = c .seek-low .ensures ∙ c .before .before .before .before .loop .inv .1
+returns c =
+    let at-clean = c .before .before in
+    let at-loop = at-clean .before .before in
+    c .seek-low .ensures ∙ at-loop .loop .inv .1
 
 loop2-holds : tie.Need-loop2-holds Inv-loop μ-loop Inv-loop2 μ-loop2
 loop2-holds c = c .before .loop .inv
@@ -69,8 +74,10 @@ loop2-less c = search needs
 
 loop2-again : tie.Need-loop2-again Inv-loop μ-loop Inv-loop2 μ-loop2
 loop2-again c =
-    let l = c .before .before .before .loop2 in
-    (omega arith, sym (low-on _ _ (l .i) _ (omega arith) (c .before .clean2 .ensures (c .if2 .taken))) ∙ l .inv .1)
+    let at-clean2 = c .before in
+    let at-loop2 = at-clean2 .before .before in
+    let l = at-loop2 .loop2 in
+    (omega arith, sym (low-on _ _ (l .i) _ (omega arith) (at-clean2 .clean2 .ensures (c .if2 .taken))) ∙ l .inv .1)
 
 sub-seek-low-2 : tie.Need-sub-seek-low-2 Inv-loop μ-loop Inv-loop2 μ-loop2
 sub-seek-low-2 c = search needs
@@ -79,7 +86,10 @@ seek-low-requires-2 : tie.Need-seek-low-requires-2 Inv-loop μ-loop Inv-loop2 μ
 seek-low-requires-2 c κs = search needs
 
 returns-2 : tie.Need-returns-2 Inv-loop μ-loop Inv-loop2 μ-loop2
-returns-2 c = c .seek-low2 .ensures ∙ c .before .before .before .before .loop2 .inv .1
+returns-2 c =
+    let at-clean2 = c .before .before in
+    let at-loop2 = at-clean2 .before .before in
+    c .seek-low2 .ensures ∙ at-loop2 .loop2 .inv .1
 
 sub-short-low : tie.Need-sub-short-low Inv-loop μ-loop Inv-loop2 μ-loop2
 sub-short-low c = search needs

@@ -2,7 +2,7 @@
 use mathlib.Core.Path.{sym}
 use native.Mathlib.Omega.{arith}
 use borrow.Author.Needs.{needs}
-use Rattle.byte_low.proofs.Laws.{low-ends}
+use Rattle.byte_low.proofs.LowLaws.{low-ends}
 use Rattle.byte_low.proofs.short_low.Statement.{statement}
 use Rattle.byte_low.proofs.short_low.Tie as tie
 
@@ -20,9 +20,10 @@ clean-requires-2 c κs = search needs
 
 returns : tie.Need-returns
 returns c =
-    let b2 = c .before .before in
-    let b3 = b2 .before in
-    sym (low-ends _ _ _ _ (omega arith) (omega arith) (b3 .clean .ensures (b2 .if2 .taken)) (c .before .clean2 .ensures (c .if3 .taken)))
+    let at-clean2 = c .before in
+    let at-if2 = at-clean2 .before in
+    let at-clean = at-if2 .before in
+    sym (low-ends _ _ _ _ (omega arith) (omega arith) (at-clean .clean .ensures (at-if2 .if2 .taken)) (at-clean2 .clean2 .ensures (c .if3 .taken)))
 
 seek-low-requires : tie.Need-seek-low-requires
 seek-low-requires c κs = search needs

@@ -36,10 +36,14 @@ loop-less c = omega arith
 
 loop-again : tie.Need-loop-again Inv-loop μ-loop
 loop-again c =
-    let a = c .before .before .before .args in
-    let l = c .before .before .loop in
-    let inv = l .inv in
-    (omega arith, (up-turn (a .s .now) (l .s) (a .from) (a .to) (a .n) (l .i) (inv .1 .0) (omega arith) (omega arith) (omega arith) (omega arith), simp length-set (inv .1 .1)))
+    let at-loop = c .before .before in
+    let at-start = at-loop .before in
+    let a = at-start .args in
+    let l = at-loop .loop in
+    let inv = l .inv in (
+      omega arith,
+      (up-turn (a .s .now) (l .s) (a .from) (a .to) (a .n) (l .i) (inv .1 .0) (omega arith) (omega arith) (omega arith) (omega arith), simp length-set (inv .1 .1)),
+    )
 
 same-length : tie.Need-same-length Inv-loop μ-loop
 same-length c = omega arith

@@ -32,9 +32,11 @@ loop-less c = omega arith
 
 loop-again : tie.Need-loop-again Inv-loop μ-loop
 loop-again c =
-    let inv = c .before .before .loop .inv in
-    let start = c .before .before .before .args in
-    (omega arith, (rw (inv .1 .0) (copy-turn (start .src .now) (start .dst .now) (c .before .before .loop .i) (omega arith) (omega arith)), simp length-set (inv .1 .1)))
+    let at-loop = c .before .before in
+    let at-start = at-loop .before in
+    let inv = at-loop .loop .inv in
+    let start = at-start .args in
+    (omega arith, (rw (inv .1 .0) (copy-turn (start .src .now) (start .dst .now) (at-loop .loop .i) (omega arith) (omega arith)), simp length-set (inv .1 .1)))
 
 same-length : tie.Need-same-length Inv-loop μ-loop
 same-length c = omega arith

@@ -25,29 +25,34 @@ slice-write-dst c = search needs
 
 slice-write-dst-2 : tie.Need-slice-write-dst-2
 slice-write-dst-2 c =
-    let b4 = c .before .before .before .before in
-    lt-length-sets (b4 .args .dst .now) 0 (_ ∷ []) (omega arith)
+    let at-shared-slice-known2 = c .before .before in
+    let at-start = at-shared-slice-known2 .before .before in
+    lt-length-sets (at-start .args .dst .now) 0 (_ ∷ []) (omega arith)
 
 slice-write-dst-3 : tie.Need-slice-write-dst-3
 slice-write-dst-3 c =
-    let b4 = c .before .before .before .before in
-    lt-length-sets (b4 .args .dst .now) 0 (_ ∷ _ ∷ []) (omega arith)
+    let at-shared-slice-known2 = c .before .before in
+    let at-start = at-shared-slice-known2 .before .before in
+    lt-length-sets (at-start .args .dst .now) 0 (_ ∷ _ ∷ []) (omega arith)
 
 slice-write-dst-4 : tie.Need-slice-write-dst-4
 slice-write-dst-4 c =
-    let b4 = c .before .before .before .before in
-    lt-length-sets (b4 .args .dst .now) 0 (_ ∷ _ ∷ _ ∷ []) (omega arith)
+    let at-shared-slice-known2 = c .before .before in
+    let at-start = at-shared-slice-known2 .before .before in
+    lt-length-sets (at-start .args .dst .now) 0 (_ ∷ _ ∷ _ ∷ []) (omega arith)
 
 same-length : tie.Need-same-length
 same-length c =
-    let b4 = c .before .before .before .before in
-    length-sets (b4 .args .dst .now) 0 (_ ∷ _ ∷ _ ∷ _ ∷ [])
+    let at-shared-slice-known2 = c .before .before in
+    let at-start = at-shared-slice-known2 .before .before in
+    length-sets (at-start .args .dst .now) 0 (_ ∷ _ ∷ _ ∷ _ ∷ [])
 
 returns : tie.Need-returns
 returns c =
-    let b4 = c .before .before .before .before in
-    let a = b4 .args in
-    block-put halfWord (a .src .now) (a .dst .now) (b4 .pre .0) (b4 .pre .1)
+    let at-shared-slice-known2 = c .before .before in
+    let at-start = at-shared-slice-known2 .before .before in
+    let a = at-start .args in
+    block-put halfWord (a .src .now) (a .dst .now) (at-start .pre .0) (at-start .pre .1)
 
 pub copy-half-spec : {M : Type 1} → statement M
 copy-half-spec =

@@ -41,10 +41,16 @@ same-length c = search needs
 
 returns : tie.Need-returns
 returns c =
-    let b6 = c .before .before .before .before .before .before in
-    let b11 = b6 .before .before .before .before .before in
-    let a = b11 .args in
-    c .before .before .copy-half2 .ensures ∙ blocks-all (a .src .now) (a .dst .now) _ (length (a .src .now) - halfWord) halfWord halfWord (omega arith) (omega arith) (lent-block (a .src .now) (a .dst .now) _ _ halfWord (b6 .copy-half .ensures)) (omega arith) (omega arith)
+    let at-copy-half2 = c .before .before in
+    let at-slice-known2 = at-copy-half2 .before .before in
+    let at-copy-half = at-slice-known2 .before .before in
+    let at-copy-half-arg = at-copy-half .before .before in
+    let at-slice-known = at-copy-half-arg .before .before in
+    let at-start = at-slice-known .before in
+    let a = at-start .args in
+    at-copy-half2 .copy-half2 .ensures
+    ∙ blocks-all (a .src .now) (a .dst .now) _ (length (a .src .now) - halfWord) halfWord halfWord (omega arith) (omega arith)
+    (lent-block (a .src .now) (a .dst .now) _ _ halfWord (at-copy-half .copy-half .ensures)) (omega arith) (omega arith)
 
 pub copy-halves-spec : {M : Type 1} → statement M
 copy-halves-spec =

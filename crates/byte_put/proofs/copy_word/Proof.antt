@@ -37,49 +37,76 @@ slice-write-dst c = search needs
 
 slice-write-dst-2 : tie.Need-slice-write-dst-2
 slice-write-dst-2 c =
-    let b8 = c .before .before .before .before .before .before .before .before in
-    lt-length-sets (b8 .args .dst .now) 0 (_ ∷ []) (omega arith)
+    let at-shared-slice-known6 = c .before .before in
+    let at-shared-slice-known4 = at-shared-slice-known6 .before .before in
+    let at-shared-slice-known2 = at-shared-slice-known4 .before .before in
+    let at-start = at-shared-slice-known2 .before .before in
+    lt-length-sets (at-start .args .dst .now) 0 (_ ∷ []) (omega arith)
 
 slice-write-dst-3 : tie.Need-slice-write-dst-3
 slice-write-dst-3 c =
-    let b8 = c .before .before .before .before .before .before .before .before in
-    lt-length-sets (b8 .args .dst .now) 0 (_ ∷ _ ∷ []) (omega arith)
+    let at-shared-slice-known6 = c .before .before in
+    let at-shared-slice-known4 = at-shared-slice-known6 .before .before in
+    let at-shared-slice-known2 = at-shared-slice-known4 .before .before in
+    let at-start = at-shared-slice-known2 .before .before in
+    lt-length-sets (at-start .args .dst .now) 0 (_ ∷ _ ∷ []) (omega arith)
 
 slice-write-dst-4 : tie.Need-slice-write-dst-4
 slice-write-dst-4 c =
-    let b8 = c .before .before .before .before .before .before .before .before in
-    lt-length-sets (b8 .args .dst .now) 0 (_ ∷ _ ∷ _ ∷ []) (omega arith)
+    let at-shared-slice-known6 = c .before .before in
+    let at-shared-slice-known4 = at-shared-slice-known6 .before .before in
+    let at-shared-slice-known2 = at-shared-slice-known4 .before .before in
+    let at-start = at-shared-slice-known2 .before .before in
+    lt-length-sets (at-start .args .dst .now) 0 (_ ∷ _ ∷ _ ∷ []) (omega arith)
 
 slice-write-dst-5 : tie.Need-slice-write-dst-5
 slice-write-dst-5 c =
-    let b8 = c .before .before .before .before .before .before .before .before in
-    lt-length-sets (b8 .args .dst .now) 0 (_ ∷ _ ∷ _ ∷ _ ∷ []) (omega arith)
+    let at-shared-slice-known6 = c .before .before in
+    let at-shared-slice-known4 = at-shared-slice-known6 .before .before in
+    let at-shared-slice-known2 = at-shared-slice-known4 .before .before in
+    let at-start = at-shared-slice-known2 .before .before in
+    lt-length-sets (at-start .args .dst .now) 0 (_ ∷ _ ∷ _ ∷ _ ∷ []) (omega arith)
 
 slice-write-dst-6 : tie.Need-slice-write-dst-6
 slice-write-dst-6 c =
-    let b8 = c .before .before .before .before .before .before .before .before in
-    lt-length-sets (b8 .args .dst .now) 0 (_ ∷ _ ∷ _ ∷ _ ∷ _ ∷ []) (omega arith)
+    let at-shared-slice-known6 = c .before .before in
+    let at-shared-slice-known4 = at-shared-slice-known6 .before .before in
+    let at-shared-slice-known2 = at-shared-slice-known4 .before .before in
+    let at-start = at-shared-slice-known2 .before .before in
+    lt-length-sets (at-start .args .dst .now) 0 (_ ∷ _ ∷ _ ∷ _ ∷ _ ∷ []) (omega arith)
 
 slice-write-dst-7 : tie.Need-slice-write-dst-7
 slice-write-dst-7 c =
-    let b8 = c .before .before .before .before .before .before .before .before in
-    lt-length-sets (b8 .args .dst .now) 0 (_ ∷ _ ∷ _ ∷ _ ∷ _ ∷ _ ∷ []) (omega arith)
+    let at-shared-slice-known6 = c .before .before in
+    let at-shared-slice-known4 = at-shared-slice-known6 .before .before in
+    let at-shared-slice-known2 = at-shared-slice-known4 .before .before in
+    let at-start = at-shared-slice-known2 .before .before in
+    lt-length-sets (at-start .args .dst .now) 0 (_ ∷ _ ∷ _ ∷ _ ∷ _ ∷ _ ∷ []) (omega arith)
 
 slice-write-dst-8 : tie.Need-slice-write-dst-8
 slice-write-dst-8 c =
-    let b8 = c .before .before .before .before .before .before .before .before in
-    lt-length-sets (b8 .args .dst .now) 0 (_ ∷ _ ∷ _ ∷ _ ∷ _ ∷ _ ∷ _ ∷ []) (omega arith)
+    let at-shared-slice-known6 = c .before .before in
+    let at-shared-slice-known4 = at-shared-slice-known6 .before .before in
+    let at-shared-slice-known2 = at-shared-slice-known4 .before .before in
+    let at-start = at-shared-slice-known2 .before .before in
+    lt-length-sets (at-start .args .dst .now) 0 (_ ∷ _ ∷ _ ∷ _ ∷ _ ∷ _ ∷ _ ∷ []) (omega arith)
 
 same-length : tie.Need-same-length
 same-length c =
-    let b8 = c .before .before .before .before .before .before .before .before in
-    length-sets (b8 .args .dst .now) 0 (_ ∷ _ ∷ _ ∷ _ ∷ _ ∷ _ ∷ _ ∷ _ ∷ [])
+    let at-shared-slice-known6 = c .before .before in
+    let at-shared-slice-known4 = at-shared-slice-known6 .before .before in
+    let at-shared-slice-known2 = at-shared-slice-known4 .before .before in
+    let at-start = at-shared-slice-known2 .before .before in
+    length-sets (at-start .args .dst .now) 0 (_ ∷ _ ∷ _ ∷ _ ∷ _ ∷ _ ∷ _ ∷ _ ∷ [])
 
 returns : tie.Need-returns
 returns c =
-    let b8 = c .before .before .before .before .before .before .before .before in
-    let a = b8 .args in
-    block-put word (a .src .now) (a .dst .now) (b8 .pre .0) (b8 .pre .1)
+    let at-shared-slice-known6 = c .before .before in
+    let at-shared-slice-known4 = at-shared-slice-known6 .before .before in
+    let at-shared-slice-known2 = at-shared-slice-known4 .before .before in
+    let at-start = at-shared-slice-known2 .before .before in
+    let a = at-start .args in
+    block-put word (a .src .now) (a .dst .now) (at-start .pre .0) (at-start .pre .1)
 
 pub copy-word-spec : {M : Type 1} → statement M
 copy-word-spec =

@@ -71,22 +71,38 @@ loop-less c = omega arith
 
 loop-again : tie.Need-loop-again Inv-loop μ-loop
 loop-again c =
-    let b6 = c .before .before .before .before .before .before in
-    let b14 = b6 .before .before .before .before .before .before .before .before in
-    let a = b14 .args in
-    let l = b6 .loop in
-    (omega arith, (block-turn (a .src .now) _ (l .dst) _ (l .i) word (l .inv .1 .0) (l .inv .0) (c .before .before .copy-word2 .ensures), length-block (a .src .now) (l .dst) _ (l .i) word (c .before .before .copy-word2 .ensures) (omega arith) (omega arith) ∙ l .inv .1 .1))
+    let at-copy-word2 = c .before .before in
+    let at-copy-word-arg3 = at-copy-word2 .before .before in
+    let at-loop = at-copy-word-arg3 .before .before in
+    let at-dst = at-loop .before .before in
+    let at-copy-word-arg2 = at-dst .before .before in
+    let at-shared-slice-known = at-copy-word-arg2 .before .before in
+    let at-start = at-shared-slice-known .before .before in
+    let a = at-start .args in
+    let l = at-loop .loop in (
+      omega arith,
+      (
+        block-turn (a .src .now) _ (l .dst) _ (l .i) word (l .inv .1 .0) (l .inv .0) (at-copy-word2 .copy-word2 .ensures),
+        length-block (a .src .now) (l .dst) _ (l .i) word (at-copy-word2 .copy-word2 .ensures) (omega arith) (omega arith) ∙ l .inv .1 .1,
+      ),
+    )
 
 same-length : tie.Need-same-length Inv-loop μ-loop
 same-length c = omega arith
 
 returns : tie.Need-returns Inv-loop μ-loop
 returns c =
-    let b4 = c .before .before .before .before in
-    let b9 = b4 .before .before .before .before .before in
-    let a = b9 .args in
-    let l = c .before .loop in
-    l .inv .1 .0 ∙ blocks-all (a .src .now) (a .dst .now) _ (length (a .src .now) - word) word (l .i) (omega arith) (omega arith) (lent-block (a .src .now) (a .dst .now) _ _ word (b4 .copy-word .ensures)) (omega arith) (omega arith)
+    let at-loop = c .before in
+    let at-dst = at-loop .before .before in
+    let at-copy-word = at-dst .before in
+    let at-copy-word-arg = at-copy-word .before .before in
+    let at-slice-known = at-copy-word-arg .before .before in
+    let at-start = at-slice-known .before in
+    let a = at-start .args in
+    let l = at-loop .loop in
+    l .inv .1 .0
+    ∙ blocks-all (a .src .now) (a .dst .now) _ (length (a .src .now) - word) word (l .i) (omega arith) (omega arith)
+    (lent-block (a .src .now) (a .dst .now) _ _ word (at-copy-word .copy-word .ensures)) (omega arith) (omega arith)
 
 pub copy-words-spec : {M : Type 1} → statement M
 copy-words-spec =

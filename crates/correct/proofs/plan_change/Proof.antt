@@ -15,12 +15,19 @@ enum-known-shape : tie.Need-enum-known-shape
 enum-known-shape c = search needs
 
 plan-judged-requires : tie.Need-plan-judged-requires
-plan-judged-requires c κs = sym (c .before .before .before .judge .ensures) ∙ c .before .shape .given .1
+plan-judged-requires c κs =
+    let at-shape = c .before in
+    let at-judge = at-shape .before .before in
+    sym (at-judge .judge .ensures) ∙ at-shape .shape .given .1
 
 returns : tie.Need-returns
 returns c =
-    let a = c .before .before .before .before .before .before .args in
-    sym (plan-unread (a .set .now) (a .content .now) (a .room) (a .line) _ (sym (c .before .before .before .judge .ensures) ∙ c .before .r .given .1))
+    let at-r = c .before in
+    let at-judge = at-r .before .before in
+    let at-shared-slice-known = at-judge .before .before in
+    let at-start = at-shared-slice-known .before in
+    let a = at-start .args in
+    sym (plan-unread (a .set .now) (a .content .now) (a .room) (a .line) _ (sym (at-judge .judge .ensures) ∙ at-r .r .given .1))
 
 returns-2 : tie.Need-returns-2
 returns-2 c = search needs

@@ -1,10 +1,10 @@
--- `line_after` is the walk `lineFrom`: the line behind those that are left is the line behind all.
+-- `line_after` is the walk `lineFrom`: the line after those that are left is the line after all.
 use mathlib.Core.Path.{_≡_, refl, _∙_}
 use native.Mathlib.Omega.{arith}
 use borrow.Author.Needs.{needs}
 use Rattle.line_read.proofs.ToldLaws.{told-there}
 use Rattle.correct_offer.specs.Offered.{lineFrom, lineAfter}
-use Rattle.correct_offer.proofs.WalkLaws.{line-lost, line-next, line-here}
+use Rattle.correct_offer.proofs.OfferWalkLaws.{line-lost, line-next, line-here}
 use Rattle.correct_offer.proofs.line_after.Statement.{statement}
 use Rattle.correct_offer.proofs.line_after.Tie as tie
 
@@ -26,16 +26,28 @@ no-line-requires c κs = search needs
 
 returns : tie.Need-returns Inv-loop μ-loop
 returns c =
-    let l = c .before .before .before .before .loop in
-    c .no-line .ensures ∙ (line-lost _ _ (l .left) _ (c .before .before .told-length .ensures .0) (c .before .before .before .loop-test .taken) (c .before .if1 .taken) ∙ l .inv)
+    let at-if1 = c .before in
+    let at-told-length = at-if1 .before in
+    let at-loop-test = at-told-length .before in
+    let at-loop = at-loop-test .before in
+    let l = at-loop .loop in
+    c .no-line .ensures ∙ (line-lost _ _ (l .left) _ (at-told-length .told-length .ensures .0) (at-loop-test .loop-test .taken) (at-if1 .if1 .taken) ∙ l .inv)
 
 add-at : tie.Need-add-at Inv-loop μ-loop
 add-at c = search needs
 
 add-at-2 : tie.Need-add-at-2 Inv-loop μ-loop
 add-at-2 c =
-    let b5 = c .before .before .before .before .before in
-    omega (arith, told-there (b5 .args .set .now) (c .before .before .before .loop .at) _ (c .before .told-length .ensures .0) (c .if1 .left), c .before .told-length .ensures .1, b5 .fits, b5 .good)
+    let at-told-length = c .before in
+    let at-loop = at-told-length .before .before in
+    let at-start = at-loop .before .before in
+    omega (
+      arith,
+      told-there (at-start .args .set .now) (at-loop .loop .at) _ (at-told-length .told-length .ensures .0) (c .if1 .left),
+      at-told-length .told-length .ensures .1,
+      at-start .fits,
+      at-start .good,
+    )
 
 sub-left : tie.Need-sub-left Inv-loop μ-loop
 sub-left c = search needs
@@ -45,8 +57,11 @@ loop-less c = search needs
 
 loop-again : tie.Need-loop-again Inv-loop μ-loop
 loop-again c =
-    let l = c .before .before .before .loop in
-    line-next _ _ (l .left) _ (c .before .told-length .ensures .0) (c .before .before .loop-test .taken) (c .if1 .left) ∙ l .inv
+    let at-told-length = c .before in
+    let at-loop-test = at-told-length .before in
+    let at-loop = at-loop-test .before in
+    let l = at-loop .loop in
+    line-next _ _ (l .left) _ (at-told-length .told-length .ensures .0) (at-loop-test .loop-test .taken) (c .if1 .left) ∙ l .inv
 
 told-label-requires : tie.Need-told-label-requires Inv-loop μ-loop
 told-label-requires c κs = search needs
@@ -59,8 +74,10 @@ add-size c = search needs
 
 returns-2 : tie.Need-returns-2 Inv-loop μ-loop
 returns-2 c =
-    let l = c .before .before .before .loop in
-    line-here _ _ (l .left) _ (c .told-length2 .ensures .0) (omega arith) _ (c .before .told-label .ensures) ∙ l .inv
+    let at-told-label = c .before in
+    let at-loop = at-told-label .before .before in
+    let l = at-loop .loop in
+    line-here _ _ (l .left) _ (c .told-length2 .ensures .0) (omega arith) _ (at-told-label .told-label .ensures) ∙ l .inv
 
 pub line-after-spec : {M : Type 1} → statement M
 line-after-spec =

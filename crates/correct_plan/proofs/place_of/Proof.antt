@@ -1,4 +1,4 @@
--- `place_of` tells the place of a refusal.
+-- `place_of`: the place of a refusal.
 use mathlib.Core.Path.{refl}
 use borrow.Author.Tests.{eq-eqb, ne-eqb}
 use Rattle.correct_plan.proofs.place_of.Statement.{statement}

@@ -8,14 +8,16 @@ use borrow.Author.Needs.{needs}
 use Rattle.correct_plan.proofs.plan_judged.Statement.{statement}
 use Rattle.correct_plan.proofs.plan_judged.Tie as tie
 
-refused-requires : tie.Need-refused-requires
-refused-requires c κs = search needs
+refused-plan-requires : tie.Need-refused-plan-requires
+refused-plan-requires c κs = search needs
 
 returns : tie.Need-returns
 returns c =
-    let s = c .before .before .before .before .before in
-    let a = s .args in
-    c .refused .ensures ∙ sym (plan-followed (a .set .now) (a .content .now) (a .room) (a .line) (a .shape) (s .pre) (c .before .if1 .taken))
+    let at-if1 = c .before in
+    let at-shared-slice-known2 = at-if1 .before .before in
+    let at-start = at-shared-slice-known2 .before .before in
+    let a = at-start .args in
+    c .refused-plan .ensures ∙ sym (plan-followed (a .set .now) (a .content .now) (a .room) (a .line) (a .shape) (at-start .pre) (at-if1 .if1 .taken))
 
 judge-offer-requires : tie.Need-judge-offer-requires
 judge-offer-requires c κs = search needs
@@ -23,38 +25,51 @@ judge-offer-requires c κs = search needs
 place-of-requires : tie.Need-place-of-requires
 place-of-requires c κs = search needs
 
-refused-requires-2 : tie.Need-refused-requires-2
-refused-requires-2 c κs = search needs
+refused-plan-requires-2 : tie.Need-refused-plan-requires-2
+refused-plan-requires-2 c κs = search needs
 
 returns-2 : tie.Need-returns-2
 returns-2 c =
-    let s = c .before .before .before .before .before .before .before .before .before in
-    let a = s .args in
-    let o = c .before .before .before .before .judge-offer in
+    let at-place-of = c .before in
+    let at-if2 = at-place-of .before in
+    let at-judge-offer = at-if2 .before .before in
+    let at-if1 = at-judge-offer .before in
+    let at-shared-slice-known2 = at-if1 .before .before in
+    let at-start = at-shared-slice-known2 .before .before in
+    let a = at-start .args in
+    let o = at-judge-offer .judge-offer in
     let r = o .result in
-    let h = c .before .before .before .before .before .if1 .left in
-    c .refused2 .ensures
-    ∙ ap (λ (p : ℕ). Refused (refusal (r .no) p (r .label))) (c .before .place-of .ensures)
-    ∙ sym (plan-against (a .set .now) (a .content .now) (a .room) (a .line) (a .shape) (s .pre) r h (o .ensures) (c .before .before .if2 .taken))
+    let h = at-if1 .if1 .left in
+    c .refused-plan2 .ensures
+    ∙ ap (λ (p : ℕ). Refused (refusal (r .no) p (r .label))) (at-place-of .place-of .ensures)
+    ∙ sym (plan-against (a .set .now) (a .content .now) (a .room) (a .line) (a .shape) (at-start .pre) r h (o .ensures) (at-if2 .if2 .taken))
 
 sub-old : tie.Need-sub-old
 sub-old c =
-    let s = c .before .before .before .before .before .before .before .before in
-    let a = s .args in
-    let o = c .before .before .before .judge-offer in
-    let h = c .before .before .before .before .if1 .left in
+    let at-if2 = c .before in
+    let at-judge-offer = at-if2 .before .before in
+    let at-if1 = at-judge-offer .before in
+    let at-shared-slice-known2 = at-if1 .before .before in
+    let at-start = at-shared-slice-known2 .before .before in
+    let a = at-start .args in
+    let o = at-judge-offer .judge-offer in
+    let h = at-if1 .if1 .left in
     let r : Ready (a .set .now) (a .content .now) (a .room) (a .line) (o .result) =
-    plan-ready (a .set .now) (a .content .now) (a .room) (a .line) (a .shape) (s .pre) (o .result) h (o .ensures) (c .before .if2 .left) in
+    plan-ready (a .set .now) (a .content .now) (a .room) (a .line) (a .shape) (at-start .pre) (o .result) h (o .ensures) (at-if2 .if2 .left) in
     r .least
 
 sub-total : tie.Need-sub-total
 sub-total c =
-    let s = c .before .before .before .before .before .before .before .before in
-    let a = s .args in
-    let o = c .before .before .before .judge-offer in
-    let h = c .before .before .before .before .if1 .left in
+    let at-if2 = c .before in
+    let at-judge-offer = at-if2 .before .before in
+    let at-if1 = at-judge-offer .before in
+    let at-shared-slice-known2 = at-if1 .before .before in
+    let at-start = at-shared-slice-known2 .before .before in
+    let a = at-start .args in
+    let o = at-judge-offer .judge-offer in
+    let h = at-if1 .if1 .left in
     let r : Ready (a .set .now) (a .content .now) (a .room) (a .line) (o .result) =
-    plan-ready (a .set .now) (a .content .now) (a .room) (a .line) (a .shape) (s .pre) (o .result) h (o .ensures) (c .before .if2 .left) in
+    plan-ready (a .set .now) (a .content .now) (a .room) (a .line) (a .shape) (at-start .pre) (o .result) h (o .ensures) (at-if2 .if2 .left) in
     r .within
 
 add-total : tie.Need-add-total
@@ -65,23 +80,27 @@ plan-total-requires c κs = search needs
 
 returns-3 : tie.Need-returns-3
 returns-3 c =
-    let s = c .before .before .before .before .before .before .before .before .before in
-    let a = s .args in
-    let o = c .before .before .before .before .judge-offer in
-    let h = c .before .before .before .before .before .if1 .left in
+    let at-if2 = c .before .before in
+    let at-judge-offer = at-if2 .before .before in
+    let at-if1 = at-judge-offer .before in
+    let at-shared-slice-known2 = at-if1 .before .before in
+    let at-start = at-shared-slice-known2 .before .before in
+    let a = at-start .args in
+    let o = at-judge-offer .judge-offer in
+    let h = at-if1 .if1 .left in
     let r : Ready (a .set .now) (a .content .now) (a .room) (a .line) (o .result) =
-    plan-ready (a .set .now) (a .content .now) (a .room) (a .line) (a .shape) (s .pre) (o .result) h (o .ensures) (c .before .before .if2 .left) in
+    plan-ready (a .set .now) (a .content .now) (a .room) (a .line) (a .shape) (at-start .pre) (o .result) h (o .ensures) (at-if2 .if2 .left) in
     c .plan-total .ensures ∙ sym (r .plan)
 
 pub plan-judged-spec : {M : Type 1} → statement M
 plan-judged-spec =
     tie.close
     (tie.spec
-    refused-requires
+    refused-plan-requires
     returns
     judge-offer-requires
     place-of-requires
-    refused-requires-2
+    refused-plan-requires-2
     returns-2
     sub-old
     sub-total

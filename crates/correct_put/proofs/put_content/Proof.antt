@@ -24,12 +24,18 @@ same-length c = search needs
 
 returns : tie.Need-returns
 returns c =
-    let s = c .before .before .before .before .before .before .before .before .before .before .before .before .before .before in
-    let a = s .args in
-    three-puts (a .buffer .now) _ _ _ (a .content .now) (a .place) (a .old) (a .used) (a .total) (s .pre .1 .0)
-    (c .before .before .before .before .before .before .before .before .before .before .replace-middle .ensures)
-    (c .before .before .before .before .before .before .put-digits .ensures)
-    (c .before .before .put-digits2 .ensures)
+    let at-put-digits2 = c .before .before in
+    let at-slice-known3 = at-put-digits2 .before .before in
+    let at-put-digits = at-slice-known3 .before .before in
+    let at-slice-known2 = at-put-digits .before .before in
+    let at-replace-middle = at-slice-known2 .before .before in
+    let at-shared-slice-known = at-replace-middle .before .before in
+    let at-start = at-shared-slice-known .before .before in
+    let a = at-start .args in
+    three-puts (a .buffer .now) _ _ _ (a .content .now) (a .place) (a .old) (a .used) (a .total) (at-start .pre .1 .0)
+    (at-replace-middle .replace-middle .ensures)
+    (at-put-digits .put-digits .ensures)
+    (at-put-digits2 .put-digits2 .ensures)
 
 pub put-content-spec : {M : Type 1} → statement M
 put-content-spec =

@@ -58,12 +58,19 @@ same-length c = search needs
 
 returns : tie.Need-returns
 returns c =
-    let a = c .before .before .before .before .before .before .before .before .before .before .before .before .before .before .args in
-    let p = c .before .before .before .before .before .before .before .before .before .before .before .before .before .before .pre in
+    let at-clear = c .before .before in
+    let at-slice-known3 = at-clear .before .before in
+    let at-copy-front = at-slice-known3 .before .before in
+    let at-slice-known2 = at-copy-front .before .before in
+    let at-move-within = at-slice-known2 .before .before in
+    let at-shared-slice-known = at-move-within .before .before in
+    let at-start = at-shared-slice-known .before .before in
+    let a = at-start .args in
+    let p = at-start .pre in
     three-loans (a .buffer .now) (a .new .now) _ _ _ _ _ (a .at) (a .old) (a .used) _ _ (p .0 .0) (p .0 .1) (p .1) refl refl
-    (c .before .before .before .before .before .before .before .before .before .before .move-within .ensures) refl
-    (c .before .before .before .before .before .before .copy-front .ensures) refl
-    (c .before .before .clear .ensures)
+    (at-move-within .move-within .ensures) refl
+    (at-copy-front .copy-front .ensures) refl
+    (at-clear .clear .ensures)
 
 pub replace-middle-spec : {M : Type 1} → statement M
 replace-middle-spec =

@@ -20,9 +20,10 @@ loop-holds c = (omega arith, refl)
 
 returns : tie.Need-returns Inv-loop μ-loop
 returns c =
-    let b2 = c .before .before in
-    let b4 = b2 .before .before in
-    sym (heads-many (b4 .args .s .now) (b2 .loop .at) (c .before .loop-test .taken) (c .if1 .taken)) ∙ b2 .loop .inv .1
+    let at-loop-test = c .before in
+    let at-loop = at-loop-test .before in
+    let at-start = at-loop .before .before in
+    sym (heads-many (at-start .args .s .now) (at-loop .loop .at) (at-loop-test .loop-test .taken) (c .if1 .taken)) ∙ at-loop .loop .inv .1
 
 entry-at-requires : tie.Need-entry-at-requires Inv-loop μ-loop
 entry-at-requires c κs = search needs
@@ -32,56 +33,73 @@ enum-told c = search needs
 
 returns-2 : tie.Need-returns-2 Inv-loop μ-loop
 returns-2 c =
-    let b2 = c .before .before in
-    let b3 = b2 .before in
-    let b4 = b3 .before in
-    let b5 = b4 .before in
-    let b7 = b5 .before .before in
-    sym (heads-cut (b7 .args .s .now) (b5 .loop .at) (b4 .loop-test .taken) (b3 .if1 .left) (sym (b2 .entry-at .ensures) ∙ c .enum-told .given .1)) ∙ b5 .loop .inv .1
+    let at-entry-at = c .before .before in
+    let at-if1 = at-entry-at .before in
+    let at-loop-test = at-if1 .before in
+    let at-loop = at-loop-test .before in
+    let at-start = at-loop .before .before in
+    sym (heads-cut (at-start .args .s .now) (at-loop .loop .at) (at-loop-test .loop-test .taken) (at-if1 .if1 .left) (sym (at-entry-at .entry-at .ensures) ∙ c .enum-told .given .1))
+    ∙ at-loop .loop .inv .1
 
 enum-known-length : tie.Need-enum-known-length Inv-loop μ-loop
 enum-known-length c = search needs
 
 add-at : tie.Need-add-at Inv-loop μ-loop
 add-at c =
-    let b3 = c .before .before .before in
-    let b6 = b3 .before .before .before in
-    let b8 = b6 .before .before in
-    omega (arith, whole-back (b8 .args .s .now) (b6 .loop .at) (sym (b3 .entry-at .ensures) ∙ c .before .length .given .1) .within, b8 .good)
+    let at-length = c .before in
+    let at-entry-at = at-length .before .before in
+    let at-loop-test = at-entry-at .before .before in
+    let at-loop = at-loop-test .before in
+    let at-start = at-loop .before .before in
+    omega (arith, whole-back (at-start .args .s .now) (at-loop .loop .at) (sym (at-entry-at .entry-at .ensures) ∙ at-length .length .given .1) .within, at-start .good)
 
 add-at-2 : tie.Need-add-at-2 Inv-loop μ-loop
 add-at-2 c =
-    let b3 = c .before .before .before in
-    let b6 = b3 .before .before .before in
-    let b8 = b6 .before .before in
-    omega (arith, whole-back (b8 .args .s .now) (b6 .loop .at) (sym (b3 .entry-at .ensures) ∙ c .before .length .given .1) .within, b8 .good)
+    let at-length = c .before in
+    let at-entry-at = at-length .before .before in
+    let at-loop-test = at-entry-at .before .before in
+    let at-loop = at-loop-test .before in
+    let at-start = at-loop .before .before in
+    omega (arith, whole-back (at-start .args .s .now) (at-loop .loop .at) (sym (at-entry-at .entry-at .ensures) ∙ at-length .length .given .1) .within, at-start .good)
 
 sub-left : tie.Need-sub-left Inv-loop μ-loop
 sub-left c =
-    let b4 = c .before .before .before .before in
-    omega (arith, b4 .if1 .left)
+    let at-match = c .before .before in
+    let at-if1 = at-match .before .before in
+    omega (arith, at-if1 .if1 .left)
 
 loop-less : tie.Need-loop-less Inv-loop μ-loop
 loop-less c =
-    let b3 = c .before .before .before in
-    let b5 = b3 .before .before in
-    let b6 = b5 .before in
-    let b8 = b6 .before .before in
-    omega (arith, b5 .loop-test .taken, whole-back (b8 .args .s .now) (b6 .loop .at) (sym (b3 .entry-at .ensures) ∙ c .before .length .given .1) .within)
+    let at-length = c .before in
+    let at-entry-at = at-length .before .before in
+    let at-loop-test = at-entry-at .before .before in
+    let at-loop = at-loop-test .before in
+    let at-start = at-loop .before .before in
+    omega (
+      arith,
+      at-loop-test .loop-test .taken,
+      whole-back (at-start .args .s .now) (at-loop .loop .at) (sym (at-entry-at .entry-at .ensures) ∙ at-length .length .given .1) .within,
+    )
 
 loop-again : tie.Need-loop-again Inv-loop μ-loop
 loop-again c =
-    let b3 = c .before .before .before in
-    let b4 = b3 .before in
-    let b5 = b4 .before in
-    let b6 = b5 .before in
-    let b8 = b6 .before .before in
-    (omega (arith, whole-back (b8 .args .s .now) (b6 .loop .at) (sym (b3 .entry-at .ensures) ∙ c .before .length .given .1) .within), sym (heads-further (b8 .args .s .now) (b6 .loop .at) (b5 .loop-test .taken) (omega (arith, b4 .if1 .left)) (sym (b3 .entry-at .ensures) ∙ c .before .length .given .1)) ∙ b6 .loop .inv .1)
+    let at-length = c .before in
+    let at-entry-at = at-length .before .before in
+    let at-if1 = at-entry-at .before in
+    let at-loop-test = at-if1 .before in
+    let at-loop = at-loop-test .before in
+    let at-start = at-loop .before .before in (
+      omega (arith, whole-back (at-start .args .s .now) (at-loop .loop .at) (sym (at-entry-at .entry-at .ensures) ∙ at-length .length .given .1) .within),
+      sym (heads-further (at-start .args .s .now) (at-loop .loop .at) (at-loop-test .loop-test .taken) (omega (arith, at-if1 .if1 .left))
+          (sym (at-entry-at .entry-at .ensures) ∙ at-length .length .given .1))
+          ∙ at-loop .loop .inv .1,
+    )
 
 returns-3 : tie.Need-returns-3 Inv-loop μ-loop
 returns-3 c =
-    let b3 = c .before .before .before in
-    sym (heads-over (b3 .args .s .now) (c .before .loop .at) (c .before .loop .left) (omega (arith, c .loop-test .left))) ∙ c .before .loop .inv .1
+    let at-loop = c .before in
+    let at-start = at-loop .before .before in
+    sym (heads-over (at-start .args .s .now) (at-loop .loop .at) (at-loop .loop .left) (omega (arith, c .loop-test .left))) ∙ at-loop .loop .inv .1
 
 pub heads-end-spec : {M : Type 1} → statement M
 heads-end-spec =

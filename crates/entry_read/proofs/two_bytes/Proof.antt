@@ -17,7 +17,10 @@ number-requires : tie.Need-number-requires
 number-requires c κs = search needs
 
 returns : tie.Need-returns
-returns c = rw (← add-one (c .before .before .before .before .args .at)) (c .number .ensures)
+returns c =
+    let at-shared-slice-known2 = c .before .before in
+    let at-start = at-shared-slice-known2 .before .before in
+    rw (← add-one (at-start .args .at)) (c .number .ensures)
 
 pub two-bytes-spec : {M : Type 1} → statement M
 two-bytes-spec =

@@ -1,7 +1,7 @@
--- `plan_index`: each return by the law of what is told of the set.
+-- `plan_index`: each return by its law, of a refused set and of an accepted one.
 use mathlib.Core.Path.{_∙_}
 use borrow.Author.Needs.{needs}
-use Rattle.face_replies.proofs.PlanLaws.{plan-refused, plan-accepted}
+use Rattle.face_replies.proofs.IndexPlanLaws.{index-refused, index-accepted}
 use Rattle.face_replies.proofs.plan_index.Statement.{statement}
 use Rattle.face_replies.proofs.plan_index.Tie as tie
 
@@ -18,10 +18,10 @@ all-entries-requires : tie.Need-all-entries-requires
 all-entries-requires c κs = search needs
 
 returns : tie.Need-returns
-returns c = c .no-entries .ensures ∙ plan-refused _ _ _ (c .before .before .judged .given .1)
+returns c = c .no-entries .ensures ∙ index-refused _ _ _ (c .before .before .judged .given .1)
 
 returns-2 : tie.Need-returns-2
-returns-2 c = c .all-entries .ensures ∙ plan-accepted _ _ _ (c .before .before .judged2 .given .1)
+returns-2 c = c .all-entries .ensures ∙ index-accepted _ _ _ (c .before .before .judged2 .given .1)
 
 pub plan-index-spec : {M : Type 1} → statement M
 plan-index-spec =

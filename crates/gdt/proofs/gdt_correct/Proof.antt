@@ -15,7 +15,10 @@ same-length : tie.Need-same-length
 same-length c = search needs
 
 returns : tie.Need-returns
-returns c = (c .made-reply .ensures ∙ ap madeReply (c .before .before .before .correct .ensures .0), c .before .before .before .correct .ensures .1)
+returns c =
+    let at-buffer = c .before .before in
+    let at-correct = at-buffer .before in
+    (c .made-reply .ensures ∙ ap madeReply (at-correct .correct .ensures .0), at-correct .correct .ensures .1)
 
 pub gdt-correct-spec : {M : Type 1} → statement M
 gdt-correct-spec = tie.close (tie.spec correct-requires made-reply-requires same-length returns)

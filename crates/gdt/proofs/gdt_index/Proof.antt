@@ -1,5 +1,5 @@
 -- `gdt_index` meets its contract: a walk over its MIR by hand, since the borrow checker does not cover a reference to a slice of records. Ideas about lists are in FillingLaws.
--- Each step names what it needs by its position in the list of all that there is then, which a comment in brackets tells; a changed body moves the positions.
+-- Each step names what it needs by its position in the list of all that there is then, which a comment in brackets gives; a changed body moves the positions.
 use mathlib.Core.Path.{_≡_, refl, sym, ap, _∙_, subst}
 use mathlib.Core.WellFounded.{WellFounded, InvImage·wf}
 use mathlib.Core.List.{[], _∷_, List}
@@ -53,12 +53,12 @@ use Rattle.meaning.specs.Reading.{judge}
 use Rattle.meaning.proofs.Entry as E
 use Rattle.meaning.proofs.Entry.Laws as E′
 use Rattle.index_walk.specs.declared.Walk.{Walk}
-use Rattle.index_walk.specs.declared.Next.{Next}
-use Rattle.index_walk.specs.Walking.{begin, nextEntry}
+use Rattle.index_walk.specs.declared.NextEntry.{NextEntry}
+use Rattle.index_walk.specs.Walking.{walkStart, nextEntry}
 use Rattle.index_walk.proofs.Walk as L
 use Rattle.index_walk.proofs.Walk.Laws as L′
-use Rattle.index_walk.proofs.Next as N
-use Rattle.index_walk.proofs.Next.Laws as N′
+use Rattle.index_walk.proofs.NextEntry as N
+use Rattle.index_walk.proofs.NextEntry.Laws as N′
 use Rattle.index_walk.proofs.start as start-fn
 use Rattle.index_walk.proofs.start.Symbol as start-def
 use Rattle.index_walk.proofs.start.Symbol.{name as #start}
@@ -67,18 +67,18 @@ use Rattle.index_walk.proofs.next_entry as next-fn
 use Rattle.index_walk.proofs.next_entry.Symbol as next-def
 use Rattle.index_walk.proofs.next_entry.Symbol.{name as #next-entry}
 use Rattle.index_walk.proofs.next_entry.Met as next-thm
-use Rattle.face_replies.specs.declared.Plan.{Plan}
-use Rattle.face_replies.specs.Plans.{planIndex}
-use Rattle.face_replies.proofs.Plan as P
-use Rattle.face_replies.proofs.Plan.Laws as P′
+use Rattle.face_replies.specs.declared.IndexPlan.{IndexPlan}
+use Rattle.face_replies.specs.IndexPlans.{planIndex}
+use Rattle.face_replies.proofs.IndexPlan as P
+use Rattle.face_replies.proofs.IndexPlan.Laws as P′
 use Rattle.face_replies.proofs.MadeReply as R
 use Rattle.face_replies.proofs.MadeReply.Laws as R′
 use Rattle.gdt.specs.Filling.{walkAfter, stored}
 use Rattle.gdt.proofs.FillingLaws.{walk-none, stored-none, walk-next, stored-next, length-stored, Fills, fills}
-use Rattle.gdt.proofs.plan_index as plan-fn
-use Rattle.gdt.proofs.plan_index.Symbol as plan-def
-use Rattle.gdt.proofs.plan_index.Symbol.{name as #plan-index}
-use Rattle.gdt.proofs.plan_index.Met as plan-thm
+use Rattle.gdt.proofs.plan_of as plan-fn
+use Rattle.gdt.proofs.plan_of.Symbol as plan-def
+use Rattle.gdt.proofs.plan_of.Symbol.{name as #plan-of}
+use Rattle.gdt.proofs.plan_of.Met as plan-thm
 use Rattle.gdt.proofs.gdt_index.Key.{name as #gdt-index}
 use Rattle.gdt.proofs.gdt_index as index
 use Rattle.gdt.proofs.gdt_index.Statement as stated
@@ -113,27 +113,27 @@ after (exit n) = skipᴹ
 after return = skipᴹ
 after (call f xs r) = skipᴹ
 
--- a turn of the loop behind its test
+-- a turn of the loop after its test
 abbrev turn-rest : Body
 turn-rest = after (after body.turn-1)
 
 abbrev walk-val : Walk → Val
 walk-val w = LL.val L.the-type L′.the-laws w
 
-abbrev next-val : Next → Val
+abbrev next-val : NextEntry → Val
 next-val r = LL.val N.the-type N′.the-laws r
 
-abbrev plan-val : Plan → Val
+abbrev plan-val : IndexPlan → Val
 plan-val p = LL.val P.the-type P′.the-laws p
 
-abbrev reply-val : Plan → Val
+abbrev reply-val : IndexPlan → Val
 reply-val p = LL.val R.the-type R′.the-laws (p .reply)
 
 -- the numbers of a walk and of a plan fit their words
 abbrev WalkFits : Walk → Type 0
 WalkFits w = Is L.the-row w (walk-val w ∷ [])
 
-abbrev PlanFits : Plan → Type 0
+abbrev PlanFits : IndexPlan → Type 0
 PlanFits p = Is P.the-row p (plan-val p ∷ [])
 
 -- what a call returned is a record's only value, so its fields can be read
@@ -141,7 +141,7 @@ head : List Val → Val
 head [] = vunit
 head (v ∷ vs) = v
 
-only-next : (r : Next) (v : Val) → Is N.the-row r (v ∷ []) → v ≡ next-val r
+only-next : (r : NextEntry) (v : Val) → Is N.the-row r (v ∷ []) → v ≡ next-val r
 unfolding head
 only-next r v is = ap head (LL.tells N.the-type N′.the-laws r (v ∷ []) is)
 
@@ -149,18 +149,18 @@ only-walk : (w : Walk) (v : Val) → Is L.the-row w (v ∷ []) → v ≡ walk-va
 unfolding head
 only-walk w v is = ap head (LL.tells L.the-type L′.the-laws w (v ∷ []) is)
 
-only-plan : (p : Plan) (v : Val) → Is P.the-row p (v ∷ []) → v ≡ plan-val p
+only-plan : (p : IndexPlan) (v : Val) → Is P.the-row p (v ∷ []) → v ≡ plan-val p
 unfolding head
 only-plan p v is = ap head (LL.tells P.the-type P′.the-laws p (v ∷ []) is)
 
-plan-fits : (p : Plan) (v : Val) → Is P.the-row p (v ∷ []) → PlanFits p
+plan-fits : (p : IndexPlan) (v : Val) → Is P.the-row p (v ∷ []) → PlanFits p
 plan-fits p v is = subst (λ (u : Val). Is P.the-row p (u ∷ [])) (only-plan p v is) is
 
 walk-fits : (w : Walk) (v : Val) → Is L.the-row w (v ∷ []) → WalkFits w
 walk-fits w v is = subst (λ (u : Val). Is L.the-row w (u ∷ [])) (only-walk w v is) is
 
--- a plan's answer fits where the plan does
-reply-fits : (p : Plan) → PlanFits p → Is R.the-row (p .reply) (reply-val p ∷ [])
+-- a plan's answer fits if the plan does
+reply-fits : (p : IndexPlan) → PlanFits p → Is R.the-row (p .reply) (reply-val p ∷ [])
 reply-fits p h = LL.owed P.the-type P′.the-laws p (plan-val p ∷ []) h .1 .0
 
 -- ---- the contracts of the three callees
@@ -211,21 +211,21 @@ module _ {M : Type 1} (𝓤 : URA M) (H : Heap 𝓤) (A : Atoms 𝓤) (W : Given
 
   -- `out` and the walk after i turns
   abbrev out-after : ℕ → List Entry
-  out-after i = stored s begin i d
+  out-after i = stored s walkStart i d
 
   abbrev walk-after : ℕ → Walk
-  walk-after i = walkAfter s begin i
+  walk-after i = walkAfter s walkStart i
 
   length-after : (i : ℕ) → length (out-after i) ≡ length d
-  length-after i = length-stored s begin i d
+  length-after i = length-stored s walkStart i d
 
-  -- ---- what `plan_index` takes and tells
+  -- ---- what `plan_of` takes and answers
 
-  abbrev Planned : Plan → Type 0
+  abbrev Planned : IndexPlan → Type 0
   Planned p = p ≡ planIndex (judge s) (length d)
 
-  planned-fills : (p : Plan) → Planned p → Fills s d p
-  planned-fills p e = subst (λ (x : Plan). Fills s d x) (sym e) (fills s d)
+  planned-fills : (p : IndexPlan) → Planned p → Fills s d p
+  planned-fills p e = subst (λ (x : IndexPlan). Fills s d x) (sym e) (fills s d)
 
   abbrev to-plan : Planning 𝓤 H A mem run .Ghost
   to-plan = (((κ, tt), (q, tt), tt, (lent, (length d, tt)), (set-val ∷ [], (vint w64 (length d) ∷ [], tt))), tt)
@@ -236,10 +236,10 @@ module _ {M : Type 1} (𝓤 : URA M) (H : Heap 𝓤) (A : Atoms 𝓤) (W : Given
       nothing ! $ owned ! usize (Is usize) (uint-makes 𝓤 H A W w64) (length d) _ (refl, room .0) $ fjoin ! $
       move ! (2 ∷ 0 ∷ []) $ fjoin ! $ move ! (1 ∷ 0 ∷ []) $ join ! $ frame ! $ done !
 
-  said-plan : (p : Plan) → ent 𝓤 (ensured 𝓤 H A plan-fn.ended (plan-fn.clauses 𝓤 H A mem run) (κ, tt) (lent, (length d, tt)) tt p) (fact 𝓤 (Planned p))
+  said-plan : (p : IndexPlan) → ent 𝓤 (ensured 𝓤 H A plan-fn.ended (plan-fn.clauses 𝓤 H A mem run) (κ, tt) (lent, (length d, tt)) tt p) (fact 𝓤 (Planned p))
   said-plan p = exE 𝓤 _ (λ ws. snd∗ 𝓤 (sem 𝓤 H A (lasts plan-fn.ended (κ, tt) (lent, (length d, tt)) ws)) (fact 𝓤 (Planned p)))
 
-  -- ---- what `start` takes, which is nothing, and tells
+  -- ---- what `start` takes, which is nothing, and answers
 
   abbrev to-start : Starting 𝓤 H A mem run .Ghost
   to-start = ((tt, tt, tt, tt, tt), tt)
@@ -247,10 +247,10 @@ module _ {M : Type 1} (𝓤 : URA M) (H : Heap 𝓤) (A : Atoms 𝓤) (W : Given
   goes-start : ent 𝓤 (sem 𝓤 H A ftrue) (Starting 𝓤 H A mem run .pre to-start)
   goes-start = qed W (‵ ftrue ∷ []) ∵ nothing ! $ join ! $ frame ! $ done !
 
-  said-start : (w : Walk) → ent 𝓤 (ensured 𝓤 H A start-fn.ended (start-fn.clauses 𝓤 H A mem run) tt tt tt w) (fact 𝓤 (w ≡ begin))
-  said-start w = exE 𝓤 _ (λ ws. snd∗ 𝓤 (sem 𝓤 H A (lasts start-fn.ended tt tt ws)) (fact 𝓤 (w ≡ begin)))
+  said-start : (w : Walk) → ent 𝓤 (ensured 𝓤 H A start-fn.ended (start-fn.clauses 𝓤 H A mem run) tt tt tt w) (fact 𝓤 (w ≡ walkStart))
+  said-start w = exE 𝓤 _ (λ ws. snd∗ 𝓤 (sem 𝓤 H A (lasts start-fn.ended tt tt ws)) (fact 𝓤 (w ≡ walkStart)))
 
-  -- ---- what `next_entry` takes and tells
+  -- ---- what `next_entry` takes and answers
 
   abbrev to-next : Walk → Stepping 𝓤 H A mem run .Ghost
   to-next w = (((κ, tt), (q, tt), tt, (lent, (w, tt)), (set-val ∷ [], (walk-val w ∷ [], tt))), tt)
@@ -261,16 +261,16 @@ module _ {M : Type 1} (𝓤 : URA M) (H : Heap 𝓤) (A : Atoms 𝓤) (W : Given
       nothing ! $ owned ! L.the-row (Is L.the-row) (LL.makes L.the-type L′.the-plain 𝓤 H A) w _ g $ fjoin ! $
       move ! (2 ∷ 0 ∷ []) $ fjoin ! $ move ! (1 ∷ 0 ∷ []) $ join ! $ frame ! $ done !
 
-  abbrev Stepped : Walk → Next → Type 0
+  abbrev Stepped : Walk → NextEntry → Type 0
   Stepped w r = r ≡ nextEntry s w
 
-  said-next : (w : Walk) (r : Next)
+  said-next : (w : Walk) (r : NextEntry)
       → ent 𝓤 (ensured 𝓤 H A next-fn.ended (next-fn.clauses 𝓤 H A mem run) (κ, tt) (lent, (w, tt)) tt r) (fact 𝓤 (Stepped w r))
   said-next w r = exE 𝓤 _ (λ ws. snd∗ 𝓤 (sem 𝓤 H A (lasts next-fn.ended (κ, tt) (lent, (w, tt)) ws)) (fact 𝓤 (Stepped w r)))
 
   -- ---- the end: all entries of the plan are stored
 
-  exits : (p : Plan) → Planned p → PlanFits p → (i : ℕ) → i ≡ p .count
+  exits : (p : IndexPlan) → Planned p → PlanFits p → (i : ℕ) → i ≡ p .count
       → ent 𝓤 (⋆ 𝓤 H A (‵ (Obs (out-after i)) ∷ ‵ (Bor (out-after i)) ∷ ‵ (flft κ′ q′) ∷ ‵ (flft κ q) ∷ ‵ Own ∷ [])) (Post (reply-val p))
   exits p e h i all =
       let f = planned-fills p e in
@@ -285,10 +285,11 @@ module _ {M : Type 1} (𝓤 : URA M) (H : Heap 𝓤) (A : Atoms 𝓤) (W : Given
       nothing ! $ move ! (1 ∷ 0 ∷ []) $ fjoin ! $ move ! (1 ∷ 0 ∷ []) $ fjoin ! $
       owned ! R.the-row (Is R.the-row) (LL.makes R.the-type R′.the-plain 𝓤 H A) (p .reply) _ (reply-fits p h) $ move ! (1 ∷ 0 ∷ []) $ done !
 
-  module _ (𝓣 : Tables 𝓤 H) (known-plan : Triple 𝓤 (𝓣 .C #plan-index) (Planning 𝓤 H A mem run)) (known-start : Triple 𝓤 (𝓣 .C #start) (Starting 𝓤 H A mem run)) (known-next : Triple 𝓤 (𝓣 .C #next-entry) (Stepping 𝓤 H A mem run)) where
-    -- ---- behind the call of `plan_index`
+  module _ (𝓣 : Tables 𝓤 H) (known-plan : Triple 𝓤 (𝓣 .C #plan-of) (Planning 𝓤 H A mem run))
+      (known-start : Triple 𝓤 (𝓣 .C #start) (Starting 𝓤 H A mem run)) (known-next : Triple 𝓤 (𝓣 .C #next-entry) (Stepping 𝓤 H A mem run)) where
+    -- ---- after the call of `plan_of`
     -- The locals stand at: l₀ the result, l₁ set, l₂ out, l₃ plan, l₄ walk, l₅ i, l₆ next, l₇ out's length, l₈ the loop's test, l₉ and l₁₀ the offset and the place of out[i].
-    module _ (p : Plan) (e : Planned p) (h : PlanFits p) (l₀ l₁ l₂ l₃ l₄ l₅ l₆ l₇ l₈ l₉ l₁₀ : ℕ) where
+    module _ (p : IndexPlan) (e : Planned p) (h : PlanFits p) (l₀ l₁ l₂ l₃ l₄ l₅ l₆ l₇ l₈ l₉ l₁₀ : ℕ) where
       abbrev En : Env 𝓤 H
       En = (R′.mir, l₀) ∷ (set-ty, l₁) ∷ (out-ty, l₂) ∷ (P′.mir, l₃) ∷ (L′.mir, l₄) ∷ (word, l₅) ∷ (N′.mir, l₆) ∷ (word, l₇) ∷ (tyBool, l₈) ∷ (word, l₉) ∷ (tyPtr, l₁₀) ∷ []
 
@@ -305,7 +306,7 @@ module _ {M : Type 1} (𝓤 : URA M) (H : Heap 𝓤) (A : Atoms 𝓤) (W : Given
       Nearer-wf : WellFounded Nearer
       Nearer-wf = InvImage·wf (λ (i : Upto). p .count - i .0) (Nat·lt-wfRel .wf)
 
-      -- all that there is around the loop, where `out` holds l: 0 to 4, then each local with its end, the last local first
+      -- all that there is around the loop, with l in `out`: 0 to 4, then each local with its end, the last local first
       abbrev Around : List Entry → Item 𝓤 → Item 𝓤 → List (Item 𝓤)
       Around l count walk = ‵ (Obs l) ∷ ‵ (Bor l) ∷ ‵ (flft κ′ q′) ∷ ‵ (flft κ q) ∷ ‵ Own
           ∷ ‵ (froom tyPtr l₁₀ 0) ∷ ‵ (fdies tyPtr l₁₀) ∷ ‵ (froom word l₉ 0) ∷ ‵ (fdies word l₉) ∷ ‵ (froom tyBool l₈ 0) ∷ ‵ (fdies tyBool l₈)
@@ -337,7 +338,7 @@ module _ {M : Type 1} (𝓤 : URA M) (H : Heap 𝓤) (A : Atoms 𝓤) (W : Given
           calls-at ! (fmOf 𝓤 H (W .laws) 𝓣) (Stepping 𝓤 H A mem run) known-next (to-next now-walk)
           (and-then ! (load ! (from ! (stop !)) (look ! 23 refl))
           (and-then ! (load ! (from ! (stop !)) (look ! 17 refl)) (no-more !))) (λ v.
-          use1 W (later (some (λ (r : Next). ((‵ (flft κ q) ⊛ ‵ ftrue) ⊛ ‵ (N.the-row .own r (v ∷ [])))
+          use1 W (later (some (λ (r : NextEntry). ((‵ (flft κ q) ⊛ ‵ ftrue) ⊛ ‵ (N.the-row .own r (v ∷ [])))
           ⊛ raw (ensured 𝓤 H A next-fn.ended (next-fn.clauses 𝓤 H A mem run) (κ, tt) (lent, (now-walk, tt)) tt r)))) (id⊢ 𝓤 _) $ await ! tt $ pick ! (λ r.
           split ! $ move ! (1 ∷ []) $ use1 W (raw (fact 𝓤 (Stepped now-walk r))) (said-next now-walk r) $ heard ! (Stepped now-walk r) (λ said. split ! $
           move ! (1 ∷ []) $ peeks ! N.the-row (Is N.the-row) (shows 𝓤 H A N.the-row) r (v ∷ []) (λ is.
@@ -371,10 +372,10 @@ module _ {M : Type 1} (𝓤 : URA M) (H : Heap 𝓤) (A : Atoms 𝓤) (W : Given
           (from ! (stop !)) (store ! 17 refl (tt, record { fits = up less })) $
           forget ! 7 refl $ forget ! 9 refl $ forget ! 11 refl $ forget ! 15 refl $ move ! (4 ∷ 5 ∷ []) $ drop ! $ drop ! $
           -- back at the loop's head, with i + 1
-          rewrite ! 0 (λ (l : List Entry). ‵ (Obs l)) (stored-next s begin (i .0) d r said) refl $
-          rewrite ! 1 (λ (l : List Entry). ‵ (Bor l)) (stored-next s begin (i .0) d r said) refl $
-          rewrite ! 17 (λ (w : Walk). ‵ (fat fullShare L′.mir l₄ 0 (walk-val w))) (walk-next s begin (i .0) r said) refl $
-          again ! Nearer At i (i .0 + 1, (add-one-le (small less), subst WalkFits (walk-next s begin (i .0) r said) (parts .1 .0)))
+          rewrite ! 0 (λ (l : List Entry). ‵ (Obs l)) (stored-next s walkStart (i .0) d r said) refl $
+          rewrite ! 1 (λ (l : List Entry). ‵ (Bor l)) (stored-next s walkStart (i .0) d r said) refl $
+          rewrite ! 17 (λ (w : Walk). ‵ (fat fullShare L′.mir l₄ 0 (walk-val w))) (walk-next s walkStart (i .0) r said) refl $
+          again ! Nearer At i (i .0 + 1, (add-one-le (small less), subst WalkFits (walk-next s walkStart (i .0) r said) (parts .1 .0)))
           (add-one-dec (p .count) (i .0) (small less))))))))
           -- the loop is over: the result is plan.reply, and the locals end
           (λ over. jumps ! $ exec ! (𝓣 .C) (𝓣 .Λ) En body.t-6 (atRet En Post) $
@@ -402,25 +403,25 @@ module _ {M : Type 1} (𝓤 : URA M) (H : Heap 𝓤) (A : Atoms 𝓤) (W : Given
           up : Holds (ltb (i .0) (p .count)) → i .0 + 1 < 2 ^ 64
           up less = omega (arith, room .0, small less, within)
 
-      -- once `plan_index` has answered: walk = start(), i = 0, then the loop
+      -- once `plan_of` has answered: walk = start(), i = 0, then the loop
       begins : Sq W (Around d (‵ (froom word l₅ 0)) (‵ (froom L′.mir l₄ 0))) (runs (𝓣 .C) (𝓣 .Λ) En body.t-3 (atRet En Post))
       begins =
           nothing ! $ use1 W (raw (Starting 𝓤 H A mem run .pre to-start)) goes-start $
           calls-at ! (fmOf 𝓤 H (W .laws) 𝓣) (Starting 𝓤 H A mem run) known-start to-start (no-more !) (λ v.
           use1 W (later (some (λ (w : Walk). (‵ ftrue ⊛ ‵ (L.the-row .own w (v ∷ [])))
           ⊛ raw (ensured 𝓤 H A start-fn.ended (start-fn.clauses 𝓤 H A mem run) tt tt tt w)))) (id⊢ 𝓤 _) $ await ! tt $ pick ! (λ w.
-          split ! $ move ! (1 ∷ []) $ use1 W (raw (fact 𝓤 (w ≡ begin))) (said-start w) $ heard ! (w ≡ begin) (λ said. split ! $
+          split ! $ move ! (1 ∷ []) $ use1 W (raw (fact 𝓤 (w ≡ walkStart))) (said-start w) $ heard ! (w ≡ walkStart) (λ said. split ! $
           move ! (1 ∷ []) $ peeks ! L.the-row (Is L.the-row) (shows 𝓤 H A L.the-row) w (v ∷ []) (λ is.
-          let fits : WalkFits begin = subst WalkFits said (walk-fits w v is) in
+          let fits : WalkFits walkStart = subst WalkFits said (walk-fits w v is) in
           -- [what w owns; true; obs; the borrow; ..]
           land ! (from ! (stop !)) (init ! 19 refl (LL.lawful L.the-type L′.the-laws 𝓤 H A W .typed w _ is .0)) $ drop ! $ drop ! $
           assigns ! (of-opd ! (lit ! tt)) (from ! (stop !)) (init ! 15 refl (tt, record { fits = lit< tt })) $
-          rewrite ! 0 (λ (l : List Entry). ‵ (Obs l)) (stored-none s begin d) refl $
-          rewrite ! 1 (λ (l : List Entry). ‵ (Bor l)) (stored-none s begin d) refl $
-          rewrite ! 17 (λ (u : Val). ‵ (fat fullShare L′.mir l₄ 0 u)) (only-walk w v is ∙ ap walk-val (said ∙ walk-none s begin)) refl $
-          first ! $ blocks ! $ loops ! 𝓣 Nearer Nearer-wf At turns (0, (zero-le, subst WalkFits (walk-none s begin) fits))))))
+          rewrite ! 0 (λ (l : List Entry). ‵ (Obs l)) (stored-none s walkStart d) refl $
+          rewrite ! 1 (λ (l : List Entry). ‵ (Bor l)) (stored-none s walkStart d) refl $
+          rewrite ! 17 (λ (u : Val). ‵ (fat fullShare L′.mir l₄ 0 u)) (only-walk w v is ∙ ap walk-val (said ∙ walk-none s walkStart)) refl $
+          first ! $ blocks ! $ loops ! 𝓣 Nearer Nearer-wf At turns (0, (zero-le, subst WalkFits (walk-none s walkStart) fits))))))
 
-    -- ---- from entry to the answer of `plan_index`
+    -- ---- from entry to the answer of `plan_of`
     walk : ent 𝓤 (onEntry 𝓤 H A index.signature (κ, (κ′, tt)) (q, (q′, tt)) args vals) (WpFn 𝓤 H (𝓣 .C) (𝓣 .Λ) code.function (set-val ∷ out-val ∷ []) Post)
     walk =
         qed W ((‵ (flft κ q) ⊛ ‵ (flft κ′ q′) ⊛ ‵ ftrue) ∷ ‵ (owns (ShrSlice (named 0) κ u8 ∷ MutSlice (named 1) κ′ E.the-row ∷ []) args vals) ∷ []) ∵
@@ -438,10 +439,10 @@ module _ {M : Type 1} (𝓤 : URA M) (H : Heap 𝓤) (A : Atoms 𝓤) (W : Given
         move ! (28 ∷ []) $ split ! $ move ! (1 ∷ []) $ split ! $
         -- [out's token; true; set's token; what set owns, twice; obs; the borrow; out's fact; true; l₁₀ ..]
         move ! (2 ∷ 3 ∷ []) $ use2 W (raw (Planning 𝓤 H A mem run .pre to-plan)) goes-plan $
-        -- plan = plan_index(set, out.len()): [what the call takes; out's token; true; what set owns; obs; the borrow; out's fact; true; l₁₀ ..]
+        -- plan = plan_of(set, out.len()): [what the call takes; out's token; true; what set owns; obs; the borrow; out's fact; true; l₁₀ ..]
         calls-at ! (fmOf 𝓤 H (W .laws) 𝓣) (Planning 𝓤 H A mem run) known-plan to-plan
         (and-then ! (load ! (from ! (stop !)) (look ! 26 refl)) (and-then ! (load ! (from ! (stop !)) (look ! 14 refl)) (no-more !))) (λ v.
-        use1 W (later (some (λ (p : Plan). ((‵ (flft κ q) ⊛ ‵ ftrue) ⊛ ‵ (P.the-row .own p (v ∷ [])))
+        use1 W (later (some (λ (p : IndexPlan). ((‵ (flft κ q) ⊛ ‵ ftrue) ⊛ ‵ (P.the-row .own p (v ∷ [])))
         ⊛ raw (ensured 𝓤 H A plan-fn.ended (plan-fn.clauses 𝓤 H A mem run) (κ, tt) (lent, (length d, tt)) tt p)))) (id⊢ 𝓤 _) $ await ! tt $ pick ! (λ p.
         split ! $ move ! (1 ∷ []) $ use1 W (raw (fact 𝓤 (Planned p))) (said-plan p) $ heard ! (Planned p) (λ e. split ! $
         move ! (1 ∷ []) $ peeks ! P.the-row (Is P.the-row) (shows 𝓤 H A P.the-row) p (v ∷ []) (λ is.
@@ -456,7 +457,8 @@ module _ {M : Type 1} (𝓤 : URA M) (H : Heap 𝓤) (A : Atoms 𝓤) (W : Given
 -- ---- the walk is the contract
 
 module _ {M : Type 1} (𝓤 : URA M) (H : Heap 𝓤) (A : Atoms 𝓤) (W : Given 𝓤 H A) (mem : Memory → SProp 𝓤) (run : Routine → Fun 𝓤) (𝓣 : Tables 𝓤 H)
-    (known-plan : Triple 𝓤 (𝓣 .C #plan-index) (Planning 𝓤 H A mem run)) (known-start : Triple 𝓤 (𝓣 .C #start) (Starting 𝓤 H A mem run)) (known-next : Triple 𝓤 (𝓣 .C #next-entry) (Stepping 𝓤 H A mem run)) where
+    (known-plan : Triple 𝓤 (𝓣 .C #plan-of) (Planning 𝓤 H A mem run)) (known-start : Triple 𝓤 (𝓣 .C #start) (Starting 𝓤 H A mem run))
+    (known-next : Triple 𝓤 (𝓣 .C #next-entry) (Stepping 𝓤 H A mem run)) where
   index-walks : Walks 𝓤 H A index.ended stayed (WpFn 𝓤 H (𝓣 .C) (𝓣 .Λ) code.function) (index.clauses 𝓤 H A mem run)
   index-walks =
       walked 𝓤 H A index.ended stayed (index.clauses 𝓤 H A mem run) (WpFn 𝓤 H (𝓣 .C) (𝓣 .Λ) code.function)
@@ -477,6 +479,6 @@ gdt-index-spec 𝓤 H 𝓜 𝓖 𝓡 =
     entered 𝓤 H (tripleOf 𝓤 H (𝓖 .A) index.signature (index.spec 𝓤 H (𝓖 .A) (𝓜 .mem) (𝓡 .run)))
     (tables 𝓤 H 𝓜 𝓡 code.env .C) (tables 𝓤 H 𝓜 𝓡 code.env .Λ) #gdt-index code.function (code.unfolded 𝓤 H 𝓜 𝓡)
     (index-meets 𝓤 H (𝓖 .A) (givenOf 𝓤 H 𝓜 𝓖) (𝓜 .mem) (𝓡 .run) (tablesOf 𝓤 H 𝓜 (tables 𝓤 H 𝓜 𝓡 code.env))
-    (cited 𝓤 H (Planning 𝓤 H (𝓖 .A) (𝓜 .mem) (𝓡 .run)) 𝓜 𝓡 code.env #plan-index plan-def.routine code.calls-gdt·plan-index (plan-thm.met 𝓤 H 𝓜 𝓖 𝓡))
+    (cited 𝓤 H (Planning 𝓤 H (𝓖 .A) (𝓜 .mem) (𝓡 .run)) 𝓜 𝓡 code.env #plan-of plan-def.routine code.calls-gdt·plan-of (plan-thm.met 𝓤 H 𝓜 𝓖 𝓡))
     (cited 𝓤 H (Starting 𝓤 H (𝓖 .A) (𝓜 .mem) (𝓡 .run)) 𝓜 𝓡 code.env #start start-def.routine code.calls-index-walk·start (start-thm.met 𝓤 H 𝓜 𝓖 𝓡))
     (cited 𝓤 H (Stepping 𝓤 H (𝓖 .A) (𝓜 .mem) (𝓡 .run)) 𝓜 𝓡 code.env #next-entry next-def.routine code.calls-index-walk·next-entry (next-thm.met 𝓤 H 𝓜 𝓖 𝓡)))

@@ -15,7 +15,10 @@ same-length : tie.Need-same-length
 same-length c = search needs
 
 returns : tie.Need-returns
-returns c = (c .made-reply .ensures ∙ ap madeReply (c .before .before .before .list .ensures .0), c .before .before .before .list .ensures .1)
+returns c =
+    let at-out = c .before .before in
+    let at-list = at-out .before in
+    (c .made-reply .ensures ∙ ap madeReply (at-list .list .ensures .0), at-list .list .ensures .1)
 
 pub gdt-list-spec : {M : Type 1} → statement M
 gdt-list-spec = tie.close (tie.spec list-requires made-reply-requires same-length returns)

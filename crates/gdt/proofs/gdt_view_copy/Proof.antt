@@ -24,7 +24,14 @@ same-length : tie.Need-same-length
 same-length c = search needs
 
 returns : tie.Need-returns
-returns c = copied-part _ _ (c .before .before .before .before .before .before .before .before .before .before .args .out .now) _ (c .before .before .before .before .before .before .view .ensures) (c .before .before .before .before .before .if1 .taken) (c .before .before .copy-front .ensures)
+returns c =
+    let at-copy-front = c .before .before in
+    let at-copy-front-arg = at-copy-front .before .before in
+    let at-if1 = at-copy-front-arg .before in
+    let at-view = at-if1 .before in
+    let at-shared-slice-known2 = at-view .before .before in
+    let at-start = at-shared-slice-known2 .before .before in
+    copied-part _ _ (at-start .args .out .now) _ (at-view .view .ensures) (at-if1 .if1 .taken) (at-copy-front .copy-front .ensures)
 
 copy-front-requires-2 : tie.Need-copy-front-requires-2
 copy-front-requires-2 c κs = search needs
@@ -33,7 +40,13 @@ same-length-2 : tie.Need-same-length-2
 same-length-2 c = search needs
 
 returns-2 : tie.Need-returns-2
-returns-2 c = copied-whole _ _ (c .before .before .before .before .before .before .before .before .before .args .out .now) _ (c .before .before .before .before .before .view .ensures) (c .before .before .before .before .if1 .left) (c .before .before .copy-front2 .ensures)
+returns-2 c =
+    let at-copy-front2 = c .before .before in
+    let at-if1 = at-copy-front2 .before .before in
+    let at-view = at-if1 .before in
+    let at-shared-slice-known2 = at-view .before .before in
+    let at-start = at-shared-slice-known2 .before .before in
+    copied-whole _ _ (at-start .args .out .now) _ (at-view .view .ensures) (at-if1 .if1 .left) (at-copy-front2 .copy-front2 .ensures)
 
 pub gdt-view-copy-spec : {M : Type 1} → statement M
 gdt-view-copy-spec =

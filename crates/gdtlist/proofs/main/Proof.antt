@@ -41,10 +41,14 @@ array-share-prefix-room c = search needs
 
 slice-aggregate-print-sets : tie.Need-slice-aggregate-print-sets
 slice-aggregate-print-sets c =
-    let n = c .before .before .before .n .given .0 .0 in
-    let r = c .before .before .before .before .before .before .read-input .last .0 in
-    let q : length r ≡ 65537 = c .before .before .before .before .before .room2 .given in
-    omega (arith, q, length-take n r, c .before .if1 .left)
+    let at-if1 = c .before in
+    let at-n = at-if1 .before .before in
+    let at-room2 = at-n .before .before in
+    let at-read-input = at-room2 .before in
+    let n = at-n .n .given .0 .0 in
+    let r = at-read-input .read-input .last .0 in
+    let q : length r ≡ 65537 = at-room2 .room2 .given in
+    omega (arith, q, length-take n r, at-if1 .if1 .left)
 
 print-sets-requires : tie.Need-print-sets-requires
 print-sets-requires c κs = search needs

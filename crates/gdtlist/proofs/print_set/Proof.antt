@@ -1,4 +1,4 @@
--- `print_set` answers the length that `judge` tells, 0 for a refusal.
+-- `print_set` answers the length that `judge` gives, 0 for a refusal.
 use mathlib.Core.Path.{sym, ap, _∙_}
 use borrow.Author.Needs.{needs}
 use lib.ListN.{length}
@@ -23,10 +23,16 @@ print-accepted-requires : tie.Need-print-accepted-requires
 print-accepted-requires c κs = search needs
 
 returns : tie.Need-returns
-returns c = ap (λ (x : Judged). judgedShape x .length) (sym (c .before .before .r .given .1) ∙ c .before .before .before .before .judge .ensures)
+returns c =
+    let at-r = c .before .before in
+    let at-judge = at-r .before .before in
+    ap (λ (x : Judged). judgedShape x .length) (sym (at-r .r .given .1) ∙ at-judge .judge .ensures)
 
 returns-2 : tie.Need-returns-2
-returns-2 c = ap (λ (x : Judged). judgedShape x .length) (sym (c .before .before .shape .given .1) ∙ c .before .before .before .before .judge .ensures)
+returns-2 c =
+    let at-shape = c .before .before in
+    let at-judge = at-shape .before .before in
+    ap (λ (x : Judged). judgedShape x .length) (sym (at-shape .shape .given .1) ∙ at-judge .judge .ensures)
 
 pub print-set-spec : {M : Type 1} → statement M
 print-set-spec =

@@ -15,7 +15,10 @@ same-length : tie.Need-same-length
 same-length c = search needs
 
 returns : tie.Need-returns
-returns c = (c .made-reply .ensures ∙ ap madeReply (c .before .before .before .write .ensures .0), c .before .before .before .write .ensures .1)
+returns c =
+    let at-out = c .before .before in
+    let at-write = at-out .before in
+    (c .made-reply .ensures ∙ ap madeReply (at-write .write .ensures .0), at-write .write .ensures .1)
 
 pub gdt-write-spec : {M : Type 1} → statement M
 gdt-write-spec = tie.close (tie.spec write-requires made-reply-requires same-length returns)

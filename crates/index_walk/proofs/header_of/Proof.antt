@@ -1,7 +1,7 @@
--- `header_of`: what is asked of the label tells which of the two numbers it is.
+-- `header_of`: the test of the label decides between the two numbers.
 use mathlib.Core.Path.{sym, _∙_}
 use borrow.Author.Needs.{needs}
-use Rattle.index_walk.proofs.LabelLaws.{of-member, of-other}
+use Rattle.index_walk.proofs.GroupLabelLaws.{of-member, of-other}
 use Rattle.index_walk.proofs.header_of.Statement.{statement}
 use Rattle.index_walk.proofs.header_of.Tie as tie
 

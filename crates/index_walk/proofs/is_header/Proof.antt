@@ -1,7 +1,7 @@
 -- `is_header`: each return by the law of the label that its tests leave.
 use mathlib.Core.Path.{sym, _∙_}
 use borrow.Author.Needs.{needs}
-use Rattle.index_walk.proofs.LabelLaws.{header-above, header-8410, header-pair, header-other}
+use Rattle.index_walk.proofs.GroupLabelLaws.{header-above, header-8410, header-pair, header-other}
 use Rattle.index_walk.proofs.is_header.Statement.{statement}
 use Rattle.index_walk.proofs.is_header.Tie as tie
 

@@ -23,13 +23,24 @@ enum-known-label : tie.Need-enum-known-label
 enum-known-label c = search needs
 
 first-line-requires : tie.Need-first-line-requires
-first-line-requires c κs = (sym (c .before .before .before .line-at .ensures) ∙ c .before .label .given .1)
+first-line-requires c κs =
+    let at-label = c .before in
+    let at-line-at = at-label .before .before in
+    (sym (at-line-at .line-at .ensures) ∙ at-label .label .given .1)
 
 returns-2 : tie.Need-returns-2
-returns-2 c = judge-unread _ (c .before .before .before .before .if1 .left) _ (sym (c .before .before .before .line-at .ensures) ∙ c .before .r .given .1) ∙ judge-is _
+returns-2 c =
+    let at-r = c .before in
+    let at-line-at = at-r .before .before in
+    let at-if1 = at-line-at .before in
+    judge-unread _ (at-if1 .if1 .left) _ (sym (at-line-at .line-at .ensures) ∙ at-r .r .given .1) ∙ judge-is _
 
 returns-3 : tie.Need-returns-3
-returns-3 c = c .first-line .ensures ∙ (judge-read _ (c .before .before .before .before .before .if1 .left) _ _ (sym (c .before .before .before .before .line-at .ensures) ∙ c .before .before .label .given .1) ∙ judge-is _)
+returns-3 c =
+    let at-label = c .before .before in
+    let at-line-at = at-label .before .before in
+    let at-if1 = at-line-at .before in
+    c .first-line .ensures ∙ (judge-read _ (at-if1 .if1 .left) _ _ (sym (at-line-at .line-at .ensures) ∙ at-label .label .given .1) ∙ judge-is _)
 
 pub judge-spec : {M : Type 1} → statement M
 judge-spec =

@@ -4,7 +4,7 @@ use native.Mathlib.Omega.{arith}
 use borrow.Author.Needs.{needs}
 use Rattle.meaning.specs.declared.Refusal.{Refusal}
 use Rattle.meaning.specs.declared.Judged.{Judged}
-use Rattle.line_read.proofs.Bridge.{read-back}
+use Rattle.line_read.proofs.LineMeaning.{read-back}
 use Rattle.line_scan.specs.Scan.{scanFrom}
 use Rattle.judge_lines.specs.Pass.{firstUnread}
 use Rattle.judge.proofs.StartLaws.{second-none, second-other, second-summed}
@@ -27,22 +27,55 @@ enum-told : tie.Need-enum-told
 enum-told c = search needs
 
 unless-unread-requires : tie.Need-unless-unread-requires
-unless-unread-requires c κs = (omega (arith, read-back (c .before .before .before .before .before .args .s .now) 0 (c .before .before .before .before .before .pre .0) .within), omega arith)
+unless-unread-requires c κs =
+    let at-number-at = c .before .before in
+    let at-at = at-number-at .before in
+    let at-start = at-at .before .before in
+    (omega (arith, read-back (at-start .args .s .now) 0 (at-start .pre .0) .within), omega arith)
 
 returns : tie.Need-returns
-returns c = ap Judged.Refused (c .unless-unread .ensures ∙ ap (λ (x : Refusal). firstUnread (scanFrom (c .before .before .before .before .before .before .args .s .now) (c .before .before .before .before .before .before .args .at) 1 511) x) (c .before .before .before .before .at .ensures)) ∙ second-none _ _ _ (c .before .before .before .before .before .before .pre .0) (sym (c .before .before .before .number-at .ensures) ∙ c .before .enum-told .given .1)
+returns c =
+    let at-enum-told = c .before in
+    let at-number-at = at-enum-told .before .before in
+    let at-at = at-number-at .before in
+    let at-start = at-at .before .before in
+    ap Judged.Refused (c .unless-unread .ensures ∙ ap (λ (x : Refusal). firstUnread (scanFrom (at-start .args .s .now) (at-start .args .at) 1 511) x) (at-at .at .ensures))
+    ∙ second-none _ _ _ (at-start .pre .0) (sym (at-number-at .number-at .ensures) ∙ at-enum-told .enum-told .given .1)
 
 unless-unread-requires-2 : tie.Need-unless-unread-requires-2
-unless-unread-requires-2 c κs = (omega (arith, read-back (c .before .before .before .before .before .before .before .args .s .now) 0 (c .before .before .before .before .before .before .before .pre .0) .within), omega arith)
+unless-unread-requires-2 c κs =
+    let at-number = c .before .before in
+    let at-number-at = at-number .before .before in
+    let at-at = at-number-at .before in
+    let at-start = at-at .before .before in
+    (omega (arith, read-back (at-start .args .s .now) 0 (at-start .pre .0) .within), omega arith)
 
 returns-2 : tie.Need-returns-2
-returns-2 c = ap Judged.Refused (c .unless-unread2 .ensures ∙ ap (λ (x : Refusal). firstUnread (scanFrom (c .before .before .before .before .before .before .before .before .args .s .now) (c .before .before .before .before .before .before .before .before .args .at) 1 511) x) (c .before .before .before .before .before .before .at .ensures)) ∙ second-other _ _ _ (c .before .before .before .before .before .before .before .before .pre .0) _ (sym (c .before .before .before .before .before .number-at .ensures) ∙ c .before .before .before .number .given .1) (c .before .if1 .taken)
+returns-2 c =
+    let at-if1 = c .before in
+    let at-number = at-if1 .before .before in
+    let at-number-at = at-number .before .before in
+    let at-at = at-number-at .before in
+    let at-start = at-at .before .before in
+    ap Judged.Refused (c .unless-unread2 .ensures ∙ ap (λ (x : Refusal). firstUnread (scanFrom (at-start .args .s .now) (at-start .args .at) 1 511) x) (at-at .at .ensures))
+    ∙ second-other _ _ _ (at-start .pre .0) _ (sym (at-number-at .number-at .ensures) ∙ at-number .number .given .1) (at-if1 .if1 .taken)
 
 summed-requires : tie.Need-summed-requires
-summed-requires c κs = (c .before .before .before .before .before .before .before .pre .0, c .before .before .before .before .before .before .before .pre .1)
+summed-requires c κs =
+    let at-number = c .before .before in
+    let at-number-at = at-number .before .before in
+    let at-at = at-number-at .before in
+    let at-start = at-at .before .before in
+    (at-start .pre .0, at-start .pre .1)
 
 returns-3 : tie.Need-returns-3
-returns-3 c = c .summed .ensures ∙ second-summed _ _ _ (c .before .before .before .before .before .before .before .before .pre .0) _ (sym (c .before .before .before .before .before .number-at .ensures) ∙ c .before .before .before .number .given .1) (c .before .if1 .left)
+returns-3 c =
+    let at-if1 = c .before in
+    let at-number = at-if1 .before .before in
+    let at-number-at = at-number .before .before in
+    let at-at = at-number-at .before in
+    let at-start = at-at .before .before in
+    c .summed .ensures ∙ second-summed _ _ _ (at-start .pre .0) _ (sym (at-number-at .number-at .ensures) ∙ at-number .number .given .1) (at-if1 .if1 .left)
 
 pub second-line-spec : {M : Type 1} → statement M
 second-line-spec =

@@ -3,7 +3,7 @@ use Prim.Native.Nat.{_+_}
 use native.Mathlib.Omega.{arith}
 use borrow.Author.Tests.{ne-eqb}
 use Rattle.meaning.specs.Groups.{belongs}
-use Rattle.judge_line.proofs.StepLaws.{behind-name}
+use Rattle.judge_line.proofs.StepLaws.{after-name}
 use Rattle.judge_line.proofs.belongs_to.Statement.{statement}
 use Rattle.judge_line.proofs.belongs_to.Tie as tie
 
@@ -17,7 +17,7 @@ returns-2 c = λ r e. let a = c .before .before .args in rw (e, c .before .if1 .
 
 returns-3 : tie.Need-returns-3
 unfolding belongs
-returns-3 c = λ r e. let a = c .before .before .args in rw (e, c .before .if1 .left, behind-name (a .header) (a .label) (omega arith))
+returns-3 c = λ r e. let a = c .before .before .args in rw (e, c .before .if1 .left, after-name (a .header) (a .label) (omega arith))
 
 pub belongs-to-spec : {M : Type 1} → statement M
 belongs-to-spec = tie.close (tie.spec returns returns-2 returns-3)

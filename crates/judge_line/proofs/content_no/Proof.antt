@@ -15,7 +15,13 @@ kind-of-requires : tie.Need-kind-of-requires
 kind-of-requires c κs = search needs
 
 returns : tie.Need-returns
-returns c = λ q. let p = c .before .before .before .before .before .pre in content-any _ _ _ _ _ (p .0) (p .1) q (sym (c .before .before .before .has-length .ensures) ∙ c .before .before .if1 .taken) _ (c .before .kind-of .ensures) (c .if2 .taken)
+returns c =
+    let at-kind-of = c .before in
+    let at-if1 = at-kind-of .before in
+    let at-has-length = at-if1 .before in
+    let at-start = at-has-length .before .before in
+    λ q. let p = at-start .pre in content-any _ _ _ _ _ (p .0) (p .1) q (sym (at-has-length .has-length .ensures) ∙ at-if1 .if1 .taken) _
+    (at-kind-of .kind-of .ensures) (c .if2 .taken)
 
 sub-fit-no : tie.Need-sub-fit-no
 sub-fit-no c = search needs
@@ -30,10 +36,20 @@ fit-no-requires : tie.Need-fit-no-requires
 fit-no-requires c κs = search needs
 
 returns-2 : tie.Need-returns-2
-returns-2 c = λ q. let p = c .before .before .before .before .before .before .before .pre in c .fit-no .ensures ∙ content-fits _ _ _ _ _ (p .0) (p .1) q (sym (c .before .before .before .before .before .has-length .ensures) ∙ c .before .before .before .before .if1 .taken) _ (c .before .before .before .kind-of .ensures)
+returns-2 c =
+    let at-if2 = c .before .before in
+    let at-kind-of = at-if2 .before in
+    let at-if1 = at-kind-of .before in
+    let at-has-length = at-if1 .before in
+    let at-start = at-has-length .before .before in
+    λ q. let p = at-start .pre in c .fit-no .ensures
+    ∙ content-fits _ _ _ _ _ (p .0) (p .1) q (sym (at-has-length .has-length .ensures) ∙ at-if1 .if1 .taken) _ (at-kind-of .kind-of .ensures)
 
 returns-3 : tie.Need-returns-3
-returns-3 c = λ q. let p = c .before .before .before .pre in content-short _ _ _ _ _ (p .0) (p .1) q (sym (c .before .has-length .ensures) ∙ c .if1 .left)
+returns-3 c =
+    let at-has-length = c .before in
+    let at-start = at-has-length .before .before in
+    λ q. let p = at-start .pre in content-short _ _ _ _ _ (p .0) (p .1) q (sym (at-has-length .has-length .ensures) ∙ c .if1 .left)
 
 pub content-no-spec : {M : Type 1} → statement M
 content-no-spec =

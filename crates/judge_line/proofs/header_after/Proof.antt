@@ -1,4 +1,4 @@
--- `header_after`: behind a member that stands under 6330 nothing is open.
+-- `header_after`: after a member that stands under 6330 nothing is open.
 use borrow.Author.Tests.{ne-eqb}
 use Rattle.judge_line.proofs.header_after.Statement.{statement}
 use Rattle.judge_line.proofs.header_after.Tie as tie

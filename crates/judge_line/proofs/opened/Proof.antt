@@ -14,7 +14,11 @@ clear-requires : tie.Need-clear-requires
 clear-requires c κs = search needs
 
 returns : tie.Need-returns
-returns c = (opened-is _ _ _ (c .before .before .before .before .before .before .args .group) _ _ (c .before .before .before .before .first-lack .ensures), c .clear .ensures, c .before .before .mark .ensures)
+returns c =
+    let at-mark = c .before .before in
+    let at-first-lack = at-mark .before .before in
+    let at-start = at-first-lack .before .before in
+    (opened-is _ _ _ (at-start .args .group) _ _ (at-first-lack .first-lack .ensures), c .clear .ensures, at-mark .mark .ensures)
 
 pub opened-spec : {M : Type 1} → statement M
 opened-spec = tie.close (tie.spec first-lack-requires mark-requires clear-requires returns)

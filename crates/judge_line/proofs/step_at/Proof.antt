@@ -2,7 +2,7 @@
 use mathlib.Core.Path.{refl, sym, _∙_}
 use native.Mathlib.Omega.{arith}
 use borrow.Author.Needs.{needs}
-use Rattle.table_find.proofs.CodeLaws.{code-nothing, coded}
+use Rattle.table_find.proofs.RowCodeLaws.{code-nothing, coded}
 use Rattle.judge_line.proofs.StepLaws.{row-at, step-unknown, step-misplaced, step-unfit, step-opened, member-pair, step-joined}
 use Rattle.judge_line.proofs.step_at.Statement.{statement}
 use Rattle.judge_line.proofs.step_at.Tie as tie
@@ -26,13 +26,31 @@ many-of-requires : tie.Need-many-of-requires
 many-of-requires c κs = search needs
 
 place-no-requires : tie.Need-place-no-requires
-place-no-requires c κs = let h = coded _ _ _ (c .before .before .before .before .before .before .find-row .ensures) (c .before .before .before .before .before .if1 .left) in omega (arith, h .below, c .before .before .before .before .number-of .ensures)
+place-no-requires c κs =
+    let at-many-of = c .before .before in
+    let at-number-of = at-many-of .before .before in
+    let at-if1 = at-number-of .before in
+    let at-find-row = at-if1 .before in
+    let h = coded _ _ _ (at-find-row .find-row .ensures) (at-if1 .if1 .left) in
+    omega (arith, h .below, at-number-of .number-of .ensures)
 
 refused-step-requires-2 : tie.Need-refused-step-requires-2
 refused-step-requires-2 c κs = search needs
 
 returns-2 : tie.Need-returns-2
-returns-2 c = let h = coded _ _ _ (c .before .before .before .before .before .before .before .before .before .find-row .ensures) (c .before .before .before .before .before .before .before .before .if1 .left) in step-misplaced _ _ (row-at h (c .before .before .before .before .before .before .before .number-of .ensures)) _ (c .before .before .place-no .ensures (h .row) (h .under-so ∙ sym (c .before .before .before .before .before .before .under-of .ensures)) (h .many-so ∙ sym (c .before .before .before .before .before .many-of .ensures))) (c .before .if2 .taken) (c .refused-step2 .ensures)
+returns-2 c =
+    let at-if2 = c .before in
+    let at-place-no = at-if2 .before in
+    let at-place-no-arg = at-place-no .before .before in
+    let at-many-of = at-place-no-arg .before in
+    let at-under-of = at-many-of .before in
+    let at-number-of = at-under-of .before in
+    let at-if1 = at-number-of .before in
+    let at-find-row = at-if1 .before in
+    let h = coded _ _ _ (at-find-row .find-row .ensures) (at-if1 .if1 .left) in
+    step-misplaced _ _ (row-at h (at-number-of .number-of .ensures)) _
+    (at-place-no .place-no .ensures (h .row) (h .under-so ∙ sym (at-under-of .under-of .ensures)) (h .many-so ∙ sym (at-many-of .many-of .ensures)))
+    (at-if2 .if2 .taken) (c .refused-step2 .ensures)
 
 field-of-requires : tie.Need-field-of-requires
 field-of-requires c κs = search needs
@@ -44,19 +62,92 @@ refused-step-requires-3 : tie.Need-refused-step-requires-3
 refused-step-requires-3 c κs = search needs
 
 returns-3 : tie.Need-returns-3
-returns-3 c = let h = coded _ _ _ (c .before .before .before .before .before .before .before .before .before .before .before .before .find-row .ensures) (c .before .before .before .before .before .before .before .before .before .before .before .if1 .left) in step-unfit _ _ (row-at h (c .before .before .before .before .before .before .before .before .before .before .number-of .ensures)) _ (c .before .before .before .before .before .place-no .ensures (h .row) (h .under-so ∙ sym (c .before .before .before .before .before .before .before .before .before .under-of .ensures)) (h .many-so ∙ sym (c .before .before .before .before .before .before .before .before .many-of .ensures))) (c .before .before .before .before .if2 .left) _ (c .before .before .content-no .ensures (c .before .before .before .field-of .ensures ∙ h .field-so)) (c .before .if3 .taken) (c .refused-step3 .ensures)
+returns-3 c =
+    let at-if3 = c .before in
+    let at-content-no = at-if3 .before in
+    let at-field-of = at-content-no .before in
+    let at-if2 = at-field-of .before in
+    let at-place-no = at-if2 .before in
+    let at-place-no-arg = at-place-no .before .before in
+    let at-many-of = at-place-no-arg .before in
+    let at-under-of = at-many-of .before in
+    let at-number-of = at-under-of .before in
+    let at-if1 = at-number-of .before in
+    let at-find-row = at-if1 .before in
+    let h = coded _ _ _ (at-find-row .find-row .ensures) (at-if1 .if1 .left) in
+    step-unfit _ _ (row-at h (at-number-of .number-of .ensures)) _
+    (at-place-no .place-no .ensures (h .row) (h .under-so ∙ sym (at-under-of .under-of .ensures)) (h .many-so ∙ sym (at-many-of .many-of .ensures)))
+    (at-if2 .if2 .left) _ (at-content-no .content-no .ensures (at-field-of .field-of .ensures ∙ h .field-so)) (at-if3 .if3 .taken)
+    (c .refused-step3 .ensures)
 
 opened-requires : tie.Need-opened-requires
-opened-requires c κs = let h = coded _ _ _ (c .before .before .before .before .before .before .before .before .before .before .before .before .before .before .find-row .ensures) (c .before .before .before .before .before .before .before .before .before .before .before .before .before .if1 .left) in omega (arith, h .below, c .before .before .before .before .before .before .before .before .before .before .before .before .number-of .ensures)
+opened-requires c κs =
+    let at-if4 = c .before .before in
+    let at-content-no = at-if4 .before .before in
+    let at-if2 = at-content-no .before .before in
+    let at-place-no-arg2 = at-if2 .before .before in
+    let at-many-of = at-place-no-arg2 .before .before in
+    let at-number-of = at-many-of .before .before in
+    let at-if1 = at-number-of .before in
+    let at-find-row = at-if1 .before in
+    let h = coded _ _ _ (at-find-row .find-row .ensures) (at-if1 .if1 .left) in
+    omega (arith, h .below, at-number-of .number-of .ensures)
 
 returns-4 : tie.Need-returns-4
-returns-4 c = let h = coded _ _ _ (c .before .before .before .before .before .before .before .before .before .before .before .before .before .before .before .find-row .ensures) (c .before .before .before .before .before .before .before .before .before .before .before .before .before .before .if1 .left) in step-opened _ _ (row-at h (c .before .before .before .before .before .before .before .before .before .before .before .before .before .number-of .ensures)) _ (c .before .before .before .before .before .before .before .before .place-no .ensures (h .row) (h .under-so ∙ sym (c .before .before .before .before .before .before .before .before .before .before .before .before .under-of .ensures)) (h .many-so ∙ sym (c .before .before .before .before .before .before .before .before .before .before .before .many-of .ensures))) (c .before .before .before .before .before .before .before .if2 .left) _ (c .before .before .before .before .before .content-no .ensures (c .before .before .before .before .before .before .field-of .ensures ∙ h .field-so)) (c .before .before .before .before .if3 .left) (h .under-so ∙ (sym (c .before .before .before .before .before .before .before .before .before .before .before .before .under-of .ensures) ∙ c .before .before .before .if4 .taken)) refl (c .opened .ensures .0) (c .opened .ensures .1) (c .opened .ensures .2)
+returns-4 c =
+    let at-opened-arg = c .before .before in
+    let at-if4 = at-opened-arg .before in
+    let at-if3 = at-if4 .before in
+    let at-content-no = at-if3 .before in
+    let at-field-of = at-content-no .before in
+    let at-if2 = at-field-of .before in
+    let at-place-no = at-if2 .before in
+    let at-place-no-arg = at-place-no .before .before in
+    let at-many-of = at-place-no-arg .before in
+    let at-under-of = at-many-of .before in
+    let at-number-of = at-under-of .before in
+    let at-if1 = at-number-of .before in
+    let at-find-row = at-if1 .before in
+    let h = coded _ _ _ (at-find-row .find-row .ensures) (at-if1 .if1 .left) in
+    step-opened _ _ (row-at h (at-number-of .number-of .ensures)) _
+    (at-place-no .place-no .ensures (h .row) (h .under-so ∙ sym (at-under-of .under-of .ensures)) (h .many-so ∙ sym (at-many-of .many-of .ensures)))
+    (at-if2 .if2 .left) _ (at-content-no .content-no .ensures (at-field-of .field-of .ensures ∙ h .field-so)) (at-if3 .if3 .left)
+    (h .under-so ∙ (sym (at-under-of .under-of .ensures) ∙ at-if4 .if4 .taken)) refl (c .opened .ensures .0) (c .opened .ensures .1)
+    (c .opened .ensures .2)
 
 joined-requires : tie.Need-joined-requires
-joined-requires c κs = let h = coded _ _ _ (c .before .before .before .before .before .before .before .before .before .before .before .before .before .find-row .ensures) (c .before .before .before .before .before .before .before .before .before .before .before .before .if1 .left) in omega (arith, h .below, c .before .before .before .before .before .before .before .before .before .before .before .number-of .ensures)
+joined-requires c κs =
+    let at-if3 = c .before .before in
+    let at-field-of = at-if3 .before .before in
+    let at-place-no = at-field-of .before .before in
+    let at-place-no-arg = at-place-no .before .before in
+    let at-under-of = at-place-no-arg .before .before in
+    let at-number-of = at-under-of .before in
+    let at-if1 = at-number-of .before in
+    let at-find-row = at-if1 .before in
+    let h = coded _ _ _ (at-find-row .find-row .ensures) (at-if1 .if1 .left) in
+    omega (arith, h .below, at-number-of .number-of .ensures)
 
 returns-5 : tie.Need-returns-5
-returns-5 c = let h = coded _ _ _ (c .before .before .before .before .before .before .before .before .before .before .before .before .before .before .find-row .ensures) (c .before .before .before .before .before .before .before .before .before .before .before .before .before .if1 .left) in step-joined _ _ (row-at h (c .before .before .before .before .before .before .before .before .before .before .before .before .number-of .ensures)) _ (c .before .before .before .before .before .before .before .place-no .ensures (h .row) (h .under-so ∙ sym (c .before .before .before .before .before .before .before .before .before .before .before .under-of .ensures)) (h .many-so ∙ sym (c .before .before .before .before .before .before .before .before .before .before .many-of .ensures))) (c .before .before .before .before .before .before .if2 .left) _ (c .before .before .before .before .content-no .ensures (c .before .before .before .before .before .field-of .ensures ∙ h .field-so)) (c .before .before .before .if3 .left) _ (h .under-so ∙ sym (c .before .before .before .before .before .before .before .before .before .before .before .under-of .ensures)) (c .before .before .if4 .left) (member-pair h (c .before .before .before .before .before .before .before .before .before .before .before .under-of .ensures) (c .before .before .if4 .left)) refl (c .joined .ensures .0) (c .joined .ensures .1) refl
+returns-5 c =
+    let at-if4 = c .before .before in
+    let at-if3 = at-if4 .before in
+    let at-content-no = at-if3 .before in
+    let at-field-of = at-content-no .before in
+    let at-if2 = at-field-of .before in
+    let at-place-no = at-if2 .before in
+    let at-place-no-arg = at-place-no .before .before in
+    let at-many-of = at-place-no-arg .before in
+    let at-under-of = at-many-of .before in
+    let at-number-of = at-under-of .before in
+    let at-if1 = at-number-of .before in
+    let at-find-row = at-if1 .before in
+    let h = coded _ _ _ (at-find-row .find-row .ensures) (at-if1 .if1 .left) in
+    step-joined _ _ (row-at h (at-number-of .number-of .ensures)) _
+    (at-place-no .place-no .ensures (h .row) (h .under-so ∙ sym (at-under-of .under-of .ensures)) (h .many-so ∙ sym (at-many-of .many-of .ensures)))
+    (at-if2 .if2 .left) _ (at-content-no .content-no .ensures (at-field-of .field-of .ensures ∙ h .field-so)) (at-if3 .if3 .left) _
+    (h .under-so ∙ sym (at-under-of .under-of .ensures)) (at-if4 .if4 .left) (member-pair h (at-under-of .under-of .ensures) (at-if4 .if4 .left)) refl
+    (c .joined .ensures .0) (c .joined .ensures .1) refl
 
 pub step-at-spec : {M : Type 1} → statement M
 step-at-spec =

@@ -17,7 +17,10 @@ step-at-requires : tie.Need-step-at-requires
 step-at-requires c κs = search needs
 
 returns : tie.Need-returns
-returns c = step-line _ (c .before .before .before .before .args .at) (c .before .before .before .before .args .size) (c .before .before .before .before .pre .0) (c .step-at .ensures)
+returns c =
+    let at-step-at-arg = c .before .before in
+    let at-start = at-step-at-arg .before .before in
+    step-line _ (at-start .args .at) (at-start .args .size) (at-start .pre .0) (c .step-at .ensures)
 
 pub line-step-spec : {M : Type 1} → statement M
 line-step-spec =

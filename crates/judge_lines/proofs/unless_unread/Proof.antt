@@ -16,10 +16,17 @@ enum-told : tie.Need-enum-told
 enum-told c = search needs
 
 returns : tie.Need-returns
-returns c = ap (λ (x : Scan). firstUnread x (c .before .before .before .before .before .args .r)) (sym (c .before .unread .given .1) ∙ c .before .before .before .scan-from .ensures)
+returns c =
+    let at-unread = c .before in
+    let at-scan-from = at-unread .before .before in
+    let at-start = at-scan-from .before .before in
+    ap (λ (x : Scan). firstUnread x (at-start .args .r)) (sym (at-unread .unread .given .1) ∙ at-scan-from .scan-from .ensures)
 
 returns-2 : tie.Need-returns-2
-returns-2 c = ap (λ (x : Scan). firstUnread x (c .before .before .before .before .args .r)) (sym (c .enum-told .given .1) ∙ c .before .before .scan-from .ensures)
+returns-2 c =
+    let at-scan-from = c .before .before in
+    let at-start = at-scan-from .before .before in
+    ap (λ (x : Scan). firstUnread x (at-start .args .r)) (sym (c .enum-told .given .1) ∙ at-scan-from .scan-from .ensures)
 
 pub unless-unread-spec : {M : Type 1} → statement M
 unless-unread-spec =

@@ -18,7 +18,10 @@ first-lack-requires c κs = search needs
 
 returns-2 : tie.Need-returns-2
 unfolding finish orElse
-returns-2 c = rw (← c .before .before .before .set-lack .ensures, c .before .if1 .left) (c .first-lack .ensures)
+returns-2 c =
+    let at-if1 = c .before in
+    let at-set-lack = at-if1 .before .before in
+    rw (← at-set-lack .set-lack .ensures, at-if1 .if1 .left) (c .first-lack .ensures)
 
 pub finish-at-spec : {M : Type 1} → statement M
 finish-at-spec = tie.close (tie.spec set-lack-requires returns first-lack-requires returns-2)

@@ -15,14 +15,20 @@ none-requires c κs = search needs
 
 returns-2 : tie.Need-returns-2
 unfolding firstLack openLack orElse
-returns-2 c = rw (c .before .before .before .if1 .left, c .before .if2 .taken) (c .none .ensures)
+returns-2 c =
+    let at-if2 = c .before in
+    let at-if1 = at-if2 .before .before in
+    rw (at-if1 .if1 .left, at-if2 .if2 .taken) (c .none .ensures)
 
 group-lack-requires : tie.Need-group-lack-requires
 group-lack-requires c κs = search needs
 
 returns-3 : tie.Need-returns-3
 unfolding firstLack openLack orElse
-returns-3 c = rw (c .before .before .before .if1 .left, ne-eqb _ _ (c .before .if2 .left)) (c .group-lack .ensures)
+returns-3 c =
+    let at-if2 = c .before in
+    let at-if1 = at-if2 .before .before in
+    rw (at-if1 .if1 .left, ne-eqb _ _ (at-if2 .if2 .left)) (c .group-lack .ensures)
 
 pub first-lack-spec : {M : Type 1} → statement M
 first-lack-spec =

@@ -2,7 +2,7 @@
 use mathlib.Core.Path.{sym, _∙_}
 use borrow.Author.Needs.{needs}
 use Rattle.meaning.specs.FieldTable.{fieldTable}
-use Rattle.table_find.specs.LookUp.{numberOf, numberFrom}
+use Rattle.table_fields.specs.LabelNumbers.{labelNumber, rowsBefore}
 use Rattle.judge_missing.specs.Lacks.{valued, seen}
 use Rattle.judge_missing.proofs.has_value.Statement.{statement}
 use Rattle.judge_missing.proofs.has_value.Tie as tie
@@ -11,22 +11,31 @@ has-requires : tie.Need-has-requires
 has-requires c κs = search needs
 
 returns : tie.Need-returns
-unfolding valued seen numberOf numberFrom fieldTable
+unfolding valued seen labelNumber rowsBefore fieldTable
 returns c = rw (sym (c .before .has .ensures) ∙ c .if1 .taken)
 
 has-requires-2 : tie.Need-has-requires-2
 has-requires-2 c κs = search needs
 
 returns-2 : tie.Need-returns-2
-unfolding valued seen numberOf numberFrom fieldTable
-returns-2 c = rw (sym (c .before .before .before .has .ensures) ∙ c .before .before .if1 .left, sym (c .before .has2 .ensures) ∙ c .if2 .taken)
+unfolding valued seen labelNumber rowsBefore fieldTable
+returns-2 c =
+    let at-has2 = c .before in
+    let at-if1 = at-has2 .before in
+    let at-has = at-if1 .before in
+    rw (sym (at-has .has .ensures) ∙ at-if1 .if1 .left, sym (at-has2 .has2 .ensures) ∙ c .if2 .taken)
 
 has-requires-3 : tie.Need-has-requires-3
 has-requires-3 c κs = search needs
 
 returns-3 : tie.Need-returns-3
-unfolding valued seen numberOf numberFrom fieldTable
-returns-3 c = rw (sym (c .before .before .before .before .has .ensures) ∙ c .before .before .before .if1 .left, sym (c .before .before .has2 .ensures) ∙ c .before .if2 .left) (c .has3 .ensures)
+unfolding valued seen labelNumber rowsBefore fieldTable
+returns-3 c =
+    let at-if2 = c .before in
+    let at-has2 = at-if2 .before in
+    let at-if1 = at-has2 .before in
+    let at-has = at-if1 .before in
+    rw (sym (at-has .has .ensures) ∙ at-if1 .if1 .left, sym (at-has2 .has2 .ensures) ∙ at-if2 .if2 .left) (c .has3 .ensures)
 
 pub has-value-spec : {M : Type 1} → statement M
 has-value-spec =

@@ -2,7 +2,7 @@
 use mathlib.Core.Path.{sym, _∙_}
 use borrow.Author.Needs.{needs}
 use Rattle.meaning.specs.FieldTable.{fieldTable}
-use Rattle.table_find.specs.LookUp.{numberOf, numberFrom}
+use Rattle.table_fields.specs.LabelNumbers.{labelNumber, rowsBefore}
 use Rattle.judge_missing.specs.Lacks.{lack6302, seen}
 use Rattle.judge_missing.proofs.lack_6302.Statement.{statement}
 use Rattle.judge_missing.proofs.lack_6302.Tie as tie
@@ -20,28 +20,49 @@ none-requires : tie.Need-none-requires
 none-requires c κs = search needs
 
 returns : tie.Need-returns
-unfolding lack6302 seen numberOf numberFrom fieldTable
-returns c = rw (sym (c .before .before .before .before .before .before .has .ensures) ∙ c .before .before .before .before .before .if1 .taken, sym (c .before .before .before .before .has2 .ensures) ∙ c .before .before .before .if2 .taken, sym (c .before .before .has3 .ensures) ∙ c .before .if3 .taken) (c .none .ensures)
+unfolding lack6302 seen labelNumber rowsBefore fieldTable
+returns c =
+    let at-if3 = c .before in
+    let at-has3 = at-if3 .before in
+    let at-if2 = at-has3 .before in
+    let at-has2 = at-if2 .before in
+    let at-if1 = at-has2 .before in
+    let at-has = at-if1 .before in
+    rw (sym (at-has .has .ensures) ∙ at-if1 .if1 .taken, sym (at-has2 .has2 .ensures) ∙ at-if2 .if2 .taken, sym (at-has3 .has3 .ensures) ∙ at-if3 .if3 .taken)
+    (c .none .ensures)
 
 missing-requires : tie.Need-missing-requires
 missing-requires c κs = search needs
 
 returns-2 : tie.Need-returns-2
-unfolding lack6302 seen numberOf numberFrom fieldTable
-returns-2 c = rw (sym (c .before .before .before .before .before .before .has .ensures) ∙ c .before .before .before .before .before .if1 .taken, sym (c .before .before .before .before .has2 .ensures) ∙ c .before .before .before .if2 .taken, sym (c .before .before .has3 .ensures) ∙ c .before .if3 .left) (c .missing .ensures)
+unfolding lack6302 seen labelNumber rowsBefore fieldTable
+returns-2 c =
+    let at-if3 = c .before in
+    let at-has3 = at-if3 .before in
+    let at-if2 = at-has3 .before in
+    let at-has2 = at-if2 .before in
+    let at-if1 = at-has2 .before in
+    let at-has = at-if1 .before in
+    rw (sym (at-has .has .ensures) ∙ at-if1 .if1 .taken, sym (at-has2 .has2 .ensures) ∙ at-if2 .if2 .taken, sym (at-has3 .has3 .ensures) ∙ at-if3 .if3 .left)
+    (c .missing .ensures)
 
 missing-requires-2 : tie.Need-missing-requires-2
 missing-requires-2 c κs = search needs
 
 returns-3 : tie.Need-returns-3
-unfolding lack6302 seen numberOf numberFrom fieldTable
-returns-3 c = rw (sym (c .before .before .before .before .has .ensures) ∙ c .before .before .before .if1 .taken, sym (c .before .before .has2 .ensures) ∙ c .before .if2 .left) (c .missing2 .ensures)
+unfolding lack6302 seen labelNumber rowsBefore fieldTable
+returns-3 c =
+    let at-if2 = c .before in
+    let at-has2 = at-if2 .before in
+    let at-if1 = at-has2 .before in
+    let at-has = at-if1 .before in
+    rw (sym (at-has .has .ensures) ∙ at-if1 .if1 .taken, sym (at-has2 .has2 .ensures) ∙ at-if2 .if2 .left) (c .missing2 .ensures)
 
 missing-requires-3 : tie.Need-missing-requires-3
 missing-requires-3 c κs = search needs
 
 returns-4 : tie.Need-returns-4
-unfolding lack6302 seen numberOf numberFrom fieldTable
+unfolding lack6302 seen labelNumber rowsBefore fieldTable
 returns-4 c = rw (sym (c .before .before .has .ensures) ∙ c .before .if1 .left) (c .missing3 .ensures)
 
 pub lack-6302-spec : {M : Type 1} → statement M

@@ -1,8 +1,8 @@
--- `lack_8410` asks for 8421 where a value or a limit stands, then for 8437.
+-- `lack_8410` asks for 8421 if a value or a limit stands, then for 8437.
 use mathlib.Core.Path.{sym, _∙_}
 use borrow.Author.Needs.{needs}
 use Rattle.meaning.specs.FieldTable.{fieldTable}
-use Rattle.table_find.specs.LookUp.{numberOf, numberFrom}
+use Rattle.table_fields.specs.LabelNumbers.{labelNumber, rowsBefore}
 use Rattle.judge_missing.specs.Lacks.{lack8410, seen}
 use Rattle.judge_missing.proofs.lack_8410.Statement.{statement}
 use Rattle.judge_missing.proofs.lack_8410.Tie as tie
@@ -17,21 +17,31 @@ lack-8437-requires : tie.Need-lack-8437-requires
 lack-8437-requires c κs = search needs
 
 returns : tie.Need-returns
-unfolding lack8410 seen numberOf numberFrom fieldTable
-returns c = rw (sym (c .before .before .before .before .has-value .ensures) ∙ c .before .before .before .if1 .taken, sym (c .before .before .has .ensures) ∙ c .before .if2 .taken) (c .lack-8437 .ensures)
+unfolding lack8410 seen labelNumber rowsBefore fieldTable
+returns c =
+    let at-if2 = c .before in
+    let at-has = at-if2 .before in
+    let at-if1 = at-has .before in
+    let at-has-value = at-if1 .before in
+    rw (sym (at-has-value .has-value .ensures) ∙ at-if1 .if1 .taken, sym (at-has .has .ensures) ∙ at-if2 .if2 .taken) (c .lack-8437 .ensures)
 
 missing-requires : tie.Need-missing-requires
 missing-requires c κs = search needs
 
 returns-2 : tie.Need-returns-2
-unfolding lack8410 seen numberOf numberFrom fieldTable
-returns-2 c = rw (sym (c .before .before .before .before .has-value .ensures) ∙ c .before .before .before .if1 .taken, sym (c .before .before .has .ensures) ∙ c .before .if2 .left) (c .missing .ensures)
+unfolding lack8410 seen labelNumber rowsBefore fieldTable
+returns-2 c =
+    let at-if2 = c .before in
+    let at-has = at-if2 .before in
+    let at-if1 = at-has .before in
+    let at-has-value = at-if1 .before in
+    rw (sym (at-has-value .has-value .ensures) ∙ at-if1 .if1 .taken, sym (at-has .has .ensures) ∙ at-if2 .if2 .left) (c .missing .ensures)
 
 lack-8437-requires-2 : tie.Need-lack-8437-requires-2
 lack-8437-requires-2 c κs = search needs
 
 returns-3 : tie.Need-returns-3
-unfolding lack8410 seen numberOf numberFrom fieldTable
+unfolding lack8410 seen labelNumber rowsBefore fieldTable
 returns-3 c = rw (sym (c .before .before .has-value .ensures) ∙ c .before .if1 .left) (c .lack-84372 .ensures)
 
 pub lack-8410-spec : {M : Type 1} → statement M

@@ -1,7 +1,7 @@
 -- `sum_at`: by what the five bytes of line 2 write.
 use mathlib.Core.Path.{sym, _∙_}
 use borrow.Author.Needs.{needs}
-use Rattle.judge_start.proofs.Laws.{sum-none, sum-right, sum-wrong}
+use Rattle.judge_start.proofs.TypeAndSumLaws.{sum-none, sum-right, sum-wrong}
 use Rattle.judge_start.proofs.sum_at.Statement.{statement}
 use Rattle.judge_start.proofs.sum_at.Tie as tie
 
@@ -18,7 +18,11 @@ none-requires : tie.Need-none-requires
 none-requires c κs = search needs
 
 returns : tie.Need-returns
-returns c = c .none .ensures ∙ sum-right _ _ _ _ (sym (c .before .before .before .before .before .number-at .ensures) ∙ c .before .before .before .sum .given .1) (c .before .if1 .taken)
+returns c =
+    let at-if1 = c .before in
+    let at-sum = at-if1 .before .before in
+    let at-number-at = at-sum .before .before in
+    c .none .ensures ∙ sum-right _ _ _ _ (sym (at-number-at .number-at .ensures) ∙ at-sum .sum .given .1) (at-if1 .if1 .taken)
 
 at-requires : tie.Need-at-requires
 at-requires c κs = search needs
@@ -30,10 +34,17 @@ at-requires-2 : tie.Need-at-requires-2
 at-requires-2 c κs = search needs
 
 returns-2 : tie.Need-returns-2
-returns-2 c = c .at .ensures ∙ sum-wrong _ _ _ _ (sym (c .before .before .before .before .before .number-at .ensures) ∙ c .before .before .before .sum .given .1) (c .before .if1 .left)
+returns-2 c =
+    let at-if1 = c .before in
+    let at-sum = at-if1 .before .before in
+    let at-number-at = at-sum .before .before in
+    c .at .ensures ∙ sum-wrong _ _ _ _ (sym (at-number-at .number-at .ensures) ∙ at-sum .sum .given .1) (at-if1 .if1 .left)
 
 returns-3 : tie.Need-returns-3
-returns-3 c = c .at2 .ensures ∙ sum-none _ _ _ (sym (c .before .before .before .number-at .ensures) ∙ c .before .enum-told .given .1)
+returns-3 c =
+    let at-enum-told = c .before in
+    let at-number-at = at-enum-told .before .before in
+    c .at2 .ensures ∙ sum-none _ _ _ (sym (at-number-at .number-at .ensures) ∙ at-enum-told .enum-told .given .1)
 
 pub sum-at-spec : {M : Type 1} → statement M
 sum-at-spec =

@@ -2,7 +2,7 @@
 use mathlib.Core.Path.{_∙_}
 use borrow.Author.Needs.{needs}
 use Rattle.line_read.specs.Line.{must, labelledLine}
-use Rattle.line_read.proofs.Laws.{tests}
+use Rattle.line_read.proofs.LineWalkLaws.{tests}
 use Rattle.line_read.proofs.labelled_line.Statement.{statement}
 use Rattle.line_read.proofs.labelled_line.Tie as tie
 

@@ -1,18 +1,18 @@
--- `number_at` is the walk `numberAt`: behind the number so far, the bytes that are left write what all of them write.
+-- `number_at` is the walk `numberAt`: after the number so far, the bytes that are left write what all of them write.
 use mathlib.Core.Path.{_≡_, sym, ap, _∙_}
 use Prim.Native.Nat.{_-_, _^_, _≤_, _<_}
 use native.Mathlib.Nat.{one-le-pow}
 use native.Mathlib.Omega.{arith}
 use borrow.Author.Needs.{needs}
 use lib.Dec.{lit<}
-use Rattle.line_read.specs.Number.{numberFrom, numberAt}
-use Rattle.line_read.proofs.Laws.{number-long, number-cut, number-there, digit-below, digit-above, digit-further, digits-end, digits-small, digits-grow}
+use Rattle.line_read.specs.Number.{numberAfter, numberAt}
+use Rattle.line_read.proofs.LineWalkLaws.{number-long, number-cut, number-there, digit-below, digit-above, digit-further, digits-end, digits-small, digits-grow}
 use Rattle.line_read.proofs.number_at.Statement.{statement}
 use Rattle.line_read.proofs.number_at.Tie as tie
 
 abbrev Inv-loop : tie.InvT-loop
 Inv-loop s at k end i₀ number₀ i number =
-    (at ≤ i) × (i ≤ end) × (number < 10 ^ (i - at)) × (numberFrom s number i (end - i) ≡ numberAt s at k)
+    (at ≤ i) × (i ≤ end) × (number < 10 ^ (i - at)) × (numberAfter s number i (end - i) ≡ numberAt s at k)
 
 abbrev μ-loop : tie.MeasureT-loop
 μ-loop s at k end i₀ number₀ i number = end - i
@@ -37,7 +37,7 @@ loop-holds c = (
   omega arith,
   omega arith,
   one-le-pow _ 10 (lit< tt),
-  ap (numberFrom _ _ _) (omega arith) ∙ sym (number-there _ _ _ (omega arith) (omega arith)),
+  ap (numberAfter _ _ _) (omega arith) ∙ sym (number-there _ _ _ (omega arith) (omega arith)),
 )
 
 shared-slice-read-b : tie.Need-shared-slice-read-b Inv-loop μ-loop
@@ -45,16 +45,24 @@ shared-slice-read-b c = search needs
 
 returns-4 : tie.Need-returns-4 Inv-loop μ-loop
 returns-4 c =
-    let l = c .before .before .before .loop in
-    sym (digit-below _ (l .number) _ _ (c .before .before .loop-test .taken) (c .if4 .taken)) ∙ l .inv .3
+    let at-loop-test = c .before .before in
+    let at-loop = at-loop-test .before in
+    let l = at-loop .loop in
+    sym (digit-below _ (l .number) _ _ (at-loop-test .loop-test .taken) (c .if4 .taken)) ∙ l .inv .3
 
 returns-5 : tie.Need-returns-5 Inv-loop μ-loop
 returns-5 c =
-    let l = c .before .before .before .before .loop in
-    sym (digit-above _ (l .number) _ _ (c .before .before .before .loop-test .taken) (c .before .if4 .left) (c .if5 .taken)) ∙ l .inv .3
+    let at-if4 = c .before in
+    let at-loop-test = at-if4 .before .before in
+    let at-loop = at-loop-test .before in
+    let l = at-loop .loop in
+    sym (digit-above _ (l .number) _ _ (at-loop-test .loop-test .taken) (at-if4 .if4 .left) (c .if5 .taken)) ∙ l .inv .3
 
 mul-number : tie.Need-mul-number Inv-loop μ-loop
-mul-number c = omega (arith, digits-small (omega arith) (c .before .before .before .before .loop .inv .2))
+mul-number c =
+    let at-shared-slice-known = c .before .before in
+    let at-loop = at-shared-slice-known .before .before in
+    omega (arith, digits-small (omega arith) (at-loop .loop .inv .2))
 
 cast-number : tie.Need-cast-number Inv-loop μ-loop
 cast-number c = search needs
@@ -66,7 +74,10 @@ sub-number : tie.Need-sub-number Inv-loop μ-loop
 sub-number c = search needs
 
 add-number : tie.Need-add-number Inv-loop μ-loop
-add-number c = omega (arith, digits-small (omega arith) (c .before .before .before .before .loop .inv .2))
+add-number c =
+    let at-shared-slice-known = c .before .before in
+    let at-loop = at-shared-slice-known .before .before in
+    omega (arith, digits-small (omega arith) (at-loop .loop .inv .2))
 
 add-i : tie.Need-add-i Inv-loop μ-loop
 add-i c = search needs
@@ -76,8 +87,11 @@ loop-less c = search needs
 
 loop-again : tie.Need-loop-again Inv-loop μ-loop
 loop-again c =
-    let l = c .before .before .before .before .loop in
-    let e = sym (digit-further _ (l .number) _ _ (c .before .before .before .loop-test .taken) (c .before .if4 .left) (c .if5 .left)) ∙ l .inv .3 in
+    let at-if4 = c .before in
+    let at-loop-test = at-if4 .before .before in
+    let at-loop = at-loop-test .before in
+    let l = at-loop .loop in
+    let e = sym (digit-further _ (l .number) _ _ (at-loop-test .loop-test .taken) (at-if4 .if4 .left) (c .if5 .left)) ∙ l .inv .3 in
     (omega arith, omega arith, digits-grow (l .inv .0) (l .inv .2) (omega arith), e)
 
 returns-6 : tie.Need-returns-6 Inv-loop μ-loop

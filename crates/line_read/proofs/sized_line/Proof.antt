@@ -3,7 +3,7 @@ use mathlib.Core.Path.{sym, _∙_}
 use native.Mathlib.Omega.{arith}
 use borrow.Author.Needs.{needs}
 use Rattle.line_read.specs.Line.{must, mustRead, sizedLine}
-use Rattle.line_read.proofs.Laws.{tests, line-short}
+use Rattle.line_read.proofs.LineWalkLaws.{tests, line-short}
 use Rattle.line_read.proofs.sized_line.Statement.{statement}
 use Rattle.line_read.proofs.sized_line.Tie as tie
 
@@ -75,11 +75,17 @@ refused-requires-5 c κs = search needs
 
 returns-5 : tie.Need-returns-5
 unfolding must mustRead sizedLine
-returns-5 c = search (tests, ← (c .before .before .before .before .number-at .ensures), c .before .before .label .given .1)
+returns-5 c =
+    let at-label = c .before .before in
+    let at-number-at = at-label .before .before in
+    search (tests, ← (at-number-at .number-at .ensures), at-label .label .given .1)
 
 returns-6 : tie.Need-returns-6
 unfolding must mustRead sizedLine
-returns-6 c = c .refused5 .ensures ∙ search (tests, ← (c .before .before .before .number-at .ensures), c .before .enum-told .given .1)
+returns-6 c =
+    let at-enum-told = c .before in
+    let at-number-at = at-enum-told .before .before in
+    c .refused5 .ensures ∙ search (tests, ← (at-number-at .number-at .ensures), at-enum-told .enum-told .given .1)
 
 pub sized-line-spec : {M : Type 1} → statement M
 sized-line-spec =

@@ -22,7 +22,16 @@ three-at-requires : tie.Need-three-at-requires
 three-at-requires c κs = search needs
 
 sub-size : tie.Need-sub-size
-sub-size c = omega (arith, three-least (c .before .before .before .before .before .before .args .s .now) (c .before .before .before .before .before .before .args .at) (omega arith) (c .before .before .usual-lead .ensures (c .before .if3 .taken)), c .three-at .ensures .0)
+sub-size c =
+    let at-if3 = c .before in
+    let at-usual-lead = at-if3 .before in
+    let at-if1 = at-usual-lead .before .before in
+    let at-start = at-if1 .before .before in
+    omega (
+      arith,
+      three-least (at-start .args .s .now) (at-start .args .at) (omega arith) (at-usual-lead .usual-lead .ensures (at-if3 .if3 .taken)),
+      c .three-at .ensures .0,
+    )
 
 returns-3 : tie.Need-returns-3
 returns-3 c = λ e. search needs
@@ -58,9 +67,17 @@ line-ends-requires : tie.Need-line-ends-requires
 line-ends-requires c κs = search needs
 
 returns-5 : tie.Need-returns-5
-returns-5 c = λ e.
-    let end = c .line-ends .ensures e in
-    line-sound _ _ _ _ refl (omega (arith, c .before .before .before .before .before .before .before .three-at .ensures .0)) (omega (arith, c .before .before .before .before .before .before .before .three-at .ensures .0)) (omega (arith, c .before .before .before .before .before .before .before .three-at .ensures .0)) (c .before .before .before .before .before .before .before .before .before .usual-lead .ensures (c .before .before .before .before .before .before .before .before .if3 .taken)) (c .before .before .before .before .clean-content .ensures (c .before .before .before .if6 .taken)) (end .0) (end .1)
+returns-5 c =
+    let at-shared-slice-known2 = c .before .before in
+    let at-if6 = at-shared-slice-known2 .before in
+    let at-clean-content = at-if6 .before in
+    let at-if4 = at-clean-content .before .before in
+    let at-three-at = at-if4 .before in
+    let at-if3 = at-three-at .before in
+    let at-usual-lead = at-if3 .before in
+    λ e. let end = c .line-ends .ensures e in line-sound _ _ _ _ refl (omega (arith, at-three-at .three-at .ensures .0))
+    (omega (arith, at-three-at .three-at .ensures .0)) (omega (arith, at-three-at .three-at .ensures .0))
+    (at-usual-lead .usual-lead .ensures (at-if3 .if3 .taken)) (at-clean-content .clean-content .ensures (at-if6 .if6 .taken)) (end .0) (end .1)
 
 returns-6 : tie.Need-returns-6
 returns-6 c = λ e. search needs

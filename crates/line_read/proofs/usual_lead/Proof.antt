@@ -1,4 +1,4 @@
--- `usual_lead`: while every byte so far is a usual one, the bytes of the first seven that are left are digits exactly where all are.
+-- `usual_lead`: while every byte so far is a usual one, the bytes of the first seven that are left are digits exactly if all are.
 use mathlib.Core.Path.{_≡_, sym, ap₂, _∙_}
 use mathlib.Core.Bool.{true}
 use Prim.Native.Nat.{ℕ, _+_, _-_, _≤_}
@@ -8,7 +8,7 @@ use lib.ListN.{take, drop}
 use Rattle.meaning.specs.Digits.{allDigits}
 use Rattle.meaning.specs.Lines.{lineLead}
 use Rattle.meaning.proofs.Bools.{and-left, and-right}
-use Rattle.line_read.proofs.Laws.{digits-further, digits-done}
+use Rattle.line_read.proofs.LineWalkLaws.{digits-further, digits-done}
 use Rattle.line_read.proofs.usual_lead.Statement.{statement}
 use Rattle.line_read.proofs.usual_lead.Tie as tie
 
@@ -41,12 +41,14 @@ loop-less : tie.Need-loop-less Inv-loop μ-loop
 loop-less c = search needs
 
 loop-again : tie.Need-loop-again Inv-loop μ-loop
-loop-again c = (
-  omega arith,
-  λ h.
-      let l = c .before .before .before .loop in
-      digits-further _ _ (l .i) _ (omega arith) (c .usual-byte .ensures (and-right (l .fit) _ h)) ∙ l .inv .1 (and-left (l .fit) _ h),
-)
+loop-again c =
+    let at-loop-test = c .before .before in
+    let at-loop = at-loop-test .before in (
+      omega arith,
+      λ h.
+          let l = at-loop .loop in
+          digits-further _ _ (l .i) _ (omega arith) (c .usual-byte .ensures (and-right (l .fit) _ h)) ∙ l .inv .1 (and-left (l .fit) _ h),
+    )
 
 returns : tie.Need-returns Inv-loop μ-loop
 returns c = λ e. let l = c .before .loop in sym (l .inv .1 e) ∙ sym (digits-done _ _ (l .i) _ (omega arith))

@@ -13,23 +13,45 @@ sound-at-requires : tie.Need-sound-at-requires
 sound-at-requires c κs = search needs
 
 add-four-at : tie.Need-add-four-at
-add-four-at c = omega (arith, read-bytes (c .before .before .before .args .s .now) (c .before .before .before .args .at) (c .before .sound-at .ensures (c .if1 .taken)) .0)
+add-four-at c =
+    let at-sound-at = c .before in
+    let at-start = at-sound-at .before .before in
+    omega (arith, read-bytes (at-start .args .s .now) (at-start .args .at) (at-sound-at .sound-at .ensures (c .if1 .taken)) .0)
 
 four-at-requires : tie.Need-four-at-requires
-four-at-requires c κs = omega (arith, read-bytes (c .before .before .before .args .s .now) (c .before .before .before .args .at) (c .before .sound-at .ensures (c .if1 .taken)) .0)
+four-at-requires c κs =
+    let at-sound-at = c .before in
+    let at-start = at-sound-at .before .before in
+    omega (arith, read-bytes (at-start .args .s .now) (at-start .args .at) (at-sound-at .sound-at .ensures (c .if1 .taken)) .0)
 
 sub-t6 : tie.Need-sub-t6
-sub-t6 c = omega (arith, read-bytes (c .before .before .before .before .args .s .now) (c .before .before .before .before .args .at) (c .before .before .sound-at .ensures (c .before .if1 .taken)) .2, c .four-at .ensures)
+sub-t6 c =
+    let at-if1 = c .before in
+    let at-sound-at = at-if1 .before in
+    let at-start = at-sound-at .before .before in
+    omega (arith, read-bytes (at-start .args .s .now) (at-start .args .at) (at-sound-at .sound-at .ensures (at-if1 .if1 .taken)) .2, c .four-at .ensures)
 
 three-at-requires : tie.Need-three-at-requires
-three-at-requires c κs = omega (arith, read-bytes (c .before .before .before .before .args .s .now) (c .before .before .before .before .args .at) (c .before .before .sound-at .ensures (c .before .if1 .taken)) .0)
+three-at-requires c κs =
+    let at-if1 = c .before in
+    let at-sound-at = at-if1 .before in
+    let at-start = at-sound-at .before .before in
+    omega (arith, read-bytes (at-start .args .s .now) (at-start .args .at) (at-sound-at .sound-at .ensures (at-if1 .if1 .taken)) .0)
 
 sub-t8 : tie.Need-sub-t8
-sub-t8 c = omega (arith, read-bytes (c .before .before .before .before .before .args .s .now) (c .before .before .before .before .before .args .at) (c .before .before .before .sound-at .ensures (c .before .before .if1 .taken)) .1, c .three-at .ensures .0)
+sub-t8 c =
+    let at-if1 = c .before .before in
+    let at-sound-at = at-if1 .before in
+    let at-start = at-sound-at .before .before in
+    omega (arith, read-bytes (at-start .args .s .now) (at-start .args .at) (at-sound-at .sound-at .ensures (at-if1 .if1 .taken)) .1, c .three-at .ensures .0)
 
 returns : tie.Need-returns
 returns c =
-    ap₂ Read (ap (λ (n : ℕ). n - fourZeros) (c .before .four-at .ensures)) (ap (λ (n : ℕ). n - threeZeros) (c .three-at .ensures .0)) ∙ sym (c .before .before .before .sound-at .ensures (c .before .before .if1 .taken))
+    let at-four-at = c .before in
+    let at-if1 = at-four-at .before in
+    let at-sound-at = at-if1 .before in
+    ap₂ Read (ap (λ (n : ℕ). n - fourZeros) (at-four-at .four-at .ensures)) (ap (λ (n : ℕ). n - threeZeros) (c .three-at .ensures .0))
+    ∙ sym (at-sound-at .sound-at .ensures (at-if1 .if1 .taken))
 
 line-at-requires : tie.Need-line-at-requires
 line-at-requires c κs = search needs

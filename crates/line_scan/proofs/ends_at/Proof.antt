@@ -1,6 +1,6 @@
 -- `ends_at` is the walk `endsAt`, test by test.
 use borrow.Author.Needs.{needs}
-use Rattle.line_read.proofs.Laws.{tests}
+use Rattle.line_read.proofs.LineWalkLaws.{tests}
 use Rattle.line_scan.specs.Scan.{endsAt}
 use Rattle.line_scan.proofs.ends_at.Statement.{statement}
 use Rattle.line_scan.proofs.ends_at.Tie as tie

@@ -5,10 +5,10 @@ use native.Mathlib.Omega.{arith}
 use borrow.Author.Needs.{needs}
 use lib.ListN.{length}
 use Rattle.meaning.specs.Limits.{maxLines}
-use Rattle.line_read.proofs.Bridge.{read-back}
+use Rattle.line_read.proofs.LineMeaning.{read-back}
 use Rattle.line_scan.specs.declared.Scan.the-variants.{Refused}
 use Rattle.line_scan.specs.Scan.{scanFrom}
-use Rattle.line_scan.proofs.Laws.{scan-done, scan-full, scan-bad, scan-further}
+use Rattle.line_scan.proofs.ScanWalkLaws.{scan-done, scan-full, scan-bad, scan-further}
 use Rattle.line_scan.proofs.scan_from.Statement.{statement}
 use Rattle.line_scan.proofs.scan_from.Tie as tie
 
@@ -49,16 +49,24 @@ enum-known-r c = search needs
 
 returns-3 : tie.Need-returns-3 Inv-loop μ-loop
 returns-3 c =
-    let l = c .before .before .before .before .before .before .before .loop in
-    let e = sym (c .before .before .before .before .before .before .ends-at .ensures) ∙ c .before .before .before .before .before .if1 .left in
-    let r = sym (c .before .before .before .line-at .ensures) ∙ c .before .r .given .1 in
+    let at-r = c .before in
+    let at-line-at = at-r .before .before in
+    let at-if1 = at-line-at .before .before in
+    let at-ends-at = at-if1 .before in
+    let at-loop = at-ends-at .before in
+    let l = at-loop .loop in
+    let e = sym (at-ends-at .ends-at .ensures) ∙ at-if1 .if1 .left in
+    let r = sym (at-line-at .line-at .ensures) ∙ at-r .r .given .1 in
     sym (scan-bad _ _ (l .lines) (omega arith) e r) ∙ l .inv .2
 
 enum-known-size : tie.Need-enum-known-size Inv-loop μ-loop
 enum-known-size c = search needs
 
 add-at : tie.Need-add-at Inv-loop μ-loop
-add-at c = omega (arith, read-back _ _ (sym (c .before .before .before .line-at .ensures) ∙ c .before .size .given .1) .within)
+add-at c =
+    let at-size = c .before in
+    let at-line-at = at-size .before .before in
+    omega (arith, read-back _ _ (sym (at-line-at .line-at .ensures) ∙ at-size .size .given .1) .within)
 
 add-lines : tie.Need-add-lines Inv-loop μ-loop
 add-lines c = search needs
@@ -68,9 +76,14 @@ loop-less c = search needs
 
 loop-again : tie.Need-loop-again Inv-loop μ-loop
 loop-again c =
-    let l = c .before .before .before .before .before .before .before .loop in
-    let e = sym (c .before .before .before .before .before .before .ends-at .ensures) ∙ c .before .before .before .before .before .if1 .left in
-    let r = sym (c .before .before .before .line-at .ensures) ∙ c .before .size .given .1 in
+    let at-size = c .before in
+    let at-line-at = at-size .before .before in
+    let at-if1 = at-line-at .before .before in
+    let at-ends-at = at-if1 .before in
+    let at-loop = at-ends-at .before in
+    let l = at-loop .loop in
+    let e = sym (at-ends-at .ends-at .ensures) ∙ at-if1 .if1 .left in
+    let r = sym (at-line-at .line-at .ensures) ∙ at-size .size .given .1 in
     (read-back _ _ r .within, omega arith, sym (scan-further _ _ (l .lines) (omega arith) e r) ∙ l .inv .2)
 
 pub scan-from-spec : {M : Type 1} → statement M

@@ -15,10 +15,16 @@ enum-known-shape : tie.Need-enum-known-shape
 enum-known-shape c = search needs
 
 list-accepted-requires : tie.Need-list-accepted-requires
-list-accepted-requires c κs = sym (c .before .before .before .before .judge .ensures) ∙ c .before .before .shape .given .1
+list-accepted-requires c κs =
+    let at-shape = c .before .before in
+    let at-judge = at-shape .before .before in
+    sym (at-judge .judge .ensures) ∙ at-shape .shape .given .1
 
 returns : tie.Need-returns
-returns c = answer-refused _ _ _ (sym (c .before .before .before .judge .ensures) ∙ c .before .r .given .1)
+returns c =
+    let at-r = c .before in
+    let at-judge = at-r .before .before in
+    answer-refused _ _ _ (sym (at-judge .judge .ensures) ∙ at-r .r .given .1)
 
 same-length : tie.Need-same-length
 same-length c = search needs

@@ -1,4 +1,4 @@
--- `put_entry`: three parts put one behind the other.
+-- `put_entry`: three parts put one after the other.
 use borrow.Author.Needs.{needs}
 use Rattle.list.proofs.ListLaws.{entry-put}
 use Rattle.list.proofs.put_entry.Statement.{statement}
@@ -36,11 +36,16 @@ same-length c = search needs
 
 returns : tie.Need-returns
 returns c =
-    let b6 = c .before .before .before .before .before .before in
-    let b10 = b6 .before .before .before .before in
-    let b14 = b10 .before .before .before .before in
-    let a = b14 .args in
-    entry-put (a .out .now) _ _ _ (a .content .now) (a .label) (b14 .pre .2) (b10 .put-two .ensures) (b6 .put-two2 .ensures) (c .before .before .copy-front .ensures)
+    let at-copy-front = c .before .before in
+    let at-slice-known3 = at-copy-front .before .before in
+    let at-put-two2 = at-slice-known3 .before .before in
+    let at-slice-known2 = at-put-two2 .before .before in
+    let at-put-two = at-slice-known2 .before .before in
+    let at-slice-known = at-put-two .before .before in
+    let at-start = at-slice-known .before .before in
+    let a = at-start .args in
+    entry-put (a .out .now) _ _ _ (a .content .now) (a .label) (at-start .pre .2) (at-put-two .put-two .ensures) (at-put-two2 .put-two2 .ensures)
+    (at-copy-front .copy-front .ensures)
 
 pub put-entry-spec : {M : Type 1} → statement M
 put-entry-spec =

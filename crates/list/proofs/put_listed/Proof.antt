@@ -6,7 +6,11 @@ use Rattle.list.proofs.put_listed.Statement.{statement}
 use Rattle.list.proofs.put_listed.Tie as tie
 
 returns : tie.Need-returns
-returns c = let a = c .before .before .before .args in line-none (a .k) (a .label) (a .content .now) (a .out .now) (a .to) (c .if1 .taken)
+returns c =
+    let at-shared-slice-known = c .before .before in
+    let at-start = at-shared-slice-known .before in
+    let a = at-start .args in
+    line-none (a .k) (a .label) (a .content .now) (a .out .now) (a .to) (c .if1 .taken)
 
 sub-put-entry : tie.Need-sub-put-entry
 sub-put-entry c = search needs
@@ -19,9 +23,11 @@ part-put-entry-end c = search needs
 
 put-entry-requires : tie.Need-put-entry-requires
 put-entry-requires c κs =
-    let b4 = c .before .before .before .before in
-    let a = b4 .args in
-    (b4 .pre .0, b4 .pre .1, omega (arith, other-length (a .k) (a .label) (a .content .now) (c .before .if1 .left)))
+    let at-if1 = c .before in
+    let at-shared-slice-known = at-if1 .before .before in
+    let at-start = at-shared-slice-known .before in
+    let a = at-start .args in
+    (at-start .pre .0, at-start .pre .1, omega (arith, other-length (a .k) (a .label) (a .content .now) (at-if1 .if1 .left)))
 
 add-result : tie.Need-add-result
 add-result c = search needs
@@ -34,10 +40,12 @@ same-length c = search needs
 
 returns-2 : tie.Need-returns-2
 returns-2 c =
-    let b4 = c .before .before .before .before in
-    let b7 = b4 .before .before .before in
-    let a = b7 .args in
-    line-put (a .k) (a .label) (a .content .now) (a .out .now) _ (a .to) (b4 .if1 .left) (c .before .before .put-entry .ensures)
+    let at-put-entry = c .before .before in
+    let at-if1 = at-put-entry .before .before in
+    let at-shared-slice-known = at-if1 .before .before in
+    let at-start = at-shared-slice-known .before in
+    let a = at-start .args in
+    line-put (a .k) (a .label) (a .content .now) (a .out .now) _ (a .to) (at-if1 .if1 .left) (at-put-entry .put-entry .ensures)
 
 pub put-listed-spec : {M : Type 1} → statement M
 put-listed-spec =

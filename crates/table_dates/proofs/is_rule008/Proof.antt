@@ -17,14 +17,20 @@ two-at-requires-2 c κs = search needs
 
 returns-2 : tie.Need-returns-2
 unfolding isRule008
-returns-2 c = search (le-leb, lt-leb, ← (c .before .before .before .two-at .ensures), ← (c .before .two-at2 .ensures))
+returns-2 c =
+    let at-two-at2 = c .before in
+    let at-two-at = at-two-at2 .before .before in
+    search (le-leb, lt-leb, ← (at-two-at .two-at .ensures), ← (at-two-at2 .two-at2 .ensures))
 
 is-rule020-requires : tie.Need-is-rule020-requires
 is-rule020-requires c κs = search needs
 
 returns-3 : tie.Need-returns-3
 unfolding isRule008
-returns-3 c = search (le-leb, ← (c .before .before .before .before .two-at .ensures), ← (c .before .before .two-at2 .ensures), ← (c .is-rule020 .ensures))
+returns-3 c =
+    let at-two-at2 = c .before .before in
+    let at-two-at = at-two-at2 .before .before in
+    search (le-leb, ← (at-two-at .two-at .ensures), ← (at-two-at2 .two-at2 .ensures), ← (c .is-rule020 .ensures))
 
 pub is-rule008-spec : {M : Type 1} → statement M
 is-rule008-spec =

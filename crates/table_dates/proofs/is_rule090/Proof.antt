@@ -17,14 +17,20 @@ two-at-requires-2 c κs = search needs
 
 returns-2 : tie.Need-returns-2
 unfolding isRule090
-returns-2 c = search (le-leb, lt-leb, ← (c .before .before .before .two-at .ensures), ← (c .before .two-at2 .ensures))
+returns-2 c =
+    let at-two-at2 = c .before in
+    let at-two-at = at-two-at2 .before .before in
+    search (le-leb, lt-leb, ← (at-two-at .two-at .ensures), ← (at-two-at2 .two-at2 .ensures))
 
 two-at-requires-3 : tie.Need-two-at-requires-3
 two-at-requires-3 c κs = search needs
 
 returns-3 : tie.Need-returns-3
 unfolding isRule090
-returns-3 c = search (le-leb, lt-leb, ← (c .before .before .before .before .two-at .ensures), ← (c .before .before .two-at2 .ensures), ← (c .two-at3 .ensures))
+returns-3 c =
+    let at-two-at2 = c .before .before in
+    let at-two-at = at-two-at2 .before .before in
+    search (le-leb, lt-leb, ← (at-two-at .two-at .ensures), ← (at-two-at2 .two-at2 .ensures), ← (c .two-at3 .ensures))
 
 pub is-rule090-spec : {M : Type 1} → statement M
 is-rule090-spec =

@@ -1,8 +1,8 @@
 -- `code_of` is the code of the row that the search of the field table answers: an arm knows the label, the last arm that it is none of the 57.
 use mathlib.Core.Path.{sym, ap}
 use Rattle.meaning.specs.FieldTable.{fieldTable, fieldRowIn}
-use Rattle.table_fields.specs.Codes.{kindNumber, fieldCode}
-use Rattle.table_fields.proofs.CodeLaws.{field-none}
+use Rattle.table_fields.specs.FieldCodes.{kindNumber, fieldCode}
+use Rattle.table_fields.proofs.FieldCodeLaws.{field-none}
 use Rattle.table_fields.proofs.code_of.Statement.{statement}
 use Rattle.table_fields.proofs.code_of.Tie as tie
 

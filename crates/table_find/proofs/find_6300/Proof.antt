@@ -3,10 +3,11 @@ use mathlib.Core.Path.{refl, sym, ap}
 use borrow.Author.Needs.{needs}
 use Rattle.meaning.specs.Tables.{rows6300, rowLabel}
 use Rattle.meaning.specs.FieldTable.{fieldTable, fieldRowIn}
-use Rattle.table_fields.specs.Codes.{kindNumber, fieldCode}
-use Rattle.table_find.specs.LookUp.{findFrom, numberOf, numberFrom}
-use Rattle.table_find.specs.Codes.{code}
-use Rattle.table_find.proofs.Laws.{plainLabels, find-none}
+use Rattle.table_fields.specs.FieldCodes.{kindNumber, fieldCode}
+use Rattle.table_fields.specs.LabelNumbers.{labelNumber, rowsBefore}
+use Rattle.table_find.specs.LookUp.{findFrom}
+use Rattle.table_find.specs.RowCodes.{code}
+use Rattle.table_find.proofs.FindLaws.{plainLabels, find-none}
 use Rattle.table_find.proofs.find_6300.Statement.{statement}
 use Rattle.table_find.proofs.find_6300.Tie as tie
 
@@ -32,31 +33,31 @@ at-requires-7 : tie.Need-at-requires-7
 at-requires-7 c κs = search needs
 
 returns : tie.Need-returns
-unfolding code findFrom numberOf numberFrom rows6300 rowLabel fieldCode kindNumber fieldRowIn fieldTable
+unfolding code findFrom labelNumber rowsBefore rows6300 rowLabel fieldCode kindNumber fieldRowIn fieldTable
 returns c = rw (c .before .match .keys1) (c .at .ensures)
 
 returns-2 : tie.Need-returns-2
-unfolding code findFrom numberOf numberFrom rows6300 rowLabel fieldCode kindNumber fieldRowIn fieldTable
+unfolding code findFrom labelNumber rowsBefore rows6300 rowLabel fieldCode kindNumber fieldRowIn fieldTable
 returns-2 c = rw (c .before .match .keys2) (c .at2 .ensures)
 
 returns-3 : tie.Need-returns-3
-unfolding code findFrom numberOf numberFrom rows6300 rowLabel fieldCode kindNumber fieldRowIn fieldTable
+unfolding code findFrom labelNumber rowsBefore rows6300 rowLabel fieldCode kindNumber fieldRowIn fieldTable
 returns-3 c = rw (c .before .match .keys3) (c .at3 .ensures)
 
 returns-4 : tie.Need-returns-4
-unfolding code findFrom numberOf numberFrom rows6300 rowLabel fieldCode kindNumber fieldRowIn fieldTable
+unfolding code findFrom labelNumber rowsBefore rows6300 rowLabel fieldCode kindNumber fieldRowIn fieldTable
 returns-4 c = rw (c .before .match .keys4) (c .at4 .ensures)
 
 returns-5 : tie.Need-returns-5
-unfolding code findFrom numberOf numberFrom rows6300 rowLabel fieldCode kindNumber fieldRowIn fieldTable
+unfolding code findFrom labelNumber rowsBefore rows6300 rowLabel fieldCode kindNumber fieldRowIn fieldTable
 returns-5 c = rw (c .before .match .keys5) (c .at5 .ensures)
 
 returns-6 : tie.Need-returns-6
-unfolding code findFrom numberOf numberFrom rows6300 rowLabel fieldCode kindNumber fieldRowIn fieldTable
+unfolding code findFrom labelNumber rowsBefore rows6300 rowLabel fieldCode kindNumber fieldRowIn fieldTable
 returns-6 c = rw (c .before .match .keys6) (c .at6 .ensures)
 
 returns-7 : tie.Need-returns-7
-unfolding code findFrom numberOf numberFrom rows6300 rowLabel fieldCode kindNumber fieldRowIn fieldTable
+unfolding code findFrom labelNumber rowsBefore rows6300 rowLabel fieldCode kindNumber fieldRowIn fieldTable
 returns-7 c = rw (c .before .match .keys7) (c .at7 .ensures)
 
 returns-8 : tie.Need-returns-8

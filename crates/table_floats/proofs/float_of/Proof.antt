@@ -18,8 +18,11 @@ float-if-requires c κs = search needs
 returns : tie.Need-returns
 unfolding floatOf
 returns c =
+    let at-unsigned-from = c .before in
+    let at-if1 = at-unsigned-from .before in
+    let at-byte-at = at-if1 .before in
     c .float-if .ensures
-    ∙ ap floatIf (c .before .unsigned-from .ensures ∙ sym (float-minus _ (sym (c .before .before .before .byte-at .ensures) ∙ c .before .before .if1 .taken)))
+    ∙ ap floatIf (at-unsigned-from .unsigned-from .ensures ∙ sym (float-minus _ (sym (at-byte-at .byte-at .ensures) ∙ at-if1 .if1 .taken)))
 
 unsigned-from-requires-2 : tie.Need-unsigned-from-requires-2
 unsigned-from-requires-2 c κs = search needs
@@ -30,8 +33,11 @@ float-if-requires-2 c κs = search needs
 returns-2 : tie.Need-returns-2
 unfolding floatOf
 returns-2 c =
+    let at-unsigned-from2 = c .before in
+    let at-if1 = at-unsigned-from2 .before in
+    let at-byte-at = at-if1 .before in
     c .float-if2 .ensures
-    ∙ ap floatIf (c .before .unsigned-from2 .ensures ∙ sym (float-plain _ (λ e. c .before .before .if1 .left (c .before .before .before .byte-at .ensures ∙ e))))
+    ∙ ap floatIf (at-unsigned-from2 .unsigned-from2 .ensures ∙ sym (float-plain _ (λ e. at-if1 .if1 .left (at-byte-at .byte-at .ensures ∙ e))))
 
 pub float-of-spec : {M : Type 1} → statement M
 float-of-spec =

@@ -18,7 +18,12 @@ of-kind-requires : tie.Need-of-kind-requires
 of-kind-requires c κs = search needs
 
 returns : tie.Need-returns
-returns c = sym (fits-kind _ _ _ (c .before .before .before .before .field-code .ensures) (sym (c .before .before .before .has-length .ensures) ∙ c .before .before .if1 .taken) _ _ (c .before .kind-of .ensures) (c .of-kind .ensures))
+returns c =
+    let at-kind-of = c .before in
+    let at-if1 = at-kind-of .before in
+    let at-has-length = at-if1 .before in
+    let at-field-code = at-has-length .before in
+    sym (fits-kind _ _ _ (at-field-code .field-code .ensures) (sym (at-has-length .has-length .ensures) ∙ at-if1 .if1 .taken) _ _ (at-kind-of .kind-of .ensures) (c .of-kind .ensures))
 
 returns-2 : tie.Need-returns-2
 returns-2 c = sym (fits-not _ _ _ (c .before .before .field-code .ensures) (sym (c .before .has-length .ensures) ∙ c .if1 .left))

@@ -20,11 +20,17 @@ two-at-requires-2 c κs = search needs
 
 returns-2 : tie.Need-returns-2
 unfolding isVersion
-returns-2 c = search (le-leb, lt-leb, eq-eqb, ← (c .before .before .before .before .two-at .ensures), ← (c .before .before .byte-at .ensures), ← (c .two-at2 .ensures))
+returns-2 c =
+    let at-byte-at = c .before .before in
+    let at-two-at = at-byte-at .before .before in
+    search (le-leb, lt-leb, eq-eqb, ← (at-two-at .two-at .ensures), ← (at-byte-at .byte-at .ensures), ← (c .two-at2 .ensures))
 
 returns-3 : tie.Need-returns-3
 unfolding isVersion
-returns-3 c = search (le-leb, ne-eqb, ← (c .before .before .before .two-at .ensures), ← (c .before .byte-at .ensures))
+returns-3 c =
+    let at-byte-at = c .before in
+    let at-two-at = at-byte-at .before .before in
+    search (le-leb, ne-eqb, ← (at-two-at .two-at .ensures), ← (at-byte-at .byte-at .ensures))
 
 pub is-version-spec : {M : Type 1} → statement M
 is-version-spec =

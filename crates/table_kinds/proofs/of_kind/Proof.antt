@@ -1,8 +1,8 @@
 -- `of_kind` is the test that `ofKind` names: an arm knows the kind's number, the last arm that it is none of the nine.
 use borrow.Author.Needs.{needs}
 use Rattle.meaning.specs.Kinds.{isAlnum, ofKind}
-use Rattle.table_fields.specs.Codes.{kindOf}
-use Rattle.table_fields.proofs.CodeLaws.{kind-last}
+use Rattle.table_fields.specs.FieldCodes.{kindOf}
+use Rattle.table_fields.proofs.FieldCodeLaws.{kind-last}
 use Rattle.table_kinds.proofs.of_kind.Statement.{statement}
 use Rattle.table_kinds.proofs.of_kind.Tie as tie
 

@@ -1,4 +1,4 @@
--- The loop of `same_bytes`: what is left of the two is the same exactly where the two are.
+-- The loop of `same_bytes`: what is left of the two is the same exactly if the two are.
 use mathlib.Core.Path.{_≡_, refl, sym, _∙_}
 use Prim.Native.Nat.{_-_}
 use native.Mathlib.Omega.{arith}
@@ -29,7 +29,9 @@ shared-slice-read-if2-2 c = search needs
 
 returns-2 : tie.Need-returns-2 Inv-loop μ-loop
 returns-2 c =
-    let l = c .before .before .before .before .loop in
+    let at-shared-slice-known = c .before .before in
+    let at-loop = at-shared-slice-known .before .before in
+    let l = at-loop .loop in
     sym (same-stop _ _ (l .i) (omega arith) (omega arith) (c .if2 .taken)) ∙ l .inv
 
 add-i : tie.Need-add-i Inv-loop μ-loop
@@ -40,7 +42,9 @@ loop-less c = search needs
 
 loop-again : tie.Need-loop-again Inv-loop μ-loop
 loop-again c =
-    let l = c .before .before .before .before .loop in
+    let at-shared-slice-known = c .before .before in
+    let at-loop = at-shared-slice-known .before .before in
+    let l = at-loop .loop in
     sym (same-more _ _ (l .i) (omega arith) (omega arith) (c .if2 .left)) ∙ l .inv
 
 returns-3 : tie.Need-returns-3 Inv-loop μ-loop

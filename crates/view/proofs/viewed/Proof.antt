@@ -1,4 +1,4 @@
--- `viewed`: the walk behind `judge`, which shows what the definition says (AloneLaws).
+-- `viewed`: the walk after `judge`, which shows what the definition says (AloneLaws).
 use mathlib.Core.Path.{sym, _∙_}
 use borrow.Author.Needs.{needs}
 use Rattle.view.proofs.AloneLaws.{viewed-refused, viewed-accepted}
@@ -15,13 +15,22 @@ enum-known-shape : tie.Need-enum-known-shape
 enum-known-shape c = search needs
 
 shown-alone-requires : tie.Need-shown-alone-requires
-shown-alone-requires c κs = sym (c .before .before .before .judge .ensures) ∙ c .before .shape .given .1
+shown-alone-requires c κs =
+    let at-shape = c .before in
+    let at-judge = at-shape .before .before in
+    sym (at-judge .judge .ensures) ∙ at-shape .shape .given .1
 
 returns : tie.Need-returns
-returns c = viewed-refused _ _ _ _ (sym (c .before .before .before .judge .ensures) ∙ c .before .r .given .1)
+returns c =
+    let at-r = c .before in
+    let at-judge = at-r .before .before in
+    viewed-refused _ _ _ _ (sym (at-judge .judge .ensures) ∙ at-r .r .given .1)
 
 returns-2 : tie.Need-returns-2
-returns-2 c = c .shown-alone .ensures ∙ viewed-accepted _ _ _ _ (sym (c .before .before .before .before .judge .ensures) ∙ c .before .before .shape .given .1)
+returns-2 c =
+    let at-shape = c .before .before in
+    let at-judge = at-shape .before .before in
+    c .shown-alone .ensures ∙ viewed-accepted _ _ _ _ (sym (at-judge .judge .ensures) ∙ at-shape .shape .given .1)
 
 pub viewed-spec : {M : Type 1} → statement M
 viewed-spec =

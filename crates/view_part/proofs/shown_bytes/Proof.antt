@@ -10,9 +10,10 @@ enum-known-shown c = search needs
 
 add-end : tie.Need-add-end
 add-end c =
-    let a = c .before .before .before .before in
-    let w = sheet-ends (a .args .set .now) (a .args .sheet .now) (a .args .shown) _ (c .before .before .shown .given .1) (a .pre) in
-    omega (arith, w, a .good)
+    let at-shown = c .before .before in
+    let at-start = at-shown .before .before in
+    let w = sheet-ends (at-start .args .set .now) (at-start .args .sheet .now) (at-start .args .shown) _ (at-shown .shown .given .1) (at-start .pre) in
+    omega (arith, w, at-start .good)
 
 sub-result : tie.Need-sub-result
 sub-result c = search needs
@@ -22,17 +23,19 @@ part-result-start c = search needs
 
 part-result-end : tie.Need-part-result-end
 part-result-end c =
-    let a = c .before .before .before .before in
-    sheet-ends (a .args .set .now) (a .args .sheet .now) (a .args .shown) _ (c .before .before .shown .given .1) (a .pre)
+    let at-shown = c .before .before in
+    let at-start = at-shown .before .before in
+    sheet-ends (at-start .args .set .now) (at-start .args .sheet .now) (at-start .args .shown) _ (at-shown .shown .given .1) (at-start .pre)
 
 enum-known-shown-2 : tie.Need-enum-known-shown-2
 enum-known-shown-2 c = search needs
 
 add-end-2 : tie.Need-add-end-2
 add-end-2 c =
-    let a = c .before .before .before .before in
-    let w = set-ends (a .args .set .now) (a .args .sheet .now) (a .args .shown) _ (c .before .before .shown2 .given .1) (a .pre) in
-    omega (arith, w, a .good)
+    let at-shown2 = c .before .before in
+    let at-start = at-shown2 .before .before in
+    let w = set-ends (at-start .args .set .now) (at-start .args .sheet .now) (at-start .args .shown) _ (at-shown2 .shown2 .given .1) (at-start .pre) in
+    omega (arith, w, at-start .good)
 
 sub-result-2 : tie.Need-sub-result-2
 sub-result-2 c = search needs
@@ -42,8 +45,9 @@ part-result-start-2 c = search needs
 
 part-result-end-2 : tie.Need-part-result-end-2
 part-result-end-2 c =
-    let a = c .before .before .before .before in
-    set-ends (a .args .set .now) (a .args .sheet .now) (a .args .shown) _ (c .before .before .shown2 .given .1) (a .pre)
+    let at-shown2 = c .before .before in
+    let at-start = at-shown2 .before .before in
+    set-ends (at-start .args .set .now) (at-start .args .sheet .now) (at-start .args .shown) _ (at-shown2 .shown2 .given .1) (at-start .pre)
 
 enum-told : tie.Need-enum-told
 enum-told c = search needs
@@ -59,13 +63,17 @@ part-result-end-3 c = search needs
 
 returns : tie.Need-returns
 returns c =
-    let a = c .before .before .before .before .before in
-    bytes-sheet (a .args .set .now) (a .args .sheet .now) (a .args .shown) _ (c .before .before .before .shown .given .1)
+    let at-known-told = c .before .before in
+    let at-shown = at-known-told .before in
+    let at-start = at-shown .before .before in
+    bytes-sheet (at-start .args .set .now) (at-start .args .sheet .now) (at-start .args .shown) _ (at-shown .shown .given .1)
 
 returns-2 : tie.Need-returns-2
 returns-2 c =
-    let a = c .before .before .before .before .before in
-    bytes-set (a .args .set .now) (a .args .sheet .now) (a .args .shown) _ (c .before .before .before .shown2 .given .1)
+    let at-known-told2 = c .before .before in
+    let at-shown2 = at-known-told2 .before in
+    let at-start = at-shown2 .before .before in
+    bytes-set (at-start .args .set .now) (at-start .args .sheet .now) (at-start .args .shown) _ (at-shown2 .shown2 .given .1)
 
 returns-3 : tie.Need-returns-3
 returns-3 c = search needs

@@ -1,11 +1,11 @@
--- `shown_by_sheet` is the walk `shownFrom`: what the entries that are left show behind those before them is what all show.
+-- `shown_by_sheet` is the walk `shownFrom`: what the entries that are left show after those before them is what all show.
 use mathlib.Core.Path.{_≡_, refl, sym, _∙_}
 use Prim.Native.Nat.{ℕ, _+_, _-_, _≤_, pred}
 use native.Mathlib.Omega.{arith}
 use borrow.Author.Needs.{needs}
 use lib.ListN.{length}
 use Rattle.view_sheet.specs.Showing.{shownFrom, shownBySheet}
-use Rattle.view_sheet.proofs.WalkLaws.{check-within, shown-end, shown-bad, shown-next}
+use Rattle.view_sheet.proofs.SheetWalkLaws.{sheet-within, shown-end, shown-bad, shown-next}
 use Rattle.view_sheet.proofs.shown_by_sheet.Statement.{statement}
 use Rattle.view_sheet.proofs.shown_by_sheet.Tie as tie
 
@@ -20,54 +20,78 @@ loop-holds : tie.Need-loop-holds Inv-loop μ-loop
 unfolding shownBySheet
 loop-holds c = (omega arith, length (c .before .before .args .sheet .now), omega arith, refl)
 
-check-entry-requires : tie.Need-check-entry-requires Inv-loop μ-loop
-check-entry-requires c κs = search needs
+sheet-entry-at-requires : tie.Need-sheet-entry-at-requires Inv-loop μ-loop
+sheet-entry-at-requires c κs = search needs
 
 enum-known-r : tie.Need-enum-known-r Inv-loop μ-loop
 enum-known-r c = search needs
 
 returns : tie.Need-returns Inv-loop μ-loop
 returns c =
-    let l = c .before .before .before .before .before .loop in
-    let e = sym (c .before .before .before .check-entry .ensures) ∙ c .before .r .given .1 in
-    shown-bad _ _ _ _ (l .inv .1) (l .at) (l .shown) (c .before .before .before .before .loop-test .taken) (l .inv .2) _ e ∙ l .inv .3
+    let at-r = c .before in
+    let at-sheet-entry-at = at-r .before .before in
+    let at-loop-test = at-sheet-entry-at .before in
+    let at-loop = at-loop-test .before in
+    let l = at-loop .loop in
+    let e = sym (at-sheet-entry-at .sheet-entry-at .ensures) ∙ at-r .r .given .1 in
+    shown-bad _ _ _ _ (l .inv .1) (l .at) (l .shown) (at-loop-test .loop-test .taken) (l .inv .2) _ e ∙ l .inv .3
 
 enum-known-named : tie.Need-enum-known-named Inv-loop μ-loop
 enum-known-named c = search needs
 
 add-place : tie.Need-add-place Inv-loop μ-loop
 add-place c =
-    let b = c .before .before .before .before .before in
-    let a = b .before .before .before .args in
-    let e = sym (c .before .before .before .check-entry .ensures) ∙ c .before .named .given .1 in
-    let w = check-within (a .set .now) (a .shape) (a .sheet .now) (b .loop .at) _ _ e in
-    omega (arith, w, b .before .before .before .fits, b .before .before .before .good)
+    let at-named = c .before in
+    let at-sheet-entry-at = at-named .before .before in
+    let at-loop = at-sheet-entry-at .before .before in
+    let at-shared-slice-known = at-loop .before .before in
+    let at-start = at-shared-slice-known .before in
+    let a = at-start .args in
+    let e = sym (at-sheet-entry-at .sheet-entry-at .ensures) ∙ at-named .named .given .1 in
+    let w = sheet-within (a .set .now) (a .shape) (a .sheet .now) (at-loop .loop .at) _ _ e in
+    omega (arith, w, at-start .fits, at-start .good)
 
 newer-part-requires : tie.Need-newer-part-requires Inv-loop μ-loop
 newer-part-requires c κs = search needs
 
 add-at : tie.Need-add-at Inv-loop μ-loop
 add-at c =
-    let b = c .before .before .before .before in
-    let a = b .before .before .before .before .before .args in
-    let e = sym (b .check-entry .ensures) ∙ c .before .before .named .given .1 in
-    let w = check-within (a .set .now) (a .shape) (a .sheet .now) (b .before .before .loop .at) _ _ e in
-    omega (arith, w, b .before .before .before .before .before .fits, b .before .before .before .before .before .good)
+    let at-named = c .before .before in
+    let at-sheet-entry-at = at-named .before .before in
+    let at-loop = at-sheet-entry-at .before .before in
+    let at-shared-slice-known = at-loop .before .before in
+    let at-start = at-shared-slice-known .before in
+    let a = at-start .args in
+    let e = sym (at-sheet-entry-at .sheet-entry-at .ensures) ∙ at-named .named .given .1 in
+    let w = sheet-within (a .set .now) (a .shape) (a .sheet .now) (at-loop .loop .at) _ _ e in
+    omega (arith, w, at-start .fits, at-start .good)
 
 loop-less : tie.Need-loop-less Inv-loop μ-loop
 loop-less c =
-    let a = c .before .before .before .before .before .before .before .before .before .args in
-    let e = sym (c .before .before .before .before .check-entry .ensures) ∙ c .before .before .named .given .1 in
-    let w = check-within (a .set .now) (a .shape) (a .sheet .now) (c .before .before .before .before .before .before .loop .at) _ _ e in
-    omega (arith, w, c .before .before .before .before .before .loop-test .taken)
+    let at-named = c .before .before in
+    let at-sheet-entry-at = at-named .before .before in
+    let at-loop-test = at-sheet-entry-at .before in
+    let at-loop = at-loop-test .before in
+    let at-shared-slice-known = at-loop .before .before in
+    let at-start = at-shared-slice-known .before in
+    let a = at-start .args in
+    let e = sym (at-sheet-entry-at .sheet-entry-at .ensures) ∙ at-named .named .given .1 in
+    let w = sheet-within (a .set .now) (a .shape) (a .sheet .now) (at-loop .loop .at) _ _ e in
+    omega (arith, w, at-loop-test .loop-test .taken)
 
 loop-again : tie.Need-loop-again Inv-loop μ-loop
 loop-again c =
-    let a = c .before .before .before .before .before .before .before .before .before .args in
-    let l = c .before .before .before .before .before .before .loop in
-    let t = c .before .before .before .before .before .loop-test .taken in
-    let e = sym (c .before .before .before .before .check-entry .ensures) ∙ c .before .before .named .given .1 in
-    let w = check-within (a .set .now) (a .shape) (a .sheet .now) (c .before .before .before .before .before .before .loop .at) _ _ e in (
+    let at-named = c .before .before in
+    let at-sheet-entry-at = at-named .before .before in
+    let at-loop-test = at-sheet-entry-at .before in
+    let at-loop = at-loop-test .before in
+    let at-shared-slice-known = at-loop .before .before in
+    let at-start = at-shared-slice-known .before in
+    let a = at-start .args in
+    let l = at-loop .loop in
+    let t = at-loop-test .loop-test .taken in
+    let e = sym (at-sheet-entry-at .sheet-entry-at .ensures) ∙ at-named .named .given .1 in
+    let w = sheet-within (a .set .now) (a .shape) (a .sheet .now) (at-loop .loop .at) _ _ e in (
       omega (arith, w),
       pred (l .inv .1),
       omega (arith, w, l .inv .2, t),
@@ -86,7 +110,7 @@ shown-by-sheet-spec =
     Inv-loop
     μ-loop
     loop-holds
-    check-entry-requires
+    sheet-entry-at-requires
     enum-known-r
     returns
     enum-known-named

@@ -1,8 +1,8 @@
--- `shown_under`: what the sheet shows, and the part of the set where it shows none.
+-- `shown_under`: what the sheet shows, and the part of the set if it shows none.
 use mathlib.Core.Path.{sym, ap, _∙_}
 use borrow.Author.Needs.{needs}
 use Rattle.meaning.specs.declared.Viewed.the-variants.{Set}
-use Rattle.view_sheet.proofs.WalkLaws.{under-by}
+use Rattle.view_sheet.proofs.SheetWalkLaws.{under-by}
 use Rattle.view_sheet.proofs.shown_under.Statement.{statement}
 use Rattle.view_sheet.proofs.shown_under.Tie as tie
 
@@ -22,13 +22,22 @@ part-of-set-requires : tie.Need-part-of-set-requires
 part-of-set-requires c κs = search needs
 
 returns : tie.Need-returns
-returns c = under-by _ _ _ _ _ (sym (c .before .before .before .shown-by-sheet .ensures) ∙ c .before .r .given .1)
+returns c =
+    let at-r = c .before in
+    let at-shown-by-sheet = at-r .before .before in
+    under-by _ _ _ _ _ (sym (at-shown-by-sheet .shown-by-sheet .ensures) ∙ at-r .r .given .1)
 
 returns-2 : tie.Need-returns-2
-returns-2 c = under-by _ _ _ _ _ (sym (c .before .before .before .shown-by-sheet .ensures) ∙ c .before .part .given .1)
+returns-2 c =
+    let at-part = c .before in
+    let at-shown-by-sheet = at-part .before .before in
+    under-by _ _ _ _ _ (sym (at-shown-by-sheet .shown-by-sheet .ensures) ∙ at-part .part .given .1)
 
 returns-3 : tie.Need-returns-3
-returns-3 c = ap Set (c .part-of-set .ensures) ∙ under-by _ _ _ _ _ (sym (c .before .before .before .shown-by-sheet .ensures) ∙ c .before .enum-told .given .1)
+returns-3 c =
+    let at-enum-told = c .before in
+    let at-shown-by-sheet = at-enum-told .before .before in
+    ap Set (c .part-of-set .ensures) ∙ under-by _ _ _ _ _ (sym (at-shown-by-sheet .shown-by-sheet .ensures) ∙ at-enum-told .enum-told .given .1)
 
 pub shown-under-spec : {M : Type 1} → statement M
 shown-under-spec =

@@ -17,7 +17,11 @@ use Rattle.write.proofs.put_set.Statement.{statement}
 use Rattle.write.proofs.put_set.Tie as tie
 
 abbrev Inv-loop : tie.InvT-loop
-Inv-loop list total out₀ at₀ to₀ out at to = (at ≤ length list) × (length out ≡ length out₀) × (to + length (linesLeft list (digits sumDigits total) at) ≤ length out) × (over to (linesLeft list (digits sumDigits total) at) out ≡ over 0 (linesLeft list (digits sumDigits total) 0) out₀)
+Inv-loop list total out₀ at₀ to₀ out at to =
+    (at ≤ length list)
+    × (length out ≡ length out₀)
+    × (to + length (linesLeft list (digits sumDigits total) at) ≤ length out)
+    × (over to (linesLeft list (digits sumDigits total) at) out ≡ over 0 (linesLeft list (digits sumDigits total) 0) out₀)
 
 abbrev μ-loop : tie.MeasureT-loop
 μ-loop list total out₀ at₀ to₀ out at to = length list - at
@@ -33,96 +37,135 @@ enum-told c = search needs
 
 same-length : tie.Need-same-length Inv-loop μ-loop
 same-length c =
-    let b4 = c .before .before .before .before in
-    b4 .loop .inv .1
+    let at-entry-at = c .before .before in
+    let at-loop = at-entry-at .before .before in
+    at-loop .loop .inv .1
 
 returns : tie.Need-returns Inv-loop μ-loop
 returns c =
-    let b3 = c .before .before .before in
-    let b4 = b3 .before in
-    let b7 = b4 .before .before .before in
-    let a = b7 .args in
-    let l = b4 .loop in
-    over-none (l .out) (l .to) ∙ (ap (λ (u : List ℕ). over (l .to) u (l .out)) (sym (lines-cut (a .list .now) (digits sumDigits (a .total)) (l .at) (b3 .loop-test .taken) (sym (c .before .before .entry-at .ensures) ∙ c .enum-told .given .1))) ∙ l .inv .3)
+    let at-entry-at = c .before .before in
+    let at-loop-test = at-entry-at .before in
+    let at-loop = at-loop-test .before in
+    let at-shared-slice-known = at-loop .before .before in
+    let at-start = at-shared-slice-known .before in
+    let a = at-start .args in
+    let l = at-loop .loop in
+    over-none (l .out) (l .to)
+    ∙ (ap (λ (u : List ℕ). over (l .to) u (l .out))
+    (sym (lines-cut (a .list .now) (digits sumDigits (a .total)) (l .at) (at-loop-test .loop-test .taken) (sym (at-entry-at .entry-at .ensures) ∙ c .enum-told .given .1)))
+    ∙ l .inv .3)
 
 enum-known-label : tie.Need-enum-known-label Inv-loop μ-loop
 enum-known-label c = search needs
 
 add-from : tie.Need-add-from Inv-loop μ-loop
 add-from c =
-    let b3 = c .before .before .before in
-    let b5 = b3 .before .before in
-    let b8 = b5 .before .before .before in
-    omega (arith, whole-back (b8 .args .list .now) (b5 .loop .at) (sym (b3 .entry-at .ensures) ∙ c .before .label .given .1) .within, b8 .good)
+    let at-label = c .before in
+    let at-entry-at = at-label .before .before in
+    let at-loop = at-entry-at .before .before in
+    let at-shared-slice-known = at-loop .before .before in
+    let at-start = at-shared-slice-known .before in
+    omega (arith, whole-back (at-start .args .list .now) (at-loop .loop .at) (sym (at-entry-at .entry-at .ensures) ∙ at-label .label .given .1) .within, at-start .good)
 
 add-end : tie.Need-add-end Inv-loop μ-loop
 add-end c =
-    let b3 = c .before .before .before in
-    let b5 = b3 .before .before in
-    let b8 = b5 .before .before .before in
-    omega (arith, whole-back (b8 .args .list .now) (b5 .loop .at) (sym (b3 .entry-at .ensures) ∙ c .before .label .given .1) .within, b8 .good)
+    let at-label = c .before in
+    let at-entry-at = at-label .before .before in
+    let at-loop = at-entry-at .before .before in
+    let at-shared-slice-known = at-loop .before .before in
+    let at-start = at-shared-slice-known .before in
+    omega (arith, whole-back (at-start .args .list .now) (at-loop .loop .at) (sym (at-entry-at .entry-at .ensures) ∙ at-label .label .given .1) .within, at-start .good)
 
 sub-put-lines : tie.Need-sub-put-lines Inv-loop μ-loop
 sub-put-lines c =
-    let b3 = c .before .before .before in
-    let b5 = b3 .before .before in
-    let b8 = b5 .before .before .before in
-    omega (arith, whole-back (b8 .args .list .now) (b5 .loop .at) (sym (b3 .entry-at .ensures) ∙ c .before .label .given .1) .within, b8 .good)
+    let at-label = c .before in
+    let at-entry-at = at-label .before .before in
+    let at-loop = at-entry-at .before .before in
+    let at-shared-slice-known = at-loop .before .before in
+    let at-start = at-shared-slice-known .before in
+    omega (arith, whole-back (at-start .args .list .now) (at-loop .loop .at) (sym (at-entry-at .entry-at .ensures) ∙ at-label .label .given .1) .within, at-start .good)
 
 part-put-lines-start : tie.Need-part-put-lines-start Inv-loop μ-loop
 part-put-lines-start c =
-    let b3 = c .before .before .before in
-    let b5 = b3 .before .before in
-    let b8 = b5 .before .before .before in
-    omega (arith, whole-back (b8 .args .list .now) (b5 .loop .at) (sym (b3 .entry-at .ensures) ∙ c .before .label .given .1) .within, b8 .good)
+    let at-label = c .before in
+    let at-entry-at = at-label .before .before in
+    let at-loop = at-entry-at .before .before in
+    let at-shared-slice-known = at-loop .before .before in
+    let at-start = at-shared-slice-known .before in
+    omega (arith, whole-back (at-start .args .list .now) (at-loop .loop .at) (sym (at-entry-at .entry-at .ensures) ∙ at-label .label .given .1) .within, at-start .good)
 
 part-put-lines-end : tie.Need-part-put-lines-end Inv-loop μ-loop
 part-put-lines-end c =
-    let b3 = c .before .before .before in
-    let b5 = b3 .before .before in
-    let b8 = b5 .before .before .before in
-    omega (arith, whole-back (b8 .args .list .now) (b5 .loop .at) (sym (b3 .entry-at .ensures) ∙ c .before .label .given .1) .within, b8 .good)
+    let at-label = c .before in
+    let at-entry-at = at-label .before .before in
+    let at-loop = at-entry-at .before .before in
+    let at-shared-slice-known = at-loop .before .before in
+    let at-start = at-shared-slice-known .before in
+    omega (arith, whole-back (at-start .args .list .now) (at-loop .loop .at) (sym (at-entry-at .entry-at .ensures) ∙ at-label .label .given .1) .within, at-start .good)
 
 put-lines-requires : tie.Need-put-lines-requires Inv-loop μ-loop
 put-lines-requires c κs =
-    let b3 = c .before .before .before in
-    let b5 = b3 .before .before in
-    let b6 = b5 .before in
-    let b7 = b6 .before in
-    let b10 = b7 .before .before .before in
-    let a = b10 .args in
-    let l = b7 .loop in
-    lines-fit (a .list .now) (digits sumDigits (a .total)) (l .at) (b6 .loop-test .taken) (sym (b5 .entry-at .ensures) ∙ b3 .label .given .1) _ (add-sub-cancel-left _ _) _ (add-assoc (l .at) _ _) (l .out) (l .to) (l .inv .2)
+    let at-put-lines-arg = c .before in
+    let at-label = at-put-lines-arg .before .before in
+    let at-entry-at = at-label .before .before in
+    let at-loop-test = at-entry-at .before in
+    let at-loop = at-loop-test .before in
+    let at-shared-slice-known = at-loop .before .before in
+    let at-start = at-shared-slice-known .before in
+    let a = at-start .args in
+    let l = at-loop .loop in
+    lines-fit (a .list .now) (digits sumDigits (a .total)) (l .at) (at-loop-test .loop-test .taken)
+    (sym (at-entry-at .entry-at .ensures) ∙ at-label .label .given .1) _ (add-sub-cancel-left _ _) _ (add-assoc (l .at) _ _) (l .out) (l .to) (l .inv .2)
 
 loop-less : tie.Need-loop-less Inv-loop μ-loop
 loop-less c =
-    let b6 = c .before .before .before .before .before .before in
-    let b8 = b6 .before .before in
-    let b9 = b8 .before in
-    let b10 = b9 .before in
-    let b13 = b10 .before .before .before in
-    omega (arith, b9 .loop-test .taken, whole-back (b13 .args .list .now) (b10 .loop .at) (sym (b8 .entry-at .ensures) ∙ b6 .label .given .1) .within)
+    let at-put-lines = c .before .before in
+    let at-put-lines-arg = at-put-lines .before .before in
+    let at-label = at-put-lines-arg .before .before in
+    let at-entry-at = at-label .before .before in
+    let at-loop-test = at-entry-at .before in
+    let at-loop = at-loop-test .before in
+    let at-shared-slice-known = at-loop .before .before in
+    let at-start = at-shared-slice-known .before in
+    omega (
+      arith,
+      at-loop-test .loop-test .taken,
+      whole-back (at-start .args .list .now) (at-loop .loop .at) (sym (at-entry-at .entry-at .ensures) ∙ at-label .label .given .1) .within,
+    )
 
 loop-again : tie.Need-loop-again Inv-loop μ-loop
 loop-again c =
-    let b6 = c .before .before .before .before .before .before in
-    let b8 = b6 .before .before in
-    let b9 = b8 .before in
-    let b10 = b9 .before in
-    let b13 = b10 .before .before .before in
-    let a = b13 .args in
-    let l = b10 .loop in
-    let t = put-turn (a .list .now) (digits sumDigits (a .total)) (l .at) (b9 .loop-test .taken) (sym (b8 .entry-at .ensures) ∙ b6 .label .given .1) _ (add-sub-cancel-left _ _) _ (add-assoc (l .at) _ _) (l .out) (l .to) (l .inv .2) _ _ (c .before .before .put-lines .ensures .0) (c .before .before .put-lines .ensures .1) in (omega (arith, whole-back (a .list .now) (l .at) (sym (b8 .entry-at .ensures) ∙ b6 .label .given .1) .within), t .same-room ∙ l .inv .1, t .has-room, t .same ∙ l .inv .3)
+    let at-put-lines = c .before .before in
+    let at-put-lines-arg = at-put-lines .before .before in
+    let at-label = at-put-lines-arg .before .before in
+    let at-entry-at = at-label .before .before in
+    let at-loop-test = at-entry-at .before in
+    let at-loop = at-loop-test .before in
+    let at-shared-slice-known = at-loop .before .before in
+    let at-start = at-shared-slice-known .before in
+    let a = at-start .args in
+    let l = at-loop .loop in
+    let t = put-turn (a .list .now) (digits sumDigits (a .total)) (l .at) (at-loop-test .loop-test .taken)
+    (sym (at-entry-at .entry-at .ensures) ∙ at-label .label .given .1) _ (add-sub-cancel-left _ _) _ (add-assoc (l .at) _ _) (l .out) (l .to) (l .inv .2)
+    _ _ (at-put-lines .put-lines .ensures .0) (at-put-lines .put-lines .ensures .1) in (
+      omega (arith, whole-back (a .list .now) (l .at) (sym (at-entry-at .entry-at .ensures) ∙ at-label .label .given .1) .within),
+      t .same-room ∙ l .inv .1,
+      t .has-room,
+      t .same ∙ l .inv .3,
+    )
 
 same-length-2 : tie.Need-same-length-2 Inv-loop μ-loop
 same-length-2 c = c .before .loop .inv .1
 
 returns-2 : tie.Need-returns-2 Inv-loop μ-loop
 returns-2 c =
-    let b4 = c .before .before .before .before in
-    let a = b4 .args in
-    let l = c .before .loop in
-    over-none (l .out) (l .to) ∙ (ap (λ (u : List ℕ). over (l .to) u (l .out)) (sym (lines-end (a .list .now) (digits sumDigits (a .total)) (l .at) (c .loop-test .left))) ∙ l .inv .3)
+    let at-loop = c .before in
+    let at-shared-slice-known = at-loop .before .before in
+    let at-start = at-shared-slice-known .before in
+    let a = at-start .args in
+    let l = at-loop .loop in
+    over-none (l .out) (l .to)
+    ∙ (ap (λ (u : List ℕ). over (l .to) u (l .out)) (sym (lines-end (a .list .now) (digits sumDigits (a .total)) (l .at) (c .loop-test .left))) ∙ l .inv .3)
 
 pub put-set-spec : {M : Type 1} → statement M
 put-set-spec =

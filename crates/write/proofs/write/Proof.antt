@@ -12,9 +12,12 @@ at-requires c κs = search needs
 
 returns : tie.Need-returns
 returns c =
-    let b4 = c .before .before .before .before in
-    let a = b4 .args in
-    let r = answer-empty (a .list .now) (a .out .now) (c .before .if1 .taken) in (ap Refused (c .at .ensures) ∙ r .0, r .1)
+    let at-if1 = c .before in
+    let at-shared-slice-known = at-if1 .before .before in
+    let at-start = at-shared-slice-known .before in
+    let a = at-start .args in
+    let r = answer-empty (a .list .now) (a .out .now) (at-if1 .if1 .taken) in
+    (ap Refused (c .at .ensures) ∙ r .0, r .1)
 
 judge-list-requires : tie.Need-judge-list-requires
 judge-list-requires c κs = search needs
@@ -27,17 +30,20 @@ enum-known-n c = search needs
 
 write-entries-requires : tie.Need-write-entries-requires
 write-entries-requires c κs =
-    let b4 = c .before .before .before .before in
-    let b5 = b4 .before in
-    (omega (arith, b5 .if1 .left), sym (b4 .judge-list .ensures) ∙ c .before .before .n .given .1)
+    let at-n = c .before .before in
+    let at-judge-list = at-n .before .before in
+    let at-if1 = at-judge-list .before in
+    (omega (arith, at-if1 .if1 .left), sym (at-judge-list .judge-list .ensures) ∙ at-n .n .given .1)
 
 returns-2 : tie.Need-returns-2
 returns-2 c =
-    let b3 = c .before .before .before in
-    let b4 = b3 .before in
-    let b7 = b4 .before .before .before in
-    let a = b7 .args in
-    answer-refused (a .list .now) (a .out .now) _ (omega (arith, b4 .if1 .left)) (sym (b3 .judge-list .ensures) ∙ c .before .r .given .1)
+    let at-r = c .before in
+    let at-judge-list = at-r .before .before in
+    let at-if1 = at-judge-list .before in
+    let at-shared-slice-known = at-if1 .before .before in
+    let at-start = at-shared-slice-known .before in
+    let a = at-start .args in
+    answer-refused (a .list .now) (a .out .now) _ (omega (arith, at-if1 .if1 .left)) (sym (at-judge-list .judge-list .ensures) ∙ at-r .r .given .1)
 
 same-length : tie.Need-same-length
 same-length c = search needs

@@ -21,24 +21,33 @@ at-requires c κs = search needs
 
 returns : tie.Need-returns
 returns c =
-    let b4 = c .before .before .before .before in
-    let a = b4 .args in
-    let r = answer-full (a .list .now) (a .n) (b4 .pre .0) (b4 .pre .1) (a .out .now) (c .before .if1 .taken) in (ap Refused (c .at .ensures) ∙ r .0, r .1)
+    let at-if1 = c .before in
+    let at-shared-slice-known = at-if1 .before .before in
+    let at-start = at-shared-slice-known .before in
+    let a = at-start .args in
+    let r = answer-full (a .list .now) (a .n) (at-start .pre .0) (at-start .pre .1) (a .out .now) (at-if1 .if1 .taken) in
+    (ap Refused (c .at .ensures) ∙ r .0, r .1)
 
 at-requires-2 : tie.Need-at-requires-2
 at-requires-2 c κs = search needs
 
 returns-2 : tie.Need-returns-2
 returns-2 c =
-    let b5 = c .before .before .before .before .before in
-    let a = b5 .args in
-    let r = answer-long (a .list .now) (a .n) (b5 .pre .0) (b5 .pre .1) (a .out .now) (c .before .before .if1 .left) (c .before .if2 .taken) in (ap Refused (c .at2 .ensures) ∙ r .0, r .1)
+    let at-if2 = c .before in
+    let at-if1 = at-if2 .before in
+    let at-shared-slice-known = at-if1 .before .before in
+    let at-start = at-shared-slice-known .before in
+    let a = at-start .args in
+    let r = answer-long (a .list .now) (a .n) (at-start .pre .0) (at-start .pre .1) (a .out .now) (at-if1 .if1 .left) (at-if2 .if2 .taken) in
+    (ap Refused (c .at2 .ensures) ∙ r .0, r .1)
 
 put-set-requires : tie.Need-put-set-requires
 put-set-requires c κs =
-    let b5 = c .before .before .before .before .before in
-    let a = b5 .args in
-    set-fits (a .list .now) (a .n) (b5 .pre .0) (b5 .pre .1) (c .before .before .if1 .left)
+    let at-if1 = c .before .before in
+    let at-shared-slice-known = at-if1 .before .before in
+    let at-start = at-shared-slice-known .before in
+    let a = at-start .args in
+    set-fits (a .list .now) (a .n) (at-start .pre .0) (at-start .pre .1) (at-if1 .if1 .left)
 
 sub-clear : tie.Need-sub-clear
 sub-clear c = search needs
@@ -57,12 +66,16 @@ same-length c = search needs
 
 returns-3 : tie.Need-returns-3
 returns-3 c =
-    let b6 = c .before .before .before .before .before .before in
-    let b8 = b6 .before .before in
-    let b9 = b8 .before in
-    let b12 = b9 .before .before .before in
-    let a = b12 .args in
-    answer-set (a .list .now) (a .n) (b12 .pre .0) (b12 .pre .1) (a .out .now) (b9 .if1 .left) (b8 .if2 .left) _ _ (b6 .put-set .ensures) (c .before .before .clear .ensures)
+    let at-clear = c .before .before in
+    let at-slice-known2 = at-clear .before .before in
+    let at-put-set = at-slice-known2 .before .before in
+    let at-if2 = at-put-set .before .before in
+    let at-if1 = at-if2 .before in
+    let at-shared-slice-known = at-if1 .before .before in
+    let at-start = at-shared-slice-known .before in
+    let a = at-start .args in
+    answer-set (a .list .now) (a .n) (at-start .pre .0) (at-start .pre .1) (a .out .now) (at-if1 .if1 .left) (at-if2 .if2 .left) _ _
+    (at-put-set .put-set .ensures) (at-clear .clear .ensures)
 
 pub write-entries-spec : {M : Type 1} → statement M
 write-entries-spec =

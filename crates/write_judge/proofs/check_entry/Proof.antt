@@ -22,63 +22,74 @@ at-requires c κs = search needs
 
 returns : tie.Need-returns
 returns c =
-    let b3 = c .before .before .before in
-    let b5 = b3 .before .before in
-    let a = b5 .args in
-    ap Refused (c .at .ensures) ∙ entry-cut (a .list .now) (a .at) (sym (b3 .entry-at .ensures) ∙ c .before .enum-told .given .1)
+    let at-enum-told = c .before in
+    let at-entry-at = at-enum-told .before .before in
+    let at-start = at-entry-at .before .before in
+    let a = at-start .args in
+    ap Refused (c .at .ensures) ∙ entry-cut (a .list .now) (a .at) (sym (at-entry-at .entry-at .ensures) ∙ at-enum-told .enum-told .given .1)
 
 at-requires-2 : tie.Need-at-requires-2
 at-requires-2 c κs = search needs
 
 returns-2 : tie.Need-returns-2
 returns-2 c =
-    let b3 = c .before .before .before in
-    let b5 = b3 .before .before in
-    let b7 = b5 .before .before in
-    let a = b7 .args in
-    ap Refused (c .at2 .ensures) ∙ label-over (a .list .now) (a .at) (sym (b5 .entry-at .ensures) ∙ b3 .label .given .1) (c .before .if1 .taken)
+    let at-if1 = c .before in
+    let at-label = at-if1 .before .before in
+    let at-entry-at = at-label .before .before in
+    let at-start = at-entry-at .before .before in
+    let a = at-start .args in
+    ap Refused (c .at2 .ensures) ∙ label-over (a .list .now) (a .at) (sym (at-entry-at .entry-at .ensures) ∙ at-label .label .given .1) (at-if1 .if1 .taken)
 
 add-content : tie.Need-add-content
 add-content c =
-    let b4 = c .before .before .before .before in
-    let b6 = b4 .before .before in
-    let a = b6 .args in
-    omega (arith, whole-back (a .list .now) (a .at) (sym (b4 .entry-at .ensures) ∙ c .before .before .label .given .1) .within, b6 .good)
+    let at-label = c .before .before in
+    let at-entry-at = at-label .before .before in
+    let at-start = at-entry-at .before .before in
+    let a = at-start .args in
+    omega (arith, whole-back (a .list .now) (a .at) (sym (at-entry-at .entry-at .ensures) ∙ at-label .label .given .1) .within, at-start .good)
 
 first-low-requires : tie.Need-first-low-requires
 first-low-requires c κs =
-    let b4 = c .before .before .before .before in
-    let b6 = b4 .before .before in
-    let a = b6 .args in
-    omega (arith, whole-back (a .list .now) (a .at) (sym (b4 .entry-at .ensures) ∙ c .before .before .label .given .1) .within)
+    let at-label = c .before .before in
+    let at-entry-at = at-label .before .before in
+    let at-start = at-entry-at .before .before in
+    let a = at-start .args in
+    omega (arith, whole-back (a .list .now) (a .at) (sym (at-entry-at .entry-at .ensures) ∙ at-label .label .given .1) .within)
 
 add-if2 : tie.Need-add-if2
 add-if2 c =
-    let b3 = c .before .before .before in
-    let b5 = b3 .before .before in
-    let b7 = b5 .before .before in
-    let a = b7 .args in
-    omega (arith, whole-back (a .list .now) (a .at) (sym (b5 .entry-at .ensures) ∙ b3 .label .given .1) .within, b7 .good)
+    let at-if1 = c .before in
+    let at-label = at-if1 .before .before in
+    let at-entry-at = at-label .before .before in
+    let at-start = at-entry-at .before .before in
+    let a = at-start .args in
+    omega (arith, whole-back (a .list .now) (a .at) (sym (at-entry-at .entry-at .ensures) ∙ at-label .label .given .1) .within, at-start .good)
 
 at-requires-3 : tie.Need-at-requires-3
 at-requires-3 c κs = search needs
 
 returns-3 : tie.Need-returns-3
 returns-3 c =
-    let b3 = c .before .before .before in
-    let b5 = b3 .before .before in
-    let b7 = b5 .before .before in
-    let b9 = b7 .before .before in
-    let a = b9 .args in
-    ap Refused (c .at3 .ensures) ∙ content-low (a .list .now) (a .at) (sym (b7 .entry-at .ensures) ∙ b5 .label .given .1) (b3 .if1 .left) _ (c .before .before .first-low .ensures) (c .before .if2 .taken)
+    let at-if2 = c .before in
+    let at-first-low = at-if2 .before in
+    let at-if1 = at-first-low .before in
+    let at-label = at-if1 .before .before in
+    let at-entry-at = at-label .before .before in
+    let at-start = at-entry-at .before .before in
+    let a = at-start .args in
+    ap Refused (c .at3 .ensures)
+    ∙ content-low (a .list .now) (a .at) (sym (at-entry-at .entry-at .ensures) ∙ at-label .label .given .1) (at-if1 .if1 .left) _ (at-first-low .first-low .ensures) (at-if2 .if2 .taken)
 
 returns-4 : tie.Need-returns-4
 returns-4 c =
-    let b4 = c .before .before .before .before in
-    let b6 = b4 .before .before in
-    let b8 = b6 .before .before in
-    let a = b8 .args in
-    content-clean (a .list .now) (a .at) (sym (b6 .entry-at .ensures) ∙ b4 .label .given .1) (c .before .before .if1 .left) _ (c .before .first-low .ensures) (c .if2 .left)
+    let at-first-low = c .before in
+    let at-if1 = at-first-low .before in
+    let at-label = at-if1 .before .before in
+    let at-entry-at = at-label .before .before in
+    let at-start = at-entry-at .before .before in
+    let a = at-start .args in
+    content-clean (a .list .now) (a .at) (sym (at-entry-at .entry-at .ensures) ∙ at-label .label .given .1) (at-if1 .if1 .left) _
+    (at-first-low .first-low .ensures) (c .if2 .left)
 
 pub check-entry-spec : {M : Type 1} → statement M
 check-entry-spec =

@@ -6,8 +6,8 @@ use Rattle.entry_read.proofs.HeadLaws.{whole-back}
 use Rattle.meaning.specs.declared.Refusal.{Refusal}
 use Rattle.meaning.specs.declared.SetType.the-variants.{T6300}
 use Rattle.meaning.specs.Answers.{noRefusal}
-use Rattle.write_judge.specs.Judging.{started, entriesLeft}
-use Rattle.write_judge.proofs.OnceLaws.{list-other, list-unknown, list-known}
+use Rattle.write_judge.specs.Judging.{started, judgedFrom}
+use Rattle.write_judge.proofs.ListOnceLaws.{list-other, list-unknown, list-known}
 use Rattle.write_judge.proofs.first_entry.Statement.{statement}
 use Rattle.write_judge.proofs.first_entry.Tie as tie
 
@@ -19,9 +19,12 @@ check-then-requires c κs = search needs
 
 returns : tie.Need-returns
 returns c =
-    let b4 = c .before .before .before .before in
-    let a = b4 .args in
-    c .check-then .ensures ∙ (ap (λ (r : Refusal). entriesLeft (a .list .now) T6300 r started noRefusal 0 0) (c .before .at .ensures) ∙ list-other (a .list .now) (a .label) (a .bytes) (c .before .before .if1 .taken))
+    let at-at = c .before in
+    let at-if1 = at-at .before in
+    let at-start = at-if1 .before .before in
+    let a = at-start .args in
+    c .check-then .ensures
+    ∙ (ap (λ (r : Refusal). judgedFrom (a .list .now) T6300 r started noRefusal 0 0) (at-at .at .ensures) ∙ list-other (a .list .now) (a .label) (a .bytes) (at-if1 .if1 .taken))
 
 add-end : tie.Need-add-end
 add-end c = omega (arith, whole-back (c .before .before .args .list .now) 0 (c .before .before .pre) .within, c .before .before .good)
@@ -52,28 +55,37 @@ check-then-requires-2 c κs = search needs
 
 returns-2 : tie.Need-returns-2
 returns-2 c =
-    let b4 = c .before .before .before .before in
-    let b6 = b4 .before .before in
-    let b8 = b6 .before .before in
-    let a = b8 .args in
-    c .check-then2 .ensures ∙ (ap (λ (r : Refusal). entriesLeft (a .list .now) T6300 r started noRefusal 0 0) (c .before .at2 .ensures) ∙ list-unknown (a .list .now) (a .label) (a .bytes) (b6 .if1 .left) (sym (b4 .type-of .ensures) ∙ c .before .before .enum-told .given .1))
+    let at-at2 = c .before in
+    let at-enum-told = at-at2 .before in
+    let at-type-of = at-enum-told .before .before in
+    let at-if1 = at-type-of .before .before in
+    let at-start = at-if1 .before .before in
+    let a = at-start .args in
+    c .check-then2 .ensures
+    ∙ (ap (λ (r : Refusal). judgedFrom (a .list .now) T6300 r started noRefusal 0 0) (at-at2 .at2 .ensures)
+    ∙ list-unknown (a .list .now) (a .label) (a .bytes) (at-if1 .if1 .left) (sym (at-type-of .type-of .ensures) ∙ at-enum-told .enum-told .given .1))
 
 none-requires : tie.Need-none-requires
 none-requires c κs = search needs
 
 pass-entries-requires : tie.Need-pass-entries-requires
 pass-entries-requires c κs =
-    let b8 = c .before .before .before .before .before .before .before .before in
-    (omega (arith, whole-back (b8 .args .list .now) 0 (b8 .pre) .within), omega arith)
+    let at-settype = c .before .before in
+    let at-type-of = at-settype .before .before in
+    let at-if1 = at-type-of .before .before in
+    let at-start = at-if1 .before .before in
+    (omega (arith, whole-back (at-start .args .list .now) 0 (at-start .pre) .within), omega arith)
 
 returns-3 : tie.Need-returns-3
 returns-3 c =
-    let b3 = c .before .before .before in
-    let b5 = b3 .before .before in
-    let b7 = b5 .before .before in
-    let b9 = b7 .before .before in
-    let a = b9 .args in
-    c .pass-entries .ensures ∙ list-known (a .list .now) (a .label) (a .bytes) (b7 .if1 .left) _ (c .before .none .ensures) (b9 .pre) (sym (b5 .type-of .ensures) ∙ b3 .settype .given .1)
+    let at-none = c .before in
+    let at-settype = at-none .before .before in
+    let at-type-of = at-settype .before .before in
+    let at-if1 = at-type-of .before .before in
+    let at-start = at-if1 .before .before in
+    let a = at-start .args in
+    c .pass-entries .ensures
+    ∙ list-known (a .list .now) (a .label) (a .bytes) (at-if1 .if1 .left) _ (at-none .none .ensures) (at-start .pre) (sym (at-type-of .type-of .ensures) ∙ at-settype .settype .given .1)
 
 pub first-entry-spec : {M : Type 1} → statement M
 first-entry-spec =

@@ -1,8 +1,8 @@
 -- `judge_list`: a list that breaks off is only checked; else by the head of the first entry.
 use mathlib.Core.Path.{sym, ap, _∙_}
 use borrow.Author.Needs.{needs}
-use Rattle.write_judge.specs.declared.Checked.the-variants.{Refused}
-use Rattle.write_judge.proofs.OnceLaws.{list-cut, list-whole, list-broken}
+use Rattle.write_judge.specs.declared.ListJudged.the-variants.{Refused}
+use Rattle.write_judge.proofs.ListOnceLaws.{list-cut, list-whole, list-broken}
 use Rattle.write_judge.proofs.judge_list.Statement.{statement}
 use Rattle.write_judge.proofs.judge_list.Tie as tie
 
@@ -17,10 +17,10 @@ check-then-requires c κs = search needs
 
 returns : tie.Need-returns
 returns c =
-    let b2 = c .before .before in
-    let b3 = b2 .before in
-    let b5 = b3 .before .before in
-    c .check-then .ensures ∙ list-broken (b5 .args .list .now) (b3 .breaks-off .ensures (b2 .if1 .taken)) _
+    let at-if1 = c .before .before in
+    let at-breaks-off = at-if1 .before in
+    let at-start = at-breaks-off .before .before in
+    c .check-then .ensures ∙ list-broken (at-start .args .list .now) (at-breaks-off .breaks-off .ensures (at-if1 .if1 .taken)) _
 
 entry-at-requires : tie.Need-entry-at-requires
 entry-at-requires c κs = search needs
@@ -36,21 +36,25 @@ enum-known-label c = search needs
 
 first-entry-requires : tie.Need-first-entry-requires
 first-entry-requires c κs =
-    let b3 = c .before .before .before in
-    sym (b3 .entry-at .ensures) ∙ c .before .label .given .1
+    let at-label = c .before in
+    let at-entry-at = at-label .before .before in
+    sym (at-entry-at .entry-at .ensures) ∙ at-label .label .given .1
 
 returns-2 : tie.Need-returns-2
 returns-2 c =
-    let b3 = c .before .before .before in
-    let b7 = b3 .before .before .before .before in
-    ap Refused (c .at2 .ensures) ∙ list-cut (b7 .args .list .now) (sym (b3 .entry-at .ensures) ∙ c .before .enum-told .given .1)
+    let at-enum-told = c .before in
+    let at-entry-at = at-enum-told .before .before in
+    let at-breaks-off = at-entry-at .before .before in
+    let at-start = at-breaks-off .before .before in
+    ap Refused (c .at2 .ensures) ∙ list-cut (at-start .args .list .now) (sym (at-entry-at .entry-at .ensures) ∙ at-enum-told .enum-told .given .1)
 
 returns-3 : tie.Need-returns-3
 returns-3 c =
-    let b2 = c .before .before in
-    let b4 = b2 .before .before in
-    let b8 = b4 .before .before .before .before in
-    c .first-entry .ensures ∙ list-whole (b8 .args .list .now) (sym (b4 .entry-at .ensures) ∙ b2 .label .given .1)
+    let at-label = c .before .before in
+    let at-entry-at = at-label .before .before in
+    let at-breaks-off = at-entry-at .before .before in
+    let at-start = at-breaks-off .before .before in
+    c .first-entry .ensures ∙ list-whole (at-start .args .list .now) (sym (at-entry-at .entry-at .ensures) ∙ at-label .label .given .1)
 
 pub judge-list-spec : {M : Type 1} → statement M
 judge-list-spec =

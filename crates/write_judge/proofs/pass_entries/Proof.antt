@@ -6,16 +6,20 @@ use borrow.Author.Needs.{needs}
 use lib.ListN.{length}
 use Rattle.meaning.specs.declared.Refusal.{Refusal}
 use Rattle.meaning.specs.Limits.{maxEntries}
-use Rattle.judge_missing.specs.Lacks.{stateOf}
-use Rattle.write_judge.specs.declared.Checked.the-variants.{Refused}
-use Rattle.write_judge.specs.Judging.{started, entriesLeft}
+use Rattle.judge_missing.specs.Lacks.{flaggedOf}
+use Rattle.write_judge.specs.declared.ListJudged.the-variants.{Refused}
+use Rattle.write_judge.specs.Judging.{started, judgedFrom}
 use Rattle.write_judge.proofs.CheckLaws.{checked-within}
-use Rattle.write_judge.proofs.OnceLaws.{left-end, left-full, left-unchecked, left-on}
+use Rattle.write_judge.proofs.ListOnceLaws.{left-end, left-full, left-unchecked, left-on}
 use Rattle.write_judge.proofs.pass_entries.Statement.{statement}
 use Rattle.write_judge.proofs.pass_entries.Tie as tie
 
 abbrev Inv-loop : tie.InvT-loop
-Inv-loop list settype start before members₀ top₀ turn₀ at₀ n₀ members top turn at n = (at ≤ length list) × (n ≤ maxEntries) × (entriesLeft list settype (turn .late) (stateOf (turn .group) members top) (turn .group .lack) at n ≡ entriesLeft list settype (turn₀ .late) (stateOf (turn₀ .group) members₀ top₀) (turn₀ .group .lack) start before)
+Inv-loop list settype start before members₀ top₀ turn₀ at₀ n₀ members top turn at n =
+    (at ≤ length list)
+    × (n ≤ maxEntries)
+    × (judgedFrom list settype (turn .late) (flaggedOf (turn .group) members top) (turn .group .lack) at n ≡ judgedFrom list settype (turn₀ .late)
+    (flaggedOf (turn₀ .group) members₀ top₀) (turn₀ .group .lack) start before)
 
 abbrev μ-loop : tie.MeasureT-loop
 μ-loop list settype start before members₀ top₀ turn₀ at₀ n₀ members top turn at n = maxEntries - n
@@ -37,12 +41,17 @@ at-requires c κs = search needs
 
 returns : tie.Need-returns Inv-loop μ-loop
 returns c =
-    let b3 = c .before .before .before in
-    let b4 = b3 .before in
-    let b6 = b4 .before .before in
-    let a = b6 .args in
-    let l = b3 .loop in
-    ap Refused (c .at .ensures) ∙ (left-full (a .list .now) (a .settype) (l .turn .late) (stateOf (l .turn .group) (l .members) (l .top)) (l .turn .group .lack) (l .at) (l .n) (c .before .before .loop-test .taken) (c .before .if1 .taken) ∙ (l .inv .2 ∙ ap (λ (r : Refusal). entriesLeft (a .list .now) (a .settype) (a .late) started r (a .start) (a .before)) (b4 .none .ensures)))
+    let at-if1 = c .before in
+    let at-loop-test = at-if1 .before in
+    let at-loop = at-loop-test .before in
+    let at-none = at-loop .before in
+    let at-start = at-none .before .before in
+    let a = at-start .args in
+    let l = at-loop .loop in
+    ap Refused (c .at .ensures)
+    ∙ (left-full (a .list .now) (a .settype) (l .turn .late) (flaggedOf (l .turn .group) (l .members) (l .top)) (l .turn .group .lack) (l .at) (l .n)
+    (at-loop-test .loop-test .taken) (at-if1 .if1 .taken)
+    ∙ (l .inv .2 ∙ ap (λ (r : Refusal). judgedFrom (a .list .now) (a .settype) (a .late) started r (a .start) (a .before)) (at-none .none .ensures)))
 
 check-entry-requires : tie.Need-check-entry-requires Inv-loop μ-loop
 check-entry-requires c κs = search needs
@@ -52,77 +61,105 @@ enum-known-r c = search needs
 
 returns-2 : tie.Need-returns-2 Inv-loop μ-loop
 returns-2 c =
-    let b3 = c .before .before .before in
-    let b4 = b3 .before in
-    let b5 = b4 .before in
-    let b6 = b5 .before in
-    let b7 = b6 .before in
-    let b9 = b7 .before .before in
-    let a = b9 .args in
-    let l = b6 .loop in
-    left-unchecked (a .list .now) (a .settype) (l .turn .late) (stateOf (l .turn .group) (l .members) (l .top)) (l .turn .group .lack) (l .at) (l .n) (b5 .loop-test .taken) (omega (arith, b4 .if1 .left)) (sym (b3 .check-entry .ensures) ∙ c .before .r .given .1) ∙ (l .inv .2 ∙ ap (λ (r : Refusal). entriesLeft (a .list .now) (a .settype) (a .late) started r (a .start) (a .before)) (b7 .none .ensures))
+    let at-r = c .before in
+    let at-check-entry = at-r .before .before in
+    let at-if1 = at-check-entry .before in
+    let at-loop-test = at-if1 .before in
+    let at-loop = at-loop-test .before in
+    let at-none = at-loop .before in
+    let at-start = at-none .before .before in
+    let a = at-start .args in
+    let l = at-loop .loop in
+    left-unchecked (a .list .now) (a .settype) (l .turn .late) (flaggedOf (l .turn .group) (l .members) (l .top)) (l .turn .group .lack) (l .at) (l .n)
+    (at-loop-test .loop-test .taken) (omega (arith, at-if1 .if1 .left)) (sym (at-check-entry .check-entry .ensures) ∙ at-r .r .given .1)
+    ∙ (l .inv .2 ∙ ap (λ (r : Refusal). judgedFrom (a .list .now) (a .settype) (a .late) started r (a .start) (a .before)) (at-none .none .ensures))
 
 enum-known-label : tie.Need-enum-known-label Inv-loop μ-loop
 enum-known-label c = search needs
 
 judge-entry-requires : tie.Need-judge-entry-requires Inv-loop μ-loop
 judge-entry-requires c κs =
-    let b3 = c .before .before .before in
-    let b5 = b3 .before .before in
-    let b8 = b5 .before .before .before in
-    let b11 = b8 .before .before .before in
-    checked-within (b11 .args .list .now) (b8 .loop .at) (sym (b5 .check-entry .ensures) ∙ b3 .label .given .1)
+    let at-members = c .before in
+    let at-label = at-members .before .before in
+    let at-check-entry = at-label .before .before in
+    let at-loop-test = at-check-entry .before .before in
+    let at-loop = at-loop-test .before in
+    let at-none = at-loop .before in
+    let at-start = at-none .before .before in
+    checked-within (at-start .args .list .now) (at-loop .loop .at) (sym (at-check-entry .check-entry .ensures) ∙ at-label .label .given .1)
 
 add-at : tie.Need-add-at Inv-loop μ-loop
 add-at c =
-    let b4 = c .before .before .before .before in
-    let b6 = b4 .before .before in
-    let b9 = b6 .before .before .before in
-    let b12 = b9 .before .before .before in
-    omega (arith, checked-within (b12 .args .list .now) (b9 .loop .at) (sym (b6 .check-entry .ensures) ∙ b4 .label .given .1), b12 .good)
+    let at-members = c .before .before in
+    let at-label = at-members .before .before in
+    let at-check-entry = at-label .before .before in
+    let at-loop-test = at-check-entry .before .before in
+    let at-loop = at-loop-test .before in
+    let at-none = at-loop .before in
+    let at-start = at-none .before .before in
+    omega (arith, checked-within (at-start .args .list .now) (at-loop .loop .at) (sym (at-check-entry .check-entry .ensures) ∙ at-label .label .given .1), at-start .good)
 
 add-at-2 : tie.Need-add-at-2 Inv-loop μ-loop
 add-at-2 c =
-    let b4 = c .before .before .before .before in
-    let b6 = b4 .before .before in
-    let b9 = b6 .before .before .before in
-    let b12 = b9 .before .before .before in
-    omega (arith, checked-within (b12 .args .list .now) (b9 .loop .at) (sym (b6 .check-entry .ensures) ∙ b4 .label .given .1), b12 .good)
+    let at-members = c .before .before in
+    let at-label = at-members .before .before in
+    let at-check-entry = at-label .before .before in
+    let at-loop-test = at-check-entry .before .before in
+    let at-loop = at-loop-test .before in
+    let at-none = at-loop .before in
+    let at-start = at-none .before .before in
+    omega (arith, checked-within (at-start .args .list .now) (at-loop .loop .at) (sym (at-check-entry .check-entry .ensures) ∙ at-label .label .given .1), at-start .good)
 
 add-n : tie.Need-add-n Inv-loop μ-loop
 add-n c =
-    let b7 = c .before .before .before .before .before .before .before in
-    omega (arith, b7 .if1 .left)
+    let at-members = c .before .before in
+    let at-label = at-members .before .before in
+    let at-check-entry = at-label .before .before in
+    let at-if1 = at-check-entry .before in
+    omega (arith, at-if1 .if1 .left)
 
 loop-less : tie.Need-loop-less Inv-loop μ-loop
 loop-less c =
-    let b7 = c .before .before .before .before .before .before .before in
-    omega (arith, b7 .if1 .left)
+    let at-members = c .before .before in
+    let at-label = at-members .before .before in
+    let at-check-entry = at-label .before .before in
+    let at-if1 = at-check-entry .before in
+    omega (arith, at-if1 .if1 .left)
 
 loop-again : tie.Need-loop-again Inv-loop μ-loop
 loop-again c =
-    let b4 = c .before .before .before .before in
-    let b6 = b4 .before .before in
-    let b7 = b6 .before in
-    let b8 = b7 .before in
-    let b9 = b8 .before in
-    let b12 = b9 .before .before .before in
-    let a = b12 .args in
-    let l = b9 .loop in
-    (checked-within (a .list .now) (l .at) (sym (b6 .check-entry .ensures) ∙ b4 .label .given .1), omega (arith, b7 .if1 .left), sym (left-on (a .list .now) (a .settype) (l .at) (l .n) (b8 .loop-test .taken) (omega (arith, b7 .if1 .left)) _ _ (sym (b6 .check-entry .ensures) ∙ b4 .label .given .1) (l .turn) (l .members) (l .top) _ _ _ (c .judge-entry .ensures)) ∙ l .inv .2)
+    let at-members = c .before .before in
+    let at-label = at-members .before .before in
+    let at-check-entry = at-label .before .before in
+    let at-if1 = at-check-entry .before in
+    let at-loop-test = at-if1 .before in
+    let at-loop = at-loop-test .before in
+    let at-none = at-loop .before in
+    let at-start = at-none .before .before in
+    let a = at-start .args in
+    let l = at-loop .loop in (
+      checked-within (a .list .now) (l .at) (sym (at-check-entry .check-entry .ensures) ∙ at-label .label .given .1),
+      omega (arith, at-if1 .if1 .left),
+      sym (left-on (a .list .now) (a .settype) (l .at) (l .n) (at-loop-test .loop-test .taken) (omega (arith, at-if1 .if1 .left)) _ _
+          (sym (at-check-entry .check-entry .ensures) ∙ at-label .label .given .1) (l .turn) (l .members) (l .top) _ _ _ (c .judge-entry .ensures))
+          ∙ l .inv .2,
+    )
 
 finished-requires : tie.Need-finished-requires Inv-loop μ-loop
 finished-requires c κs = search needs
 
 returns-3 : tie.Need-returns-3 Inv-loop μ-loop
 returns-3 c =
-    let b3 = c .before .before .before in
-    let b4 = b3 .before in
-    let b5 = b4 .before in
-    let b7 = b5 .before .before in
-    let a = b7 .args in
-    let l = b4 .loop in
-    c .finished .ensures ∙ (left-end (a .list .now) (a .settype) (l .turn .late) (stateOf (l .turn .group) (l .members) (l .top)) (l .turn .group .lack) (l .at) (l .n) (b3 .loop-test .left) ∙ (l .inv .2 ∙ ap (λ (r : Refusal). entriesLeft (a .list .now) (a .settype) (a .late) started r (a .start) (a .before)) (b5 .none .ensures)))
+    let at-members2 = c .before .before in
+    let at-loop-test = at-members2 .before in
+    let at-loop = at-loop-test .before in
+    let at-none = at-loop .before in
+    let at-start = at-none .before .before in
+    let a = at-start .args in
+    let l = at-loop .loop in
+    c .finished .ensures
+    ∙ (left-end (a .list .now) (a .settype) (l .turn .late) (flaggedOf (l .turn .group) (l .members) (l .top)) (l .turn .group .lack) (l .at) (l .n) (at-loop-test .loop-test .left)
+    ∙ (l .inv .2 ∙ ap (λ (r : Refusal). judgedFrom (a .list .now) (a .settype) (a .late) started r (a .start) (a .before)) (at-none .none .ensures)))
 
 pub pass-entries-spec : {M : Type 1} → statement M
 pass-entries-spec =

@@ -1,4 +1,4 @@
--- `put_line`: four parts put one behind the other.
+-- `put_line`: four parts put one after the other.
 use Prim.Native.Nat.{_+_}
 use borrow.Author.Needs.{needs}
 use Rattle.byte_put.proofs.OverLaws.{over-lent}
@@ -44,12 +44,19 @@ same-length c = search needs
 
 returns : tie.Need-returns
 returns c =
-    let b6 = c .before .before .before .before .before .before in
-    let b10 = b6 .before .before .before .before in
-    let b14 = b10 .before .before .before .before in
-    let b18 = b14 .before .before .before .before in
-    let a = b18 .args in
-    line-put (a .out .now) _ _ _ _ (a .content .now) (a .label) (a .to) (b18 .pre) (b14 .put-digits .ensures) (b10 .put-digits2 .ensures) (over-lent _ _ (a .to + 7) (a .content .now) (b6 .copy-front .ensures)) (c .before .before .put-end .ensures)
+    let at-put-end = c .before .before in
+    let at-slice-known4 = at-put-end .before .before in
+    let at-copy-front = at-slice-known4 .before .before in
+    let at-slice-known3 = at-copy-front .before .before in
+    let at-put-digits2 = at-slice-known3 .before .before in
+    let at-slice-known2 = at-put-digits2 .before .before in
+    let at-put-digits = at-slice-known2 .before .before in
+    let at-slice-known = at-put-digits .before .before in
+    let at-start = at-slice-known .before .before in
+    let a = at-start .args in
+    line-put (a .out .now) _ _ _ _ (a .content .now) (a .label) (a .to) (at-start .pre) (at-put-digits .put-digits .ensures)
+    (at-put-digits2 .put-digits2 .ensures) (over-lent _ _ (a .to + 7) (a .content .now) (at-copy-front .copy-front .ensures))
+    (at-put-end .put-end .ensures)
 
 pub put-line-spec : {M : Type 1} → statement M
 put-line-spec =

@@ -1,4 +1,4 @@
--- `put_lines`: the line of the entry, and behind the first that of the sum.
+-- `put_lines`: the line of the entry, and after the first that of the sum.
 use native.Mathlib.Omega.{arith}
 use borrow.Author.Needs.{needs}
 use lib.ListN.{length}
@@ -10,52 +10,79 @@ use Rattle.write_lines.proofs.put_lines.Tie as tie
 
 put-line-requires : tie.Need-put-line-requires
 put-line-requires c κs =
-    let b3 = c .before .before .before in
-    let a = b3 .args in
-    own-fits (a .from) (a .label) (a .content .now) (digits sumDigits (a .total)) (a .to) (length (a .out .now)) (b3 .pre)
+    let at-shared-slice-known = c .before .before in
+    let at-start = at-shared-slice-known .before in
+    let a = at-start .args in
+    own-fits (a .from) (a .label) (a .content .now) (digits sumDigits (a .total)) (a .to) (length (a .out .now)) (at-start .pre)
 
 add-end : tie.Need-add-end
 add-end c = search needs
 
 add-end-2 : tie.Need-add-end-2
 add-end-2 c =
-    let b6 = c .before .before .before .before .before .before in
-    let a = b6 .args in
-    omega (arith, own-fits (a .from) (a .label) (a .content .now) (digits sumDigits (a .total)) (a .to) (length (a .out .now)) (b6 .pre), b6 .fits, b6 .good)
+    let at-put-line = c .before .before in
+    let at-slice-known = at-put-line .before .before in
+    let at-start = at-slice-known .before .before in
+    let a = at-start .args in
+    omega (
+      arith,
+      own-fits (a .from) (a .label) (a .content .now) (digits sumDigits (a .total)) (a .to) (length (a .out .now)) (at-start .pre),
+      at-start .fits,
+      at-start .good,
+    )
 
 same-length : tie.Need-same-length
 same-length c = search needs
 
 returns : tie.Need-returns
 returns c =
-    let b3 = c .before .before .before in
-    let b7 = b3 .before .before .before .before in
-    let a = b7 .args in
-    later-put (a .from) (a .label) (a .content .now) (digits sumDigits (a .total)) (a .out .now) _ (a .to) (c .if1 .taken) (b3 .put-line .ensures)
+    let at-out = c .before .before in
+    let at-put-line = at-out .before in
+    let at-slice-known = at-put-line .before .before in
+    let at-start = at-slice-known .before .before in
+    let a = at-start .args in
+    later-put (a .from) (a .label) (a .content .now) (digits sumDigits (a .total)) (a .out .now) _ (a .to) (c .if1 .taken) (at-put-line .put-line .ensures)
 
 put-sum-requires : tie.Need-put-sum-requires
 put-sum-requires c κs =
-    let b8 = c .before .before .before .before .before .before .before .before in
-    let a = b8 .args in
-    omega (arith, second-fits (a .from) (a .label) (a .content .now) (digits sumDigits (a .total)) (a .to) (length (a .out .now)) (c .before .if1 .left) (b8 .pre))
+    let at-if1 = c .before in
+    let at-out = at-if1 .before .before in
+    let at-put-line = at-out .before in
+    let at-slice-known = at-put-line .before .before in
+    let at-start = at-slice-known .before .before in
+    let a = at-start .args in
+    omega (arith, second-fits (a .from) (a .label) (a .content .now) (digits sumDigits (a .total)) (a .to) (length (a .out .now)) (at-if1 .if1 .left) (at-start .pre))
 
 add-result : tie.Need-add-result
 add-result c =
-    let b4 = c .before .before .before .before in
-    let b11 = b4 .before .before .before .before .before .before .before in
-    let a = b11 .args in
-    omega (arith, second-fits (a .from) (a .label) (a .content .now) (digits sumDigits (a .total)) (a .to) (length (a .out .now)) (b4 .if1 .left) (b11 .pre), b11 .fits, b11 .good)
+    let at-put-sum = c .before .before in
+    let at-if1 = at-put-sum .before .before in
+    let at-out = at-if1 .before .before in
+    let at-put-line = at-out .before in
+    let at-slice-known = at-put-line .before .before in
+    let at-start = at-slice-known .before .before in
+    let a = at-start .args in
+    omega (
+      arith,
+      second-fits (a .from) (a .label) (a .content .now) (digits sumDigits (a .total)) (a .to) (length (a .out .now)) (at-if1 .if1 .left) (at-start .pre),
+      at-start .fits,
+      at-start .good,
+    )
 
 same-length-2 : tie.Need-same-length-2
 same-length-2 c = search needs
 
 returns-2 : tie.Need-returns-2
 returns-2 c =
-    let b4 = c .before .before .before .before in
-    let b7 = b4 .before .before .before in
-    let b11 = b7 .before .before .before .before in
-    let a = b11 .args in
-    first-put (a .from) (a .label) (a .content .now) (digits sumDigits (a .total)) (a .out .now) _ _ (a .to) (b4 .if1 .left) (b11 .pre) (b7 .put-line .ensures) (c .before .before .put-sum .ensures)
+    let at-put-sum = c .before .before in
+    let at-if1 = at-put-sum .before .before in
+    let at-out = at-if1 .before .before in
+    let at-put-line = at-out .before in
+    let at-slice-known = at-put-line .before .before in
+    let at-start = at-slice-known .before .before in
+    let a = at-start .args in
+    first-put (a .from) (a .label) (a .content .now) (digits sumDigits (a .total)) (a .out .now) _ _ (a .to) (at-if1 .if1 .left) (at-start .pre)
+    (at-put-line .put-line .ensures) (at-put-sum .put-sum .ensures)
 
 pub put-lines-spec : {M : Type 1} → statement M
 put-lines-spec =

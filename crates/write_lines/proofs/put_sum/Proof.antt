@@ -1,4 +1,4 @@
--- `put_sum`: four parts put one behind the other.
+-- `put_sum`: four parts put one after the other.
 use borrow.Author.Needs.{needs}
 use Rattle.meaning.specs.Digits.{digits}
 use Rattle.meaning.specs.Lists.{sumDigits}
@@ -32,12 +32,18 @@ same-length c = search needs
 
 returns : tie.Need-returns
 returns c =
-    let b6 = c .before .before .before .before .before .before in
-    let b10 = b6 .before .before .before .before in
-    let b14 = b10 .before .before .before .before in
-    let b17 = b14 .before .before .before in
-    let a = b17 .args in
-    line-put (a .out .now) _ _ _ _ (digits sumDigits (a .total)) 8100 (a .to) (b17 .pre) (b14 .put-digits .ensures) (b10 .put-digits2 .ensures) (b6 .put-digits3 .ensures) (c .before .before .put-end .ensures)
+    let at-put-end = c .before .before in
+    let at-slice-known4 = at-put-end .before .before in
+    let at-put-digits3 = at-slice-known4 .before .before in
+    let at-slice-known3 = at-put-digits3 .before .before in
+    let at-put-digits2 = at-slice-known3 .before .before in
+    let at-slice-known2 = at-put-digits2 .before .before in
+    let at-put-digits = at-slice-known2 .before .before in
+    let at-put-digits-arg = at-put-digits .before in
+    let at-start = at-put-digits-arg .before .before in
+    let a = at-start .args in
+    line-put (a .out .now) _ _ _ _ (digits sumDigits (a .total)) 8100 (a .to) (at-start .pre) (at-put-digits .put-digits .ensures)
+    (at-put-digits2 .put-digits2 .ensures) (at-put-digits3 .put-digits3 .ensures) (at-put-end .put-end .ensures)
 
 pub put-sum-spec : {M : Type 1} → statement M
 put-sum-spec =

@@ -1,0 +1,161 @@
+-- The walk of specs/ step by step: one law for each way that the code takes.
+use mathlib.Core.Path.{_≡_, refl, sym, ap, _∙_}
+use mathlib.Core.Bool.{Bool, true, false, cond}
+use mathlib.Core.List.{List}
+use Prim.Native.Nat.{ℕ, zero, suc, pred, _+_, _-_, _≤_, _<_}
+use native.Mathlib.Omega.{arith}
+use native.Mathlib.Nat.{add-zero, add-sub-cancel-left}
+use borrow.Author.Tests.{le-leb, lt-leb, eq-eqb, ne-eqb}
+use lib.Dec.{leb, eqb}
+use lib.ListN.{length, take, drop, length-take}
+use Rattle.meaning.specs.declared.Part.{Part}
+use Rattle.meaning.specs.declared.Refusal.{Refusal}
+use Rattle.meaning.specs.declared.Shape.{Shape}
+use Rattle.meaning.specs.declared.Judged.the-variants.{Accepted}
+use Rattle.meaning.specs.declared.Viewed.{Viewed}
+use Rattle.meaning.specs.declared.Viewed.the-variants.{Sheet, Set, Refused}
+use Rattle.meaning.specs.Refusals.{behind, refusal, badByte, badList, tooManyLines}
+use Rattle.meaning.specs.Lines.{minLineBytes}
+use Rattle.meaning.specs.Entries.{entryLead}
+use Rattle.meaning.specs.Reading.{judge}
+use Rattle.meaning.specs.Views.{part}
+use Rattle.meaning.proofs.Demands.{judge-read}
+use Rattle.entry_read.specs.declared.Head.{Head}
+use Rattle.entry_read.specs.declared.Head.the-variants.{Whole, Cut}
+use Rattle.entry_read.specs.Head.{entryAt}
+use Rattle.entry_read.proofs.HeadLaws.{whole-back}
+use Rattle.correct_offer.specs.declared.Offer.{Offer}
+use Rattle.correct_offer.specs.declared.OneLine.{OneLine}
+use Rattle.correct_offer.specs.Offered.{lineAfter, offered, offerSpot}
+use Rattle.correct_offer.proofs.OfferLaws.{line-stands, offer-byte}
+use Rattle.view_part.specs.Parts.{newer}
+use Rattle.view_sheet.specs.declared.SheetEntry.{SheetEntry}
+use Rattle.view_sheet.specs.declared.SheetEntry.the-variants.{Good}
+use Rattle.view_sheet.specs.Showing.{byOffer, sheetEntryBy, sheetEntryAt, setPart, goodThen, shownFrom, shownBySheet, shownUnder}
+
+-- ---- one entry of the sheet
+
+-- the byte that is refused of a content of n bytes at a
+pub byte-within : (s : List ℕ) (x : Shape) (h : List ℕ) (a k n : ℕ) (o : Offer) → o ≡ offered s x k (take ((a + n) - a) (drop a h)) → o .byte ≤ n
+byte-within s x h a k n o e =
+    let c : List ℕ = take ((a + n) - a) (drop a h) in
+    rw e (omega (arith, offer-byte s x k c, length-take ((a + n) - a) (drop a h), add-sub-cancel-left a n))
+
+module _ (s : List ℕ) (x : Shape) (h : List ℕ) (at : ℕ) where
+  pub sheet-cut : entryAt h at ≡ Cut → SheetEntry.Refused (refusal badList at 0) ≡ sheetEntryAt s x h at
+  unfolding sheetEntryAt
+  sheet-cut e = rw e
+
+  module _ (k n : ℕ) (e : entryAt h at ≡ Whole k n) (m : ℕ) (q : m ≡ n) (o : Offer) (p : o ≡ offered s x k (take m (drop (at + entryLead) h))) where
+    sheet-by : byOffer o at k n ≡ sheetEntryAt s x h at
+    unfolding sheetEntryAt
+    sheet-by = rw (e, p, q)
+
+    pub sheet-good : o .no ≡ 0 → Good k n ≡ sheetEntryAt s x h at
+    sheet-good z = rw (z) at sheet-by
+
+    pub sheet-low : (o .no ≡ 0 → ⊥) → o .no ≡ badByte → SheetEntry.Refused (refusal (o .no) ((at + entryLead) + o .byte) (o .label)) ≡ sheetEntryAt s x h at
+    sheet-low z b =
+        let a : (at + entryLead) + o .byte ≡ at + (entryLead + o .byte) = omega arith in
+        rw a (rw (ne-eqb (o .no) 0 z, eq-eqb (o .no) badByte b) at sheet-by)
+
+    pub sheet-bad : (o .no ≡ 0 → ⊥) → (o .no ≡ badByte → ⊥) → SheetEntry.Refused (refusal (o .no) at (o .label)) ≡ sheetEntryAt s x h at
+    sheet-bad z b = rw (ne-eqb (o .no) 0 z, ne-eqb (o .no) badByte b, add-zero at) at sheet-by
+
+good-length : (b : Bool) (r : Refusal) (k n k′ n′ : ℕ) → cond b (Good k′ n′) (SheetEntry.Refused r) ≡ Good k n → n′ ≡ n
+good-length true r k n k′ n′ e = cc
+good-length false r k n k′ n′ e = let z : _≡_ {A = ℕ} 0 1 = cc in absurd (omega arith)
+
+-- an entry that is good lies within the sheet
+pub sheet-within : (s : List ℕ) (x : Shape) (h : List ℕ) (at k n : ℕ) → sheetEntryAt s x h at ≡ Good k n → at + (entryLead + n) ≤ length h
+unfolding sheetEntryAt
+sheet-within s x h at k n e = go (entryAt h at) refl e
+  where
+    go : (y : Head) → entryAt h at ≡ y → sheetEntryBy s x h at y ≡ Good k n → at + (entryLead + n) ≤ length h
+    go (Whole k′ n′) w q =
+        let o : Offer = offered s x k′ (take n′ (drop (at + entryLead) h)) in
+        omega (arith, good-length (eqb (o .no) 0) (refusal (o .no) (at + behind entryLead (offerSpot o)) (o .label)) k n k′ n′ q, whole-back h at w .within)
+    go Cut w q = let z : _≡_ {A = ℕ} 0 1 = cc in absurd (omega arith)
+
+-- ---- the set
+
+-- a line of an accepted set lies within the set
+pub record Inside (s : List ℕ) (x : OneLine) : Type 0 where
+  pub least : minLineBytes ≤ x .size
+  pub within : x .at + x .size ≤ length s
+
+pub line-inside : (s : List ℕ) (x : Shape) (n : ℕ) → judge s ≡ Accepted x → 1 ≤ n → n ≤ x .lines → Inside s (lineAfter s (n - 1))
+line-inside s x n j lo hi =
+    let d = judge-read s x j in
+    let l = ap (λ (y : Shape). y .lines) (d .2) in
+    let st = line-stands s (d .0) (n - 1) (d .1) (omega (arith, l)) in
+    record { least = st .least; within = st .within }
+
+-- ---- the sheet, with at most m entries left
+
+module _ (s : List ℕ) (x : Shape) (h : List ℕ) (n m at : ℕ) (v : Viewed) where
+  pub shown-end : length h ≤ at → v ≡ shownFrom s x h n m at v
+  unfolding shownFrom
+  shown-end e = go m
+    where
+      go : (i : ℕ) → v ≡ shownFrom s x h n i at v
+      go zero = rw (le-leb (length h) at e)
+      go (suc i) = rw (le-leb (length h) at e)
+
+  module _ (l : at < length h) (w : length h ≤ at + m) where
+    pub shown-bad : (r : Refusal) → sheetEntryAt s x h at ≡ SheetEntry.Refused r → Refused r ≡ shownFrom s x h n m at v
+    unfolding shownFrom
+    shown-bad r e = go m w
+      where
+        go : (i : ℕ) → length h ≤ at + i → Refused r ≡ shownFrom s x h n i at v
+        go zero w = absurd (omega arith)
+        go (suc i) w = rw (lt-leb (length h) at l, e)
+
+    pub shown-next : (k len : ℕ) → sheetEntryAt s x h at ≡ Good k len → (at′ : ℕ) → at′ ≡ at + (entryLead + len)
+        → (v′ : Viewed) → v′ ≡ newer v (part (at + entryLead) len) k n
+        → shownFrom s x h n (pred m) at′ v′ ≡ shownFrom s x h n m at v
+    unfolding shownFrom
+    shown-next k len e at′ p v′ q = go m w
+      where
+        go : (i : ℕ) → length h ≤ at + i → shownFrom s x h n (pred i) at′ v′ ≡ shownFrom s x h n i at v
+        go zero w = absurd (omega arith)
+        go (suc i) w = rw (lt-leb (length h) at l, e, p, q)
+
+-- the part of the set that is shown if the sheet has no entry for the line
+abbrev pub withSet : Part → Viewed → Viewed
+withSet p (Sheet q) = Sheet q
+withSet p (Set q) = Set p
+withSet p (Refused r) = Refused r
+
+newer-set : (p q : Part) (v : Viewed) (k n : ℕ) → withSet p (newer v q k n) ≡ newer (withSet p v) q k n
+unfolding newer
+newer-set p q v k n = go (eqb k n)
+  where
+    go : (b : Bool) → withSet p (cond b (Sheet q) v) ≡ cond b (Sheet q) (withSet p v)
+    go true = refl
+    go false = refl
+
+module _ (s : List ℕ) (x : Shape) (h : List ℕ) (n : ℕ) (p : Part) where
+  -- no entry looks at that part, so it may be put in before them or after them
+  shown-set : (m at : ℕ) (v : Viewed) → withSet p (shownFrom s x h n m at v) ≡ shownFrom s x h n m at (withSet p v)
+  unfolding shownFrom
+  shown-set zero at v = go (leb (length h) at)
+    where
+      go : (b : Bool) → withSet p (cond b v (Refused (refusal tooManyLines at 0))) ≡ cond b (withSet p v) (Refused (refusal tooManyLines at 0))
+      go true = refl
+      go false = refl
+  shown-set (suc m) at v = go (λ at′ v′. shown-set m at′ v′) (leb (length h) at) (sheetEntryAt s x h at)
+    where
+      go : ((at′ : ℕ) (v′ : Viewed) → withSet p (shownFrom s x h n m at′ v′) ≡ shownFrom s x h n m at′ (withSet p v′)) → (b : Bool) (y : SheetEntry)
+          → withSet p (cond b v (goodThen y (λ k l. shownFrom s x h n m (at + (entryLead + l)) (newer v (part (at + entryLead) l) k n))))
+          ≡ cond b (withSet p v) (goodThen y (λ k l. shownFrom s x h n m (at + (entryLead + l)) (newer (withSet p v) (part (at + entryLead) l) k n)))
+      go ih true y = refl
+      go ih false (Good k l) =
+          ih (at + (entryLead + l)) (newer v (part (at + entryLead) l) k n)
+          ∙ ap (shownFrom s x h n m (at + (entryLead + l))) (newer-set p (part (at + entryLead) l) v k n)
+      go ih false (SheetEntry.Refused r) = refl
+
+-- so what the sheet shows is looked at first
+pub under-by : (s : List ℕ) (x : Shape) (h : List ℕ) (n : ℕ) (v : Viewed) → shownBySheet s x h n ≡ v → withSet (setPart s n) v ≡ shownUnder s x h n
+unfolding shownBySheet shownUnder
+under-by s x h n v e = ap (withSet (setPart s n)) (sym e) ∙ shown-set s x h n (setPart s n) (length h) 0 (Set (part 0 0))
