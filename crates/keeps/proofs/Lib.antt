@@ -8,3 +8,4 @@ pub mod Exact
 pub mod WriterExact
 pub mod CorrectionExact
 pub mod IndexExact
+pub mod ViewExact
