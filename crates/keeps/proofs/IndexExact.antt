@@ -97,7 +97,8 @@ module _ (t : SetType) (fs : List Field) where
         go (open-at i o) =
             let a = after-its-name t fs k st l b s odd in
             let same : i ≡ a .0 = name-before i (a .0) o e odd (a .1) in
-            under i (ap (λ (y : Role). headerLine y st) (role-odd t fs k st r x u e) ∙ (ap (λ (n : ℕ). n + 1) (o .line-is) ∙ add-one i)) (inr (a .1 ∙ ap suc (sym same), odd, a .2 ∙ ap (λ (y : ℕ). suc (labelAtLine fs y)) (sym same))) one
+            let number : headerAt k ≡ suc i = ap (λ (y : Role). headerLine y st) (role-odd t fs k st r x u e) ∙ (ap (λ (n : ℕ). n + 1) (o .line-is) ∙ add-one i) in
+            under i number (inr (a .1 ∙ ap suc (sym same), odd, a .2 ∙ ap (λ (y : ℕ). suc (labelAtLine fs y)) (sym same))) one
           where
             one : (h : ℕ) → HeaderOf t fs h k → i ≡ h
             one h (inl g) = absurd (member-not-odd t _ _ (g .all-members k (g .behind) (omega arith)) odd)
