@@ -1,11 +1,11 @@
 """stream.py: cases and their stream: packing and unpacking, running a program over a stream, and printing a case for people.
 Assumes the form that harness/README.md gives: a byte for the call, numbers in 8 bytes, byte strings after their length."""
-import glob
 import lzma
 import os
 import re
 import struct
 import subprocess
+import sys
 from typing import Dict, List, NamedTuple, Tuple, Union
 
 ROOT = os.path.dirname(os.path.dirname(os.path.abspath(__file__)))
@@ -20,6 +20,7 @@ CALLS = {
     "v": ("view", ("line", "set", "sheet"), [*range(1, 22)]),
 }
 NUMBERS = ("room", "used", "line")
+STORED = ("correct", "index", "judge", "list", "rows", "view", "write")  # the streams of harness/streams/
 NOTHING = b"j" + bytes(8)  # the shortest stream of one case: judge is given no bytes
 
 
@@ -77,11 +78,18 @@ def first_difference(cases, lines, others):
 
 
 def stored():
-    """Name, bytes and cases of each stored stream."""
-    for path in sorted(glob.glob(os.path.join(ROOT, "harness", "streams", "*.xz"))):
-        with lzma.open(path) as file:
+    """Name, bytes and cases of each stored stream. Fails if one of STORED is missing, or if there is one more."""
+    folder = os.path.join(ROOT, "harness", "streams")
+    there = sorted(os.listdir(folder)) if os.path.isdir(folder) else []
+    named = [name + ".xz" for name in STORED]
+    wrong = ["FAILED - harness/streams/%s is missing" % name for name in named if name not in there]
+    wrong += ["FAILED - harness/streams/%s is not named in STORED of harness/stream.py" % name for name in there if name not in named]
+    if wrong:
+        sys.exit("\n".join(wrong))
+    for name in STORED:
+        with lzma.open(os.path.join(folder, name + ".xz")) as file:
             data = file.read()
-        yield os.path.basename(path)[: -len(".xz")], data, unpacked(data)
+        yield name, data, unpacked(data)
 
 
 # ---- Parts of a case, and a case for people --------------------------------------------------------------------------------------

@@ -24,13 +24,13 @@ use Rattle.keeps.proofs.Exact.{every-of, accepted-keeps, keeps-accepted
 
 -- ---- fixed lines
 
-abbrev NotFixed : ℕ → Type 0
+abbrev pub NotFixed : ℕ → Type 0
 NotFixed l = (l ≢ 8000) × (l ≢ 8100) × (l ≢ 9218)
 
-not-fixed : (l : ℕ) → fixed l ≡ false → NotFixed l
+pub not-fixed : (l : ℕ) → fixed l ≡ false → NotFixed l
 not-fixed l e = (λ q. no-absurd (ap fixed q) e, λ q. no-absurd (ap fixed q) e, λ q. no-absurd (ap fixed q) e)
 
-fixed-not : (l : ℕ) → NotFixed l → fixed l ≡ false
+pub fixed-not : (l : ℕ) → NotFixed l → fixed l ≡ false
 fixed-not l n = rw (ne-eqb l 8000 (n .0), ne-eqb l 8100 (n .1), ne-eqb l 9218 (n .2)) refl
 
 -- ---- the new lines

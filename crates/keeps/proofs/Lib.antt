@@ -7,3 +7,5 @@ pub mod RulesExact
 pub mod Exact
 pub mod WriterExact
 pub mod CorrectionExact
+pub mod IndexExact
+pub mod ViewExact

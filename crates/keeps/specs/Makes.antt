@@ -1,19 +1,22 @@
--- Which lists are written and which corrections are made, and what is made of them: the reasons of the paper, each by itself.
--- Stated by the rules of Keeps. proofs/WriterExact and proofs/CorrectionExact: exactly these are made.
+-- What is made of a set: its index, and what a view of it shows; which lists are written and which corrections are made, and what is made of them: the reasons of the paper, each by itself.
+-- Stated by the rules of Keeps. proofs/IndexExact, proofs/ViewExact, proofs/WriterExact and proofs/CorrectionExact: exactly these are made.
 use mathlib.Core.Path.{_≡_}
 use mathlib.Core.Bool.{true}
 use mathlib.Core.List.{List, [], _∷_}
-use mathlib.Core.Logic.{_≢_}
-use Prim.Native.Nat.{ℕ, pred, _≤_, _<_}
+use mathlib.Core.Logic.{_≢_, _⊎_, _↔_}
+use Prim.Native.Nat.{ℕ, suc, pred, _+_, _≤_, _<_}
 use lib.ListN.{length, take, getD}
 use Rattle.meaning.specs.declared.SetType.{SetType}
+use Rattle.meaning.specs.declared.Entry.{Entry}
+use Rattle.meaning.specs.declared.Viewed.{Viewed}
+use Rattle.meaning.specs.declared.Viewed.the-variants.{Sheet, Set}
 use Rattle.meaning.specs.Limits.{maxEntries, maxSetBytes}
 use Rattle.meaning.specs.Digits.{digits}
-use Rattle.meaning.specs.Field.{Field, field, noField, labelAtLine}
-use Rattle.meaning.specs.Lines.{leastByte, size, render}
-use Rattle.meaning.specs.Entries.{entryThen}
+use Rattle.meaning.specs.Field.{Field, field, noField, labelAtLine, contentAtLine}
+use Rattle.meaning.specs.Lines.{leastByte, lineLead, size, offset, render}
+use Rattle.meaning.specs.Entries.{entryLead, entryThen}
 use Rattle.meaning.specs.FieldTable.{fitsLabel}
-use Rattle.keeps.specs.Keeps.{KeepsRules, Keeps}
+use Rattle.keeps.specs.Keeps.{IsOdd, InGroup, KeepsRules, Keeps}
 
 -- "Content bytes are 20h to FFh."
 abbrev pub NoLowByte : List ℕ → Type 0
@@ -22,6 +25,31 @@ NoLowByte c = (i : ℕ) → i < length c → leastByte ≤ getD c i 0
 -- "8100 has five digits, the sum of all line lengths of the set, its own included."
 abbrev pub sumLineOf : List Field → Field
 sumLineOf fs = field 8100 (digits 5 (size fs))
+
+-- ---- the index
+
+-- line h is the header of line k: k is in its group, or "a name line stands as header of its pair" and k is the odd label after it
+abbrev pub HeaderOf : SetType → List Field → ℕ → ℕ → Type 0
+HeaderOf t fs h k = InGroup t fs h k ⊎ ((k ≡ suc h) × IsOdd (labelAtLine fs k) × (labelAtLine fs k ≡ suc (labelAtLine fs h)))
+
+-- "One entry for each line holds label, place of its content, its length, and the header's line number, or 0 outside groups and pairs and for a header or name itself."
+pub record EntryOf (t : SetType) (fs : List Field) (k : ℕ) (e : Entry) : Type 0 where
+  pub label-is : e .label ≡ labelAtLine fs k
+  pub place-is : e .place ≡ offset fs k + lineLead
+  pub length-is : e .length ≡ length (contentAtLine fs k)
+  -- line numbers count from 1; so the number is 0 exactly if no line is the header
+  pub header-is : (h : ℕ) → (e .header ≡ suc h) ↔ HeaderOf t fs h k
+
+-- the set at the front of s has the index es, for which there is room
+pub record Indexes (s : List ℕ) (room : ℕ) (es : List Entry) : Type 0 where
+  pub set-type : SetType
+  pub lines : List Field
+  pub rest : List ℕ
+  pub keeps : Keeps s set-type lines rest
+  -- 22
+  pub has-room : length lines ≤ room
+  pub as-many : length es ≡ length lines
+  pub each : (k : ℕ) (none : Entry) → k < length lines → EntryOf set-type lines k (getD es k none)
 
 -- ---- the writer
 
@@ -83,3 +111,37 @@ pub record Corrects (b : List ℕ) (used n : ℕ) (c out : List ℕ) : Type 0 wh
   pub new-lines : NewLines lines n c new
   pub has-room : size new ≤ length b
   pub out-is : out ≡ render new []
+
+-- ---- views
+
+-- an entry of a sheet that is not refused by 19, 20, 6 or 14: it names a line that may be corrected, and gives a content that fits there
+pub record PendingFor (lines : List Field) (e : Field) : Type 0 where
+  pub line-there : (1 ≤ e .label) × (e .label ≤ length lines)
+  pub not-fixed : (labelAtLine lines (pred (e .label)) ≢ 8000) × (labelAtLine lines (pred (e .label)) ≢ 8100) × (labelAtLine lines (pred (e .label)) ≢ 9218)
+  pub no-low-byte : NoLowByte (e .content)
+  pub content-fits : fitsLabel (labelAtLine lines (pred (e .label))) (e .content) ≡ true
+
+-- "the last for a line counts": entry k is the last for line n
+abbrev pub LastFor : List Field → ℕ → ℕ → Type 0
+LastFor es n k = (k < length es) × (labelAtLine es k ≡ n) × ((j : ℕ) → k < j → j < length es → labelAtLine es j ≢ n)
+
+-- "the answer is the part of the sheet if the line has an entry there, else the part of the set"
+pub data Shown (lines es : List Field) (n : ℕ) (v : Viewed) : Type 0 where
+  of-sheet : (k : ℕ) → LastFor es n k
+      → v ≡ Sheet (record { place = length (entriesOf (take k es)) + entryLead; length = length (contentAtLine es k) }) → Shown lines es n v
+  of-set : ((k : ℕ) → k < length es → labelAtLine es k ≢ n)
+      → v ≡ Set (record { place = offset lines (pred n) + lineLead; length = length (contentAtLine lines (pred n)) }) → Shown lines es n v
+
+-- a view of line n of the set s under the sheet h shows v
+pub record Views (s h : List ℕ) (n : ℕ) (v : Viewed) : Type 0 where
+  pub set-type : SetType
+  pub lines : List Field
+  pub entries : List Field
+  -- the set's own rules, and 18: nothing follows it
+  pub keeps : Keeps s set-type lines []
+  -- 19
+  pub line-there : (1 ≤ n) × (n ≤ length lines)
+  -- 21, and then 19, 20, 6, 14 of each entry
+  pub sheet-is : h ≡ entriesOf entries
+  pub each-right : (k : ℕ) → k < length entries → PendingFor lines (getD entries k noField)
+  pub shown : Shown lines entries n v

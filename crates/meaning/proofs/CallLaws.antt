@@ -23,7 +23,7 @@ use Rattle.meaning.proofs.EntryLaws.{Byte}
 use Rattle.meaning.proofs.LineLaws.{length-render}
 use Rattle.meaning.proofs.SetLaws.{accepted}
 use Rattle.meaning.proofs.WriterLaws.{listOf}
-use Rattle.meaning.proofs.Demands.{judge-read, list-write, write-list, write-judge, bothReplaced, either-order}
+use Rattle.meaning.proofs.Demands.{judge-read, list-write, list-there, write-list, write-judge, bothReplaced, either-order}
 
 -- ---- a call that is done
 
@@ -43,25 +43,43 @@ front-made bs b n e = rw (← e) (take-append-seam bs (replicate (length b - len
 
 -- ---- demand 2
 
--- "Given room, an accepted set turned into a field list and written again gives identical bytes": `list` makes n bytes in a buffer, and `write` is given these n bytes
-pub set-list-set : (s list₀ list₁ out₀ out₁ : List ℕ) (x : Shape) (n : ℕ) (answer : Made)
-    → judge s ≡ Accepted x
-    → Done n ≡ listCall s list₀ .answer → list₁ ≡ listCall s list₀ .buffer
-    → x .length ≤ length out₀
-    → answer ≡ writeCall (take n list₁) out₀ .answer → out₁ ≡ writeCall (take n list₁) out₀ .buffer
-    → (answer ≡ Done (x .length)) × (out₁ ≡ take (x .length) s ++ replicate (length out₀ - x .length) 0)
-set-list-set s list₀ list₁ out₀ out₁ x n answer j p q room u v =
-    let d = judge-read s x j in
-    let a = accepted s (d .0) (d .1) in
-    let l = done-call (list s (length list₀)) n p in
-    let f : take n list₁ ≡ l .bytes = ap (take n) (q ∙ ap (λ (r : Reply (List ℕ)). bytesLeft r list₀) (l .is-done)) ∙ front-made (l .bytes) list₀ n (l .so-many) in
-    let w : write (take n list₁) (length out₀) ≡ done (take (x .length) s) = ap (λ (z : List ℕ). write z (length out₀)) f
-    ∙ list-write s x (l .bytes) (length list₀) (length out₀) j (l .is-done) room in
-    let m : length (take (x .length) s) ≡ x .length =
-    omega (arith, length-take (x .length) s, ap (λ (y : Shape). y .length) (d .2), ap length (a .bytes), length-render (d .0 .fields) (d .0 .rest)) in (
-      u ∙ (ap made w ∙ ap Done m),
-      v ∙ (ap (λ (r : Reply (List ℕ)). bytesLeft r out₀) w ∙ ap (λ (k : ℕ). take (x .length) s ++ replicate (length out₀ - k) 0) m),
-    )
+-- "Given room, an accepted set turned into a field list and written again gives identical bytes": there is one list; `list` makes it if there is room for it, and `write`, given
+-- those bytes of the buffer and room for the set, makes the set
+pub set-list-set : (s : List ℕ) (x : Shape) → judge s ≡ Accepted x
+    → (l : List ℕ) × ((list₀ list₁ out₀ out₁ : List ℕ) (listed written : Made)
+    → length l ≤ length list₀ → x .length ≤ length out₀
+    → listed ≡ listCall s list₀ .answer → list₁ ≡ listCall s list₀ .buffer
+    → written ≡ writeCall (take (length l) list₁) out₀ .answer → out₁ ≡ writeCall (take (length l) list₁) out₀ .buffer
+    → ((listed ≡ Done (length l)) × (list₁ ≡ l ++ replicate (length list₀ - length l) 0))
+    × ((written ≡ Done (x .length)) × (out₁ ≡ take (x .length) s ++ replicate (length out₀ - x .length) 0)))
+set-list-set s x j = (l, λ list₀ list₁ out₀ out₁ listed written room room′ p q u v. both list₀ list₁ out₀ out₁ listed written room room′ p q u v)
+  where
+    l : List ℕ
+    l = list-there s x j .0
+
+    m : length (take (x .length) s) ≡ x .length
+    m =
+        let d = judge-read s x j in
+        let a = accepted s (d .0) (d .1) in
+        omega (arith, length-take (x .length) s, ap (λ (y : Shape). y .length) (d .2), ap length (a .bytes), length-render (d .0 .fields) (d .0 .rest))
+
+    both : (list₀ list₁ out₀ out₁ : List ℕ) (listed written : Made) → length l ≤ length list₀ → x .length ≤ length out₀
+        → listed ≡ listCall s list₀ .answer → list₁ ≡ listCall s list₀ .buffer
+        → written ≡ writeCall (take (length l) list₁) out₀ .answer → out₁ ≡ writeCall (take (length l) list₁) out₀ .buffer
+        → ((listed ≡ Done (length l)) × (list₁ ≡ l ++ replicate (length list₀ - length l) 0))
+        × ((written ≡ Done (x .length)) × (out₁ ≡ take (x .length) s ++ replicate (length out₀ - x .length) 0))
+    both list₀ list₁ out₀ out₁ listed written room room′ p q u v =
+        let e : list s (length list₀) ≡ done l = list-there s x j .1 (length list₀) room in
+        let left : list₁ ≡ bytesLeft (done l) list₀ = q ∙ ap (λ (r : Reply (List ℕ)). bytesLeft r list₀) e in
+        let f : take (length l) list₁ ≡ l = ap (take (length l)) left ∙ front-made l list₀ (length l) refl in
+        let w : write (take (length l) list₁) (length out₀) ≡ done (take (x .length) s) =
+        ap (λ (z : List ℕ). write z (length out₀)) f ∙ list-write s x l (length list₀) (length out₀) j e room′ in (
+          (p ∙ ap made e, left),
+          (
+            u ∙ (ap made w ∙ ap Done m),
+            v ∙ (ap (λ (r : Reply (List ℕ)). bytesLeft r out₀) w ∙ ap (λ (k : ℕ). take (x .length) s ++ replicate (length out₀ - k) 0) m),
+          ),
+        )
 
 -- "a list that the writer accepts is read back unchanged": `write` makes n bytes in a buffer, they are an accepted set, and `list` is given them
 pub list-set-list : (l out₀ out₁ back₀ back₁ : List ℕ) (n : ℕ) (answer : Made) → Every Byte l

@@ -71,12 +71,12 @@ list-write s x l room room′ j e h =
     same-read : (y z : Parsed) → _≡_ {A = Reply Parsed} (done y) (done z) → y ≡ z
     same-read y z q = cc
 
--- and that list is there, if there is room for it
-pub list-there : (s : List ℕ) (x : Shape) (room : ℕ) → judge s ≡ Accepted x
-    → (l : List ℕ) × (length l ≤ room → list s room ≡ done l)
-list-there s x room j =
+-- and that list is there: one list, made as soon as there is room for it
+pub list-there : (s : List ℕ) (x : Shape) → judge s ≡ Accepted x
+    → (l : List ℕ) × ((room : ℕ) → length l ≤ room → list s room ≡ done l)
+list-there s x j =
     let d = judge-read s x j in
-    (listOf (d .0 .fields), λ h. list-makes s (d .0) room (d .1) (omega (arith, length-entries (withoutSum (d .0 .fields)))))
+    (listOf (d .0 .fields), λ room h. list-makes s (d .0) room (d .1) (omega (arith, length-entries (withoutSum (d .0 .fields)))))
 
 -- "a list that the writer accepts is read back unchanged"
 pub write-list : (l x : List ℕ) (room room′ : ℕ) → Every Byte l → write l room ≡ done x → length l ≤ room′

@@ -21,6 +21,7 @@ pub mod Asking
 pub mod Examples
 pub mod Demands
 pub mod CallLaws
+pub mod IndexLaws
 pub mod NumberLaws
 pub mod Decided
 pub mod TableLaws
