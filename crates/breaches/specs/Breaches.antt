@@ -98,7 +98,7 @@ pub data MissingBreach (t : SetType) (fs : List Field) : Type 0 where
 
 -- ---- all breaches
 
--- the lines fs of a set whose first line names type t
+-- the lines fs of a set whose first line has the digits of type t as content. Its label is not asked: if it is not 8000, that breach comes before all that are stated with this
 pub record TypedLines (s : List ℕ) (t : SetType) (fs : List Field) (rest : List ℕ) : Type 0 where
   pub set-lines : SetLines s fs rest
   pub names-type : contentAtLine fs 0 ≡ digits 4 (typeNumber t)
@@ -163,6 +163,7 @@ pub record Rank : Type 0 where
 abbrev pub rank : ℕ → ℕ → ℕ → ℕ → Rank
 rank a b c d = record { stage = a; line = b; part = c; byte = d }
 
+-- a lower stage comes first; in one stage the lower line; in one line the lower number or label; then the lower byte
 abbrev pub Before : Rank → Rank → Type 0
 Before a b =
     (a .stage < b .stage)

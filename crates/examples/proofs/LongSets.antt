@@ -15,7 +15,7 @@ full = setOf (line 8000 "6310" ∷ line 9218 "02.10" ∷ line 3000 "7" ∷ line 
 longest : List Example
 unfolding full
 longest =
-    -- then nothing, another set, anything else
+    -- then nothing, another set, anything else; the last is in `lines` of Decided as well, with the other points on lines
     example (judging full) (accepted 5135 512 6310)
     ∷ example (judging (full ++ text "xyz8000")) (accepted 5135 512 6310)
     ∷ example (judging (full ++ text "x")) (refusedBy 7 5135 0) ∷ []

@@ -1,5 +1,6 @@
 -- The five set tables (chapter 3 of the QMS description) as printed there, and for each row sets in which its line is absent, in place, again and out of place.
--- The rows are copied from the documents; what must be answered for a set follows from the printed rows alone.
+-- The rows are copied from the documents. Of what must be answered for a set, the number, the line and the label follow from the printed rows alone. Its place and the set's length
+-- are counted on the bytes that `render` and `withSum` of specs/ write, as the set itself is made; that these write a set as the paper says is shown on texts, in Examples of `meaning`.
 use mathlib.Core.Path.{_≡_, refl}
 use mathlib.Core.Bool.{Bool, true, false, cond, not, _&&_, _||_}
 use mathlib.Core.List.{List, [], _∷_, _++_, map, flatMap}
@@ -9,7 +10,7 @@ use lib.Dec.{eqb}
 use Rattle.meaning.specs.declared.Judged.{Judged}
 use Rattle.meaning.specs.declared.Judged.the-variants.{Accepted, Refused}
 use Rattle.meaning.specs.Digits.{digits}
-use Rattle.meaning.specs.Field.{Field, field, elem}
+use Rattle.meaning.specs.Field.{Field, field}
 use Rattle.meaning.specs.Refusals.{refusal}
 use Rattle.meaning.specs.Lines.{render}
 use Rattle.meaning.specs.Lists.{withSum}
@@ -286,6 +287,10 @@ abbrev keep : {A : Type 0} → (A → Bool) → List A → List A
 keep p [] = []
 keep p (x ∷ xs) = let rest = keep p xs in cond (p x) (x ∷ rest) rest
 
+abbrev isIn : ℕ → List ℕ → Bool
+isIn l [] = false
+isIn l (x ∷ xs) = eqb l x || isIn l xs
+
 abbrev without : ℕ → List ℕ → List ℕ
 without l ls = keep (λ (x : ℕ). not (eqb x l)) ls
 
@@ -324,14 +329,14 @@ needed rs = without 8100 (labelsOf (keep (λ (r : Printed). atSetLevel (r .level
 called : List Printed → ℕ → ℕ → List ℕ
 unfolding labelsOf
 called rs h l =
-    labelsOf (keep (λ (r : Printed). isUnder h (r .level) && (elem h (conditions (r .need)) || elem l (conditions (r .need)))) rs)
+    labelsOf (keep (λ (r : Printed). isUnder h (r .level) && (isIn h (conditions (r .need)) || isIn l (conditions (r .need)))) rs)
 
--- a line at set level with the members that it requires: three after 6302, none after any other
+-- a line at set level with the members that it requires: 6302, 6303, 6304, 6305; any other by itself
 block : List Printed → ℕ → List ℕ
 unfolding called
 block rs h = h ∷ called rs h h
 
--- a group of h with its member l and the members that are then required
+-- a group of h with its member l and the members that are then required: 8410, 8420, 8421; 8410, 8411; 6302, 6304, 6303, 6305
 group : List Printed → ℕ → ℕ → List ℕ
 unfolding called
 group rs h l = h ∷ l ∷ without l (called rs h l)
@@ -370,7 +375,8 @@ sumLine ls =
 
 -- ---- the cases of a member of a group
 
--- absent in a group that has c (a member, or h itself), which requires it: the group by itself, and after a right one
+-- absent in a group that has c (a member, or h itself), which requires it: the group by itself, and after a right one.
+-- For 8421 and c = 8420, after the needed lines: 8410, 8420, which is 16 for 8421 at the 8410; and 8410, 8421, 8410, 8420, where it is the second 8410.
 lacking : List Printed → ℕ → ℕ → ℕ → List Case
 unfolding needed called group
 lacking rs h l c =
@@ -382,6 +388,7 @@ otherHeader h = cond (eqb h 8410) 6302 8410
 
 -- in its group, and so in two; twice in one; in none; after a line that closed it; in the other header's group; absent.
 -- If it is K, it is absent in the groups of the other members.
+-- For 8411, after the needed lines: 8410, 8411, 8410, 8411; 8410, 8411, 8411; 8411; 8410, 8411, 8990, 8411; 6302, 6303, 6304, 6305, 8411.
 member : List Printed → Printed → ℕ → ℕ → List Case
 unfolding needed group block lacking flatMap
 member rs r h l =
@@ -439,7 +446,7 @@ ofTable rs =
     accept (needed rs)
     ∷ accept (without 8100 (flatMap (λ (r : Printed). take 1 (r .labels)) rs))
     ∷ map (λ (l : ℕ). refuse 11 (needed rs) (l ∷ []) l)
-    (keep (λ (l : ℕ). not (elem l (labelsOf rs))) (labelsOf printed6310 ++ 0 ∷ 6329 ∷ 6400 ∷ 8412 ∷ 9999 ∷ []))
+    (keep (λ (l : ℕ). not (isIn l (labelsOf rs))) (labelsOf printed6310 ++ 0 ∷ 6329 ∷ 6400 ∷ 8412 ∷ 9999 ∷ []))
 
 -- ---- the answers
 
@@ -544,5 +551,5 @@ all-rows :
     × (wrong 6310 secondCases6310 ≡ [])
     × (wrong 6310 thirdCases6310 ≡ [])
     × (wrong 6311 cases6311 ≡ [])
-unfolding elem printed6300 printed6301 printed6302 printed6310 printed6311 cases6300 cases6301 cases6302 tableCases6310 firstCases6310 secondCases6310 thirdCases6310 cases6311
+unfolding printed6300 printed6301 printed6302 printed6310 printed6311 cases6300 cases6301 cases6302 tableCases6310 firstCases6310 secondCases6310 thirdCases6310 cases6311
 all-rows = (refl, refl, right6300, right6301, right6302, rightTable6310, rightFirst6310, rightSecond6310, rightThird6310, right6311)

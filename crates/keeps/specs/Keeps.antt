@@ -1,6 +1,9 @@
 -- What an accepted set is: the rules of the paper, each stated by itself. Nothing here has an order, a state or a number of a refusal.
 -- Stated over fields, lines as they are written, digits, rows, content tests and limits alone (tests/keeps).
 --
+-- Contents and rows are shared with `meaning`: `ContentsFit` asks its field table and content tests (`fitsLabel`), `HasRow` its set tables. So a wrong row or a wrong test would be
+-- wrong here, too. These are held by the rows as printed, in FieldExamples and RowExamples of crate `examples`. All else is said here once more, in other words.
+--
 -- proofs/Exact: a set is accepted exactly when it keeps them. Read `Keeps` at the end first. A line is named by how many stand before it, as in Field: line 0 is the
 -- paper's line 1; after the last line stands label 0, which no table has. `(k : ℕ) → P k` is "for every k", `(k : ℕ) × P k` is "there is a k", `×` also "and", `⊎` "or",
 -- `P → ⊥` "not P", `≢` "differs from".

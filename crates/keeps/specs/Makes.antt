@@ -107,7 +107,7 @@ pub record Corrects (b : List ℕ) (used n : ℕ) (c out : List ℕ) : Type 0 wh
   -- 6, 14
   pub no-low-byte : NoLowByte c
   pub content-fits : fitsLabel (labelAtLine lines (pred n)) c ≡ true
-  -- 22
+  -- 22. "or over 99,999" is left out: 512 lines whose contents fit never have that many bytes (`ruled-total`, SizeLaws in `meaning`). In `Writes` it stands, and decides as little.
   pub new-lines : NewLines lines n c new
   pub has-room : size new ≤ length b
   pub out-is : out ≡ render new []

@@ -1,5 +1,6 @@
 -- The open points that docs/DECISIONS.md decides, each with inputs that show the decision, and the order of the rules if two apply: a table and a theorem for each part.
--- B1 to B44 are the names in docs/DECISIONS.md; contents alone (B25 to B27) are in FieldExamples, sets of 512 lines and lists of over 511 entries (B28) in LongSets, both in crate `examples`.
+-- B1 to B44 are the names in docs/DECISIONS.md, which says where a point is shown that is not named here. Contents alone (B25 to B27) are in FieldExamples, sets of 512 lines and lists of
+-- over 511 entries (B28) in LongSets, both in crate `examples`.
 use mathlib.Core.Path.{_≡_, refl}
 use mathlib.Core.List.{List, [], _∷_, _++_}
 use Prim.Native.Nat.{ℕ}
@@ -88,6 +89,8 @@ groups =
     ∷ example (judging (setOf (line 8000 "6310" ∷ []))) (refusedBy 16 0 3000)
     ∷ example (judging (setOf (line 8000 "6310" ∷ line 3000 "7" ∷ []))) (refusedBy 16 0 8402)
     ∷ example (judging (b (line 6302 "x" ∷ []))) (refusedBy 16 65 6303)
+    -- of 8421 and 8437 too, which are printed the other way round
+    ∷ example (judging (b (line 8410 "A" ∷ line 8438 "x" ∷ line 8420 "1" ∷ []))) (refusedBy 16 65 8421)
     -- B21
     ∷ example (judging (b (line 6330 "x" ∷ line 6331 "y" ∷ line 6330 "x" ∷ line 6331 "y" ∷ []))) (accepted 105 9 6310)
     ∷ example (judging (setOf (line 8000 "6301" ∷ line 6330 "x" ∷ []))) (refusedBy 11 27 6330)
@@ -117,6 +120,10 @@ orders =
     ∷ example (judging (text "0138x006300\r ")) (refusedBy 4 0 0)
     ∷ example (judging (text "0138x0063\t0\r\n")) (refusedBy 5 0 0)
     ∷ example (judging (text "01390006\t00\r\n")) (refusedBy 6 8 0)
+    -- 8 before 9, 9 before 10, 10 before 11
+    ∷ example (judging (text "01081000\r\n")) (refusedBy 8 0 0)
+    ∷ example (judging (text "01380006303\r\n01030000\r\n")) (refusedBy 9 0 0)
+    ∷ example (judging (text "01380006300\r\n0109999x\r\n")) (refusedBy 10 13 0)
     -- an earlier line's 14 before a later one's 11; 11, 12 and 13 before 14
     ∷ example (judging (b (line 8418 "xy" ∷ []))) (refusedBy 12 65 8418)
     ∷ example (judging (b (line 3000 "01234567890" ∷ []))) (refusedBy 13 65 3000)
@@ -137,7 +144,7 @@ orders-decided = refl
 lists : List Example
 unfolding p pLines b
 lists =
-    -- a set's list, and the set of that list, with zeros after them
+    -- B34: a set's list, and the set of that list, with zeros after them
     example (listing p 26) (holds 22 (entriesOf pLines ++ replicate 4 0))
     ∷ example (writing (entriesOf pLines) 53) (holds 51 (p ++ replicate 2 0))
     -- B33: what is needed, and a buffer of just that size
@@ -151,7 +158,7 @@ lists =
     ∷ example (writing (entriesOf (line 8000 "" ∷ [])) 0) (refusedBy 9 0 0)
     ∷ example (writing (entriesOf (line 8000 "6300" ∷ line 3000 "" ∷ [])) 0) (refusedBy 14 8 3000)
     ∷ example (writing (entriesOf (line 8000 "6300" ∷ field 3000 (replicate 991 65) ∷ [])) 0) (refusedBy 14 8 3000)
-    -- B30
+    -- B30; B52: the label is that of the entry
     ∷ example (writing (entriesOf (line 8100 "00051" ∷ pLines)) 0) (refusedBy 8 0 0)
     ∷ example (writing (entriesOf (line 8000 "6300" ∷ line 8100 "00051" ∷ [])) 0) (refusedBy 13 8 8100)
     ∷ example (writing (entriesOf (line 8000 "6300" ∷ line 9218 "02.10" ∷ line 8000 "6300" ∷ [])) 0) (refusedBy 13 17 8000)

@@ -10,9 +10,10 @@ use Rattle.meaning.specs.Field.{elem}
 use Rattle.meaning.specs.Refusals.{Fault, atLine, ask, notInSet, stray, repeated}
 use Rattle.meaning.specs.Tables.{setLevel, isPairLabel, find}
 
--- What counts of the lines so far:
+-- What counts of the lines so far. For example after the lines 8000, 8100, 9218, 3000, 8402, 8410, 8411: header 8410, line 5 (five lines stand before that 8410), members 8411,
+-- top all the others. An 8420 then joins the members; a 6200 is the header after it, with no members; a 6303 is Stray and closes the group, as a label without a row does.
 pub record State : Type 0 where
-  -- the label of the last line at set level, as long as a member may follow it; else 0. Any line at set level counts, also one that has no members
+  -- the label of the last line at set level, whatever it is, until a line closes what it opened; else 0. After 3000 it is 3000, which no row stands under: so no member follows
   pub header : ℕ
   -- how many lines stand before that line
   pub line : ℕ
@@ -20,7 +21,7 @@ pub record State : Type 0 where
   pub members : List ℕ
   pub top : List ℕ
 
--- no header is open
+-- no header is open: no line at set level so far, or what it opened is closed. No row has label 0, and those under 0 stand at set level, which is asked first
 abbrev pub noHeader : ℕ
 noHeader = 0
 
@@ -44,7 +45,8 @@ pub data Role : Type 0 where
 abbrev pub namesRow : ℕ
 namesRow = 6330
 
--- "Even labels 6330 to 6398 are names; the next line must be the label one higher." Any other member stands under the header that its row names.
+-- "Even labels 6330 to 6398 are names; the next line must be the label one higher." Any other member stands under the header that its row names. So 6345 belongs after 6344
+-- alone, though the rows of all odd labels stand under 6330; 8420 belongs while the header is 8410.
 unfoldable pub belongs : Row → ℕ → ℕ → Bool
 belongs r header l = cond (eqb (r .under) namesRow) (eqb (header + 1) l) (eqb (r .under) header)
 
@@ -58,7 +60,7 @@ role (some r) header l = roleOf r header l
 
 -- ---- from line to line: the state after the line with label l, which has k lines before it
 
--- "every 8410 opens a group", "every 6302 opens a group", a name its pair
+-- after any line at set level: "every 8410 opens a group", "every 6302 opens a group", a name its pair; another one opens what no row stands under, and so ends what was open
 abbrev pub opened : State → Row → ℕ → ℕ → State
 opened st r k l = record { header = l; line = k; members = []; top = r .label ∷ st .top }
 

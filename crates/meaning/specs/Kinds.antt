@@ -30,7 +30,7 @@ unfoldable pub decimals : List ℕ → Bool
 decimals [] = false
 decimals (b ∷ bs) = allDigits (b ∷ bs)
 
--- digits, then nothing, or a point and one or more digits
+-- digits, then nothing, or a point and one or more digits (`let rest`: see Missing)
 unfoldable pub whole : List ℕ → Bool
 whole [] = true
 whole (b ∷ bs) = let rest = whole bs in cond (digit b) rest (eqb b point && decimals bs)
@@ -46,11 +46,11 @@ isFloat (b ∷ bs) = cond (eqb b minus) (unsigned bs) (unsigned (b ∷ bs))
 
 -- ---- dates and times
 
--- what stands for bytes that are no digits: over every bound below
+-- what stands for bytes that are no digits: over every bound below. So `leb (twoAt c 0) 31` is "two digits, 00 to 31", and `leb (twoAt c 0) 99` is "two digits".
 abbrev pub noNumber : ℕ
 noNumber = 100
 
--- the number that bytes i and i + 1 write, if both are digits
+-- the number that bytes i and i + 1 write, if both are digits: of `31121999` it is 31 at 0, 12 at 2 and 19 at 4; of `3a` it is 100 at 0
 unfoldable pub twoAt : List ℕ → ℕ → ℕ
 twoAt c i = cond (digit (getD c i 0) && digit (getD c (i + 1) 0)) ((getD c i 0 - digitZero) * 10 + (getD c (i + 1) 0 - digitZero)) noNumber
 
@@ -66,7 +66,7 @@ isRule008 c = leb 1 (twoAt c 0) && (leb 1 (twoAt c 2) && isRule020 c)
 unfoldable pub isRule090 : List ℕ → Bool
 isRule090 c = leb (twoAt c 0) 24 && (leb (twoAt c 2) 59 && leb (twoAt c 4) 59)
 
--- ---- choices: one digit of a few
+-- ---- choices: one digit of a few. The first byte is looked at; that it is the only one, the field table says (length 1)
 
 unfoldable pub firstIsIn : List ℕ → List ℕ → Bool
 firstIsIn ds c = elem (getD c 0 0) (map (λ (d : ℕ). digitZero + d) ds)

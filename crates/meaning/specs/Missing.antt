@@ -20,7 +20,8 @@ onCondition l has = cond (eqb l 8421) (has 8420 || (has 8461 || has 8462)) (cond
 unfoldable pub needed : Row → (ℕ → Bool) → Bool
 needed r has = r .required || onCondition (r .label) has
 
--- the rows that stand under h: a header's or name's label, or set level
+-- the rows that stand under h: a header's or name's label, or set level. Here and below `let rest = .. in` names what the shorter list gives; it is the same as to write it in its
+-- place, but an example computes it only if it is needed.
 unfoldable pub rowsUnder : List Row → ℕ → List Row
 rowsUnder [] h = []
 rowsUnder (r ∷ rs) h = let rest = rowsUnder rs h in cond (eqb (r .under) (rowLabel h)) (r ∷ rest) rest
@@ -40,7 +41,8 @@ ascending (r ∷ rs) = insert r (ascending rs)
 unfoldable pub missingLabel : ℕ → ℕ → ℕ
 missingLabel h l = cond (isPairLabel h) (h + 1) l
 
--- which of these rows are needed and not there. The rows stand under h, whose line has k lines before it.
+-- which of these rows are needed and not there. The rows stand under h, whose line has k lines before it. `ask` adds the fault if its test fails, so the test is: not (needed and
+-- not there). For example a group 8410, 8420, 8438 lacks 8421 (needed with 8420) and 8437 (needed with 8438), in this order, the lowest label first.
 unfoldable pub lackingOf : List Row → ℕ → ℕ → (ℕ → Bool) → List Fault
 lackingOf [] h k has = []
 lackingOf (r ∷ rs) h k has = ask (not (needed r has && not (has (r .label)))) (atLine missing k (missingLabel h (r .label))) ++ lackingOf rs h k has
@@ -52,7 +54,7 @@ lacking rs h k has = lackingOf (ascending (rowsUnder rs h)) h k has
 abbrev pub among : List ℕ → ℕ → Bool
 among ls l = elem l ls
 
--- what the open group lacks when it ends, a name its odd label; "place .. the header's or name's line" (B19)
+-- what the open group lacks when it ends, a name its odd label; "place .. the header's or name's line" (B19). After a line like 3000, which no row stands under, nothing.
 unfoldable pub openLacking : List Row → State → List Fault
 openLacking rs st = cond (eqb (st .header) noHeader) [] (lacking rs (st .header) (st .line) (among (st .members)))
 

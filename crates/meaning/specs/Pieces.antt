@@ -1,4 +1,9 @@
 -- One scanner for all that stands piece after piece: the lines of a set, the entries of a list, the entries of a sheet.
+--
+-- For example `pieces lineForm 2 13 s`: at most two lines may start in s, whose first byte is at offset 13 of the set. If s is nothing, or another set starts there, no line is
+-- read and s is the rest. Else the line at the front is asked for its faults. If it has one, the reply is the refusal by the first one, and nothing after the line is looked at.
+-- If it has none, the bytes after it are read in the same way, from its end on, with one line fewer allowed; its field is put before the fields found there (`andBefore`), and
+-- a refusal found there is the reply.
 use mathlib.Core.Bool.{Bool, cond}
 use mathlib.Core.List.{List, [], _∷_}
 use Prim.Native.Nat.{ℕ, zero, suc, _+_}
@@ -28,12 +33,12 @@ pub record Parsed : Type 0 where
 abbrev pub parsed : List Field → List ℕ → Parsed
 parsed fs t = record { fields = fs; rest = t }
 
--- the field of a piece, put before the fields that were read after it
+-- the field of a piece, put before the fields that were read after it; if what comes after it was refused, that refusal
 abbrev pub andBefore : Field → Reply Parsed → Reply Parsed
 andBefore f (refused r) = refused r
 andBefore f (done d) = done (parsed (f ∷ d .fields) (d .rest))
 
--- the piece at the front, which stands at offset `at` and has these faults, and then what `k` reads after it
+-- the piece at the front, which stands at offset `at` and has these faults, and then what `k` reads after it: k is given the offset after the piece and the bytes from there on
 abbrev pub pieceThen : Form → List Fault → ℕ → List ℕ → (ℕ → List ℕ → Reply Parsed) → Reply Parsed
 pieceThen F [] at s k = andBefore (F .piece s) (k (at + F .width s) (drop (F .width s) s))
 pieceThen F (x ∷ xs) at s k = refused (refusal (x .no) (at + behind (F .lead) (x .spot)) (x .label))

@@ -66,11 +66,14 @@ startFaults fs =
 
 -- ---- 11 to 15: "then all lines, in order, each by 11, 12, 13, 14, 15"
 
--- a field whose content fits its label, by the rules of this profile
+-- Here and below the profile p is given to the rules of contents, and none of them uses it: one field table serves all set types. A rule that depends on what the fixed lines
+-- choose would read it here.
+
+-- a field whose content fits its label
 unfoldable pub fits : Profile → Field → Bool
 fits p f = fitsLabel (f .label) (f .content)
 
--- a field that is not 9218, or is the version that is read, by the rules of this profile
+-- a field that is not 9218, or is the version that is read
 unfoldable pub current : Profile → Field → Bool
 current p f = not (eqb (f .label) 9218) || is0210 (f .content)
 

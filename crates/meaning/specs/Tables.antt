@@ -5,6 +5,9 @@
 -- paper gives ("8411 to 8480" are members of 8410, "deeper levels are not kept apart"); 8990 then stands at set level (B16). A label that is printed m, required on a
 -- condition, is written so: 6303 to 6305 and the odd labels are M under their header or name ("each required once"); 8421 and 8437 are K here and required by Missing; 8410
 -- is K, since a member without it is Stray (B14). 8431 is printed 1 in one column and n in another: "as for 8431 and 8438" it repeats.
+--
+-- Three cells of document 000's page are read by judgement, since the paper does not name them: 8411 is printed `V`, which is no mark of that column, beside what is left of
+-- a condition: K. 8428 is printed `K K`: K. 8437 has a stray mark in its fourth column, which is passed over.
 use mathlib.Core.Bool.{Bool, true, false, cond, _&&_}
 use mathlib.Core.List.{List, [], _∷_}
 use mathlib.Core.Option.{Option, none, some}
