@@ -128,15 +128,9 @@ fn finished(
 
 // The entries from an offset on, with this many before them, each read once: 7, 21, 6 and 11 to 15 of each, then 16. Line 1 and line 2 ("the writer adds it") stand
 // before them, and are never refused here; `late` is a refusal that waits already.
-fn pass_entries(
-    list: &[u8],
-    settype: SetType,
-    late: Refusal,
-    start: usize,
-    before: usize,
-) -> ListJudged
+fn pass_entries(list: &[u8], t: SetType, late: Refusal, start: usize, before: usize) -> ListJudged
     requires { ⌜ (start ≤ length (now list)) × (before ≤ maxEntries) ⌝ }
-    ensures { λ r. ⌜ r ≡ judgedFrom (now (list .entry)) settype late started noRefusal start before ⌝ }
+    ensures { λ r. ⌜ r ≡ judgedFrom (now (list .entry)) t late started noRefusal start before ⌝ }
 {
     let mut members = [false; judge_missing::ROWS];
     let mut top = [false; judge_missing::ROWS];
@@ -160,22 +154,13 @@ fn pass_entries(
                 return ListJudged::Refused(r);
             }
             Item::Read { label, length } => {
-                turn = judge_entry(
-                    list,
-                    settype,
-                    at,
-                    label,
-                    length,
-                    turn,
-                    &mut members,
-                    &mut top,
-                );
+                turn = judge_entry(list, t, at, label, length, turn, &mut members, &mut top);
                 at += meaning::ENTRY_LEAD + length;
                 n += 1;
             }
         }
     }
-    finished(settype, turn, &members, &top, n)
+    finished(t, turn, &members, &top, n)
 }
 
 // 7, 21, 6 of each entry; if none of them refuses, this refusal. No entry is judged by 11 to 16 here, so the set type makes no difference: 6300 stands for any.

@@ -15,14 +15,14 @@ use Rattle.write_judge.proofs.pass_entries.Statement.{statement}
 use Rattle.write_judge.proofs.pass_entries.Tie as tie
 
 abbrev Inv-loop : tie.InvT-loop
-Inv-loop list settype start before members₀ top₀ turn₀ at₀ n₀ members top turn at n =
+Inv-loop list t start before members₀ top₀ turn₀ at₀ n₀ members top turn at n =
     (at ≤ length list)
     × (n ≤ maxEntries)
-    × (judgedFrom list settype (turn .late) (flaggedOf (turn .group) members top) (turn .group .lack) at n ≡ judgedFrom list settype (turn₀ .late)
+    × (judgedFrom list t (turn .late) (flaggedOf (turn .group) members top) (turn .group .lack) at n ≡ judgedFrom list t (turn₀ .late)
     (flaggedOf (turn₀ .group) members₀ top₀) (turn₀ .group .lack) start before)
 
 abbrev μ-loop : tie.MeasureT-loop
-μ-loop list settype start before members₀ top₀ turn₀ at₀ n₀ members top turn at n = maxEntries - n
+μ-loop list t start before members₀ top₀ turn₀ at₀ n₀ members top turn at n = maxEntries - n
 
 array-write-top : tie.Need-array-write-top Inv-loop μ-loop
 array-write-top c = search needs
@@ -49,9 +49,9 @@ returns c =
     let a = at-start .args in
     let l = at-loop .loop in
     ap Refused (c .at .ensures)
-    ∙ (left-full (a .list .now) (a .settype) (l .turn .late) (flaggedOf (l .turn .group) (l .members) (l .top)) (l .turn .group .lack) (l .at) (l .n)
+    ∙ (left-full (a .list .now) (a .t) (l .turn .late) (flaggedOf (l .turn .group) (l .members) (l .top)) (l .turn .group .lack) (l .at) (l .n)
     (at-loop-test .loop-test .taken) (at-if1 .if1 .taken)
-    ∙ (l .inv .2 ∙ ap (λ (r : Refusal). judgedFrom (a .list .now) (a .settype) (a .late) started r (a .start) (a .before)) (at-none .none .ensures)))
+    ∙ (l .inv .2 ∙ ap (λ (r : Refusal). judgedFrom (a .list .now) (a .t) (a .late) started r (a .start) (a .before)) (at-none .none .ensures)))
 
 check-entry-requires : tie.Need-check-entry-requires Inv-loop μ-loop
 check-entry-requires c κs = search needs
@@ -70,9 +70,9 @@ returns-2 c =
     let at-start = at-none .before .before in
     let a = at-start .args in
     let l = at-loop .loop in
-    left-unchecked (a .list .now) (a .settype) (l .turn .late) (flaggedOf (l .turn .group) (l .members) (l .top)) (l .turn .group .lack) (l .at) (l .n)
+    left-unchecked (a .list .now) (a .t) (l .turn .late) (flaggedOf (l .turn .group) (l .members) (l .top)) (l .turn .group .lack) (l .at) (l .n)
     (at-loop-test .loop-test .taken) (omega (arith, at-if1 .if1 .left)) (sym (at-check-entry .check-entry .ensures) ∙ at-r .r .given .1)
-    ∙ (l .inv .2 ∙ ap (λ (r : Refusal). judgedFrom (a .list .now) (a .settype) (a .late) started r (a .start) (a .before)) (at-none .none .ensures))
+    ∙ (l .inv .2 ∙ ap (λ (r : Refusal). judgedFrom (a .list .now) (a .t) (a .late) started r (a .start) (a .before)) (at-none .none .ensures))
 
 enum-known-label : tie.Need-enum-known-label Inv-loop μ-loop
 enum-known-label c = search needs
@@ -140,7 +140,7 @@ loop-again c =
     let l = at-loop .loop in (
       checked-within (a .list .now) (l .at) (sym (at-check-entry .check-entry .ensures) ∙ at-label .label .given .1),
       omega (arith, at-if1 .if1 .left),
-      sym (left-on (a .list .now) (a .settype) (l .at) (l .n) (at-loop-test .loop-test .taken) (omega (arith, at-if1 .if1 .left)) _ _
+      sym (left-on (a .list .now) (a .t) (l .at) (l .n) (at-loop-test .loop-test .taken) (omega (arith, at-if1 .if1 .left)) _ _
           (sym (at-check-entry .check-entry .ensures) ∙ at-label .label .given .1) (l .turn) (l .members) (l .top) _ _ _ (c .judge-entry .ensures))
           ∙ l .inv .2,
     )
@@ -158,8 +158,8 @@ returns-3 c =
     let a = at-start .args in
     let l = at-loop .loop in
     c .finished .ensures
-    ∙ (left-end (a .list .now) (a .settype) (l .turn .late) (flaggedOf (l .turn .group) (l .members) (l .top)) (l .turn .group .lack) (l .at) (l .n) (at-loop-test .loop-test .left)
-    ∙ (l .inv .2 ∙ ap (λ (r : Refusal). judgedFrom (a .list .now) (a .settype) (a .late) started r (a .start) (a .before)) (at-none .none .ensures)))
+    ∙ (left-end (a .list .now) (a .t) (l .turn .late) (flaggedOf (l .turn .group) (l .members) (l .top)) (l .turn .group .lack) (l .at) (l .n) (at-loop-test .loop-test .left)
+    ∙ (l .inv .2 ∙ ap (λ (r : Refusal). judgedFrom (a .list .now) (a .t) (a .late) started r (a .start) (a .before)) (at-none .none .ensures)))
 
 pub pass-entries-spec : {M : Type 1} → statement M
 pass-entries-spec =
