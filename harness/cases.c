@@ -7,7 +7,7 @@ enum {
     FILL = 0xAA,         /* what output buffers and entries hold before a call */
     MOST_ROOM = 1 << 20, /* "rooms of at most 1 MiB" */
     CHUNK = 1 << 16,
-    SPARE = 16 /* bytes that a refused view is lent for its copy */
+    SPARE = 16 /* bytes that a view is lent for its copy beyond what it shows */
 };
 
 /* ---- The stream ------------------------------------------------------------------------------------------------------------ */
@@ -258,13 +258,16 @@ static void case_correct(void)
     take_back(&buffer);
 }
 
-/* Whether gdt_view_copy, lent this much room, answers the part's length, copies the part as far as there is room, and writes nothing
-   if the part is empty. */
+/* Whether gdt_view_copy, lent this much room, answers the part's length, copies the part if there is room for all of it, and writes
+   nothing else. */
 static bool copies(const struct lent *set, const struct lent *sheet, size_t line, const uint8_t *part, size_t length, size_t room)
 {
     struct lent out = lend_room(room);
     size_t answer = gdt_view_copy(set->at, set->length, sheet->at, sheet->length, line, out.at, room);
-    bool same = answer == length && (length == 0 ? kept(&out) : memcmp(out.at, part, length < room ? length : room) == 0);
+    if (length <= room) {
+        memcpy(out.was, part, length);
+    }
+    bool same = answer == length && kept(&out);
     take_back(&out);
     return same;
 }
@@ -283,7 +286,8 @@ static void case_view(void)
         bool inside = viewed.flag <= 1 && viewed.at <= from->length && viewed.length <= from->length - viewed.at;
         const uint8_t *part = inside ? from->at + viewed.at : from->at;
         size_t length = inside ? viewed.length : 0;
-        bool same = inside && copies(&set, &sheet, line, part, length, length) && copies(&set, &sheet, line, part, length, length / 2);
+        bool same = inside && copies(&set, &sheet, line, part, length, length + SPARE) && copies(&set, &sheet, line, part, length, length)
+            && copies(&set, &sheet, line, part, length, length > 0 ? length - 1 : 0);
         expect_done(viewed.place, viewed.label);
         printf("ok %s ", viewed.flag == 1 ? "sheet" : "set");
         print_hex(part, length);

@@ -92,7 +92,8 @@ struct gdt_made gdt_correct(uint8_t *buffer, size_t room, size_t used, size_t li
 /* Says where the content of line number `line` stands under a sheet of pending corrections. */
 struct gdt_viewed gdt_view(const uint8_t *set, size_t set_length, const uint8_t *sheet, size_t sheet_length, size_t line);
 
-/* Copies that content to `out`, as far as there is room, and answers its length; 0 for a refusal. */
+/* Copies that content to `out` and answers its length; 0 for a refusal. If the length is over `room` nothing is written, so that a cut
+   content is never shown. Bytes of `out` after the content stay as they were. */
 size_t gdt_view_copy(const uint8_t *set, size_t set_length, const uint8_t *sheet, size_t sheet_length, size_t line, uint8_t *out, size_t room);
 
 #endif

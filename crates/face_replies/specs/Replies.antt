@@ -1,7 +1,9 @@
 -- The records of numbers that the C face answers, from the answers of `meaning`, and the buffer that a copy of a view leaves.
+use mathlib.Core.Bool.{cond}
 use mathlib.Core.List.{List, _++_}
 use Prim.Native.Nat.{ℕ}
-use lib.ListN.{length, take, drop}
+use lib.ListN.{length, drop}
+use lib.Dec.{leb}
 use Rattle.meaning.specs.declared.Judged.{Judged}
 use Rattle.meaning.specs.declared.Made.{Made}
 use Rattle.meaning.specs.declared.Viewed.{Viewed}
@@ -36,6 +38,6 @@ viewedReply v = record {
   length = viewedPart v .length;
 }
 
--- a buffer after a copy of xs, as far as there is room
+-- a buffer after a copy of xs: xs at its front if there is room for all of xs, else as it was
 abbrev pub copied : List ℕ → List ℕ → List ℕ
-copied xs b = take (length b) xs ++ drop (length xs) b
+copied xs b = cond (leb (length xs) (length b)) (xs ++ drop (length xs) b) b

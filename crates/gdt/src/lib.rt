@@ -70,7 +70,7 @@ pub extern "C" fn gdt_view(set: &[u8], sheet: &[u8], line: usize) -> ViewedReply
     face_replies::viewed_reply(view::viewed(set, sheet, line))
 }
 
-// The content that a view shows, as far as there is room for it; its whole length is the answer. Bytes after it stay as they were.
+// The content that a view shows, if there is room for all of it: a cut content is never shown. The answer is the room that it needs.
 #[no_mangle]
 pub extern "C" fn gdt_view_copy<'a>(
     set: &'a [u8],
@@ -81,12 +81,10 @@ pub extern "C" fn gdt_view_copy<'a>(
     ensures { λ r. ⌜ (r ≡ length (Views.view (now (set .entry)) (now (sheet .entry)) line)) × (now (out .exit) ≡ copied (Views.view (now (set .entry)) (now (sheet .entry)) line) (now (out .entry))) ⌝ }
 {
     let part = view::view(set, sheet, line);
-    let n = part.len();
-    let room = out.len();
-    if room < n {
-        byte_put::copy_front(out, &part[0..room]);
-        return n;
+    let need = part.len();
+    if out.len() < need {
+        return need;
     }
     byte_put::copy_front(out, part);
-    n
+    need
 }
