@@ -13,8 +13,8 @@ use Rattle.meaning.specs.declared.SetType.{SetType}
 use Rattle.meaning.specs.Field.{Field, labels, labelAtLine, elem}
 use Rattle.meaning.specs.Refusals.{Fault, atLine, ask, missing}
 use Rattle.meaning.specs.Tables.{setLevel, isPairLabel, rowLabel, table}
-use Rattle.meaning.specs.Groups.{State, first, noHeader}
-use Rattle.meaning.specs.Missing.{needed, rowsUnder, insert, ascending, missingLabel, lackingOf, lacking, among, openLacking, stays, groupsLacking}
+use Rattle.meaning.specs.Groups.{State, first, noHeader, stays}
+use Rattle.meaning.specs.Missing.{needed, rowsUnder, insert, ascending, missingLabel, lackingOf, lacking, among, openLacking, groupsLacking}
 use Rattle.meaning.proofs.Bools.{Every}
 use Rattle.keeps.specs.Keeps.{HasRow, AtSetLevel, Required, MemberOf, IsName, GroupHas, SetComplete}
 use Rattle.keeps.proofs.TableFacts.{Paired, inside, below, above, paired, no-absurd, label-of, name-of, Regular, row-regular, row-label, one-row, not-name-row, not-odd-row, every-row, row-every}

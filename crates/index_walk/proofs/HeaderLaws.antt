@@ -12,8 +12,7 @@ use Rattle.meaning.specs.declared.SetType.{SetType}
 use Rattle.meaning.specs.declared.SetType.the-variants.{T6300, T6301, T6302, T6310, T6311}
 use Rattle.meaning.specs.Field.{Field}
 use Rattle.meaning.specs.Tables.{rows6300, rows6301, rows6302, rows6310, rows6311, table, setLevel, isPairLabel, rowLabel, findIn, find}
-use Rattle.meaning.specs.Groups.{State, first, Role, unknown, strayed, atSetLevel, member, namesRow, belongs, roleOf, role, next, labelFaults}
-use Rattle.meaning.specs.Missing.{stays}
+use Rattle.meaning.specs.Groups.{State, first, Role, unknown, strayed, atSetLevel, member, namesRow, belongs, roleOf, role, next, labelFaults, stays}
 use Rattle.meaning.specs.Rules.{Profile, lineRules}
 use Rattle.meaning.specs.Index.{headerLine}
 use Rattle.meaning.proofs.Bools.{and-left, and-right, not-true}

@@ -18,8 +18,8 @@ use Rattle.meaning.specs.Kinds.{is0210}
 use Rattle.meaning.specs.FieldTable.{fitsLabel}
 use Rattle.meaning.specs.Tables.{table, rowLabel, isPairLabel, setLevel, find}
 use Rattle.meaning.specs.Groups as G
-use Rattle.meaning.specs.Groups.{first, Role, unknown, strayed, atSetLevel, member, belongs, roleOf, role, next, after, labelFaults, noHeader}
-use Rattle.meaning.specs.Missing.{lacking, among, openLacking, stays, groupsLacking, missingFaults}
+use Rattle.meaning.specs.Groups.{first, Role, unknown, strayed, atSetLevel, member, belongs, roleOf, role, next, after, labelFaults, noHeader, stays}
+use Rattle.meaning.specs.Missing.{lacking, among, openLacking, groupsLacking, missingFaults}
 use Rattle.meaning.specs.Rules.{Profile, roleIn, fits, current, contentFaults, contentRules, lineRules, rulesFrom}
 use Rattle.meaning.specs.Answers.{noRefusal, orElse}
 use Rattle.table_fields.specs.LabelNumbers.{labelNumber}

@@ -16,8 +16,7 @@ use Rattle.meaning.specs.Field.{Field, noField, labelAtLine, contentAtLine}
 use Rattle.meaning.specs.Refusals.{Reply, done, withRoom}
 use Rattle.meaning.specs.Pieces.{Parsed, parsed}
 use Rattle.meaning.specs.Lines.{lineSize, lineLead, offset}
-use Rattle.meaning.specs.Groups.{State, Role, first}
-use Rattle.meaning.specs.Missing.{stays}
+use Rattle.meaning.specs.Groups.{State, Role, first, stays}
 use Rattle.meaning.specs.Rules.{profile}
 use Rattle.meaning.specs.Reading.{read}
 use Rattle.meaning.specs.Index.{headerLine, entriesFrom, indexOf, index}

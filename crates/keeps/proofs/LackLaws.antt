@@ -15,8 +15,8 @@ use Rattle.meaning.specs.declared.SetType.the-variants.{T6310}
 use Rattle.meaning.specs.Field.{Field, labels, labelAtLine, elem}
 use Rattle.meaning.specs.Refusals.{Fault, atLine, missing}
 use Rattle.meaning.specs.Tables.{setLevel, single, M, K, row, rowLabel, rows6310, table, findIn, find}
-use Rattle.meaning.specs.Groups.{State, first, noHeader, after, labelFaults}
-use Rattle.meaning.specs.Missing.{onCondition, needed, rowsUnder, insert, ascending, missingLabel, lackingOf, lacking, among, openLacking, stays, groupsLacking}
+use Rattle.meaning.specs.Groups.{State, first, noHeader, after, labelFaults, stays}
+use Rattle.meaning.specs.Missing.{onCondition, needed, rowsUnder, insert, ascending, missingLabel, lackingOf, lacking, among, openLacking, groupsLacking}
 use Rattle.meaning.proofs.Bools.{or-right, Every}
 use Rattle.meaning.proofs.FaultLaws.{append-none, none-both, ask-none}
 use Rattle.keeps.specs.Keeps.{HasRow, AtSetLevel, Required, MemberOf, IsName, IsOdd, InGroup, GroupHas, SetComplete, KeepsRules}

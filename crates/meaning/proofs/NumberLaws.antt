@@ -15,9 +15,9 @@ use Rattle.meaning.specs.Refusals.{otherVersion, missing, badSum, badUse
 use Rattle.meaning.specs.Pieces.{Form, Parsed, andBefore, pieceThen, pieces, putAll}
 use Rattle.meaning.specs.Lines.{leastByte, lowBytes, contentAt, lineFaults, lineForm, lengthOk, wholeOk, endOk, labelOk, size, render}
 use Rattle.meaning.specs.Entries.{entryOk, entryWhole, entryLabel, entryContent, entryField, entryWidth, entryFaults, entryForm, listSize}
-use Rattle.meaning.specs.Groups.{State, first, Role, unknown, strayed, atSetLevel, member, role, next, after, labelFaults, noHeader}
+use Rattle.meaning.specs.Groups.{State, first, Role, unknown, strayed, atSetLevel, member, role, next, after, labelFaults, noHeader, stays}
 use Rattle.meaning.specs.Tables.{setLevel, find}
-use Rattle.meaning.specs.Missing.{needed, rowsUnder, ascending, missingLabel, lackingOf, lacking, among, openLacking, stays, groupsLacking, missingFaults}
+use Rattle.meaning.specs.Missing.{needed, rowsUnder, ascending, missingLabel, lackingOf, lacking, among, openLacking, groupsLacking, missingFaults}
 use Rattle.meaning.specs.Rules.{Profile, profile, rowsOf, roleIn, labelIs, typeKnown, startFaults, fits, current, contentFaults, contentRules}
 use Rattle.meaning.specs.Rules.{lineRules, rulesFrom, sumFaults, ruleFaults, setFaults}
 use Rattle.meaning.specs.Reading.{scan, inSet, byRules, read}

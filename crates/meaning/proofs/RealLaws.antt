@@ -10,8 +10,8 @@ use Rattle.meaning.specs.declared.SetType.{SetType}
 use Rattle.meaning.specs.Field.{Field, labels, elem}
 use Rattle.meaning.specs.Refusals.{Fault, atLine, ask, noStart, unknownSet, noSum, repeated, badContent, otherVersion, missing}
 use Rattle.meaning.specs.Tables.{setLevel, find}
-use Rattle.meaning.specs.Groups.{State, first, Role, unknown, strayed, atSetLevel, member, role, next, after, labelFaults, noHeader}
-use Rattle.meaning.specs.Missing.{needed, rowsUnder, ascending, missingLabel, lackingOf, lacking, among, openLacking, stays, groupsLacking, missingFaults}
+use Rattle.meaning.specs.Groups.{State, first, Role, unknown, strayed, atSetLevel, member, role, next, after, labelFaults, noHeader, stays}
+use Rattle.meaning.specs.Missing.{needed, rowsUnder, ascending, missingLabel, lackingOf, lacking, among, openLacking, groupsLacking, missingFaults}
 use Rattle.meaning.specs.Rules.{Profile, rowsOf, roleIn, fits, current, contentFaults, contentRules, lineRules, rulesFrom}
 use Rattle.meaning.proofs.FirstLaws.{Real, real-append, real-ask, real-rule}
 

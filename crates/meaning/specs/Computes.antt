@@ -8,8 +8,8 @@ use Rattle.meaning.specs.Tables.{rows6300, rows6301, rows6302, rows6310,
 use Rattle.meaning.specs.Kinds.{isAlnum, isNum, decimals, whole, unsigned, isFloat, twoAt, isRule020, isRule008, isRule090, firstIsIn}
 use Rattle.meaning.specs.Kinds.{isRule112, isRule116, isCharset, isVersion, sameBytes, is0210, ofKind}
 use Rattle.meaning.specs.FieldTable.{fieldTable, fieldRowIn, fieldRow, hasLength, fitsRow, fitsLabel}
-use Rattle.meaning.specs.Groups.{belongs, roleOf, role, next, after, labelFaults}
-use Rattle.meaning.specs.Missing.{onCondition, needed, rowsUnder, insert, ascending, missingLabel, lackingOf, lacking, openLacking, stays, groupsLacking, missingFaults}
+use Rattle.meaning.specs.Groups.{belongs, roleOf, role, next, after, labelFaults, stays}
+use Rattle.meaning.specs.Missing.{onCondition, needed, rowsUnder, insert, ascending, missingLabel, lackingOf, lacking, openLacking, groupsLacking, missingFaults}
 use Rattle.meaning.specs.Rules.{typeNamed, profile, startFaults, fits, current, contentFaults, contentRules, lineRules, rulesFrom, sumFaults, ruleFaults, setFaults}
 use Rattle.meaning.specs.Reading.{scan, read, judge}
 use Rattle.meaning.specs.Index.{headerLine, entriesFrom, indexOf, index}

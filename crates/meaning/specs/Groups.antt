@@ -1,6 +1,6 @@
 -- "Groups": what each line is in its set, by the labels before it: a line at set level, a member of the open group, or neither.
 -- One state serves 11, 12 and 13, the missing labels (Missing) and the headers of the index (Index).
-use mathlib.Core.Bool.{Bool, cond, not, _||_}
+use mathlib.Core.Bool.{Bool, true, false, cond, not, _||_}
 use mathlib.Core.List.{List, [], _∷_}
 use mathlib.Core.Option.{Option, none, some}
 use Prim.Native.Nat.{ℕ, _+_}
@@ -57,6 +57,13 @@ roleOf r header l = cond (eqb (r .under) setLevel) (atSetLevel r) (cond (belongs
 unfoldable pub role : Option Row → ℕ → ℕ → Role
 role none header l = unknown
 role (some r) header l = roleOf r header l
+
+-- whether a line of that role stays in the open group; else it ends it
+unfoldable pub stays : Role → Bool
+stays unknown = false
+stays strayed = false
+stays (atSetLevel r) = false
+stays (member r) = true
 
 -- ---- from line to line: the state after the line with label l, which has k lines before it
 

@@ -8,8 +8,7 @@ use Rattle.meaning.specs.declared.Entry.{Entry}
 use Rattle.meaning.specs.Field.{Field}
 use Rattle.meaning.specs.Lines.{lineSize, lineLead}
 use Rattle.meaning.specs.Refusals.{Reply, thenTo, withRoom}
-use Rattle.meaning.specs.Groups.{State, first, Role, next}
-use Rattle.meaning.specs.Missing.{stays}
+use Rattle.meaning.specs.Groups.{State, first, Role, next, stays}
 use Rattle.meaning.specs.Rules.{Profile, profile, roleIn}
 use Rattle.meaning.specs.Reading.{read}
 

@@ -1,6 +1,6 @@
 -- 16, Missing: "required label absent", at set level, in groups, after names, and on a condition.
 -- `has` says which labels stand at set level, or in the group in question.
-use mathlib.Core.Bool.{Bool, true, false, cond, not, _&&_, _||_}
+use mathlib.Core.Bool.{Bool, false, cond, not, _&&_, _||_}
 use mathlib.Core.List.{List, [], _∷_, _++_}
 use Prim.Native.Nat.{ℕ, _+_}
 use lib.Dec.{leb, eqb}
@@ -8,7 +8,7 @@ use Rattle.meaning.specs.declared.Row.{Row}
 use Rattle.meaning.specs.Field.{elem}
 use Rattle.meaning.specs.Refusals.{Fault, atLine, ask, missing}
 use Rattle.meaning.specs.Tables.{setLevel, isPairLabel, rowLabel, find}
-use Rattle.meaning.specs.Groups.{State, first, noHeader, Role, unknown, strayed, atSetLevel, member, role, next, after}
+use Rattle.meaning.specs.Groups.{State, first, noHeader, role, stays, next, after}
 
 -- ---- which labels are required
 
@@ -57,13 +57,6 @@ among ls l = elem l ls
 -- what the open group lacks when it ends, a name its odd label; "place .. the header's or name's line" (B19). After a line like 3000, which no row stands under, nothing.
 unfoldable pub openLacking : List Row → State → List Fault
 openLacking rs st = cond (eqb (st .header) noHeader) [] (lacking rs (st .header) (st .line) (among (st .members)))
-
--- the line stays in the open group
-unfoldable pub stays : Role → Bool
-stays unknown = false
-stays strayed = false
-stays (atSetLevel r) = false
-stays (member r) = true
 
 -- "groups and pairs in order": what each lacks is found where it ends, so they come in the order of their headers and names (B20)
 unfoldable pub groupsLacking : List Row → State → ℕ → List ℕ → List Fault
