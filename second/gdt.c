@@ -938,14 +938,13 @@ struct gdt_viewed gdt_view(const uint8_t *set, size_t set_length, const uint8_t 
     return viewed;
 }
 
-/* The second call of a view: the part itself. */
+/* The second call of a view: the part itself, whole or not at all. The part of a refused view is empty. */
 size_t gdt_view_copy(const uint8_t *set, size_t set_length, const uint8_t *sheet, size_t sheet_length, size_t line, uint8_t *out,
                      size_t room)
 {
     struct gdt_viewed viewed = gdt_view(set, set_length, sheet, sheet_length, line);
-    if (viewed.no != 0) {
-        return 0;
+    if (viewed.length <= room) {
+        memcpy(out, (viewed.flag == 1 ? sheet : set) + viewed.at, viewed.length);
     }
-    memcpy(out, (viewed.flag == 1 ? sheet : set) + viewed.at, viewed.length < room ? viewed.length : room);
     return viewed.length;
 }

@@ -243,19 +243,19 @@ static int corrects(const struct bytes *set, size_t room, size_t used, size_t li
     return holds(&lent_in, scratch.of) & holds(&lent_also, content) & equal(have, want);
 }
 
-/* The copy of a view with that room. */
+/* The copy of a view with that room: the whole part at the front, or every byte as it was. */
 static int copies(const struct bytes *set, const struct bytes *sheet, size_t line, struct reply want, size_t room)
 {
     const uint8_t *bytes = lend(&lent_in, set->of, set->n), *also = lend(&lent_also, sheet->of, sheet->n);
     size_t got = gdt_view_copy(bytes, set->n, also, sheet->n, line, lend(&lent_out, noise(room), room), room);
     memcpy(scratch.of, noise(room), room);
-    if (want.no == 0) {
-        memcpy(scratch.of, (want.a == 1 ? sheet : set)->of + want.b, want.c < room ? want.c : room);
+    if (want.no == 0 && want.c <= room) {
+        memcpy(scratch.of, (want.a == 1 ? sheet : set)->of + want.b, want.c);
     }
     return holds(&lent_in, set->of) & holds(&lent_also, sheet->of) & holds(&lent_out, scratch.of) & (got == want.c);
 }
 
-/* A view, and its copy with too little, just enough and too much room. */
+/* A view, and its copy with no room, one byte too little, just enough and more. */
 static int views(const struct bytes *set, const struct bytes *sheet, size_t line, struct reply want)
 {
     const uint8_t *bytes = lend(&lent_in, set->of, set->n), *also = lend(&lent_also, sheet->of, sheet->n);
