@@ -2,7 +2,7 @@
 
    Order of the file: limits and records; the rows; contents; the line syntax and the entries of a list; groups; the rules of a
    line; a whole set and a whole list; the public functions. Words in quotes are the rules paper's, and a bare number such as 14 is
-   one of its numbered replies. "B12" and the like are its decided open points. */
+   one of its numbered replies. "B12" and the like are points of docs/DECISIONS.md. */
 #include "gdt.h"
 
 #include <string.h>

@@ -1,5 +1,5 @@
-/* test.c: tests of gdt.c: the ten examples of the rules paper, the index that its gdtlist example prints, and cases from its
-   decided open points (B1 to B44). Each checks the reply and every byte of the lent buffers, which stand between guard bytes.
+/* test.c: tests of gdt.c: the ten examples of the rules paper, the index that its gdtlist example prints, and cases from
+   the points B1 to B44 of docs/DECISIONS.md. Each checks the reply and every byte of the lent buffers, which stand between guard bytes.
    Prints `ok - NAME` or `FAILED - NAME` for each, and answers 1 if any failed.
 
    Sets, lists and sheets are given as text: lines or entries parted by `|`, each four digits (label, or line number in a sheet)

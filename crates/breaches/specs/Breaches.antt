@@ -80,7 +80,7 @@ pub data RuleBreach (t : SetType) (fs : List Field) (k : ℕ) : Type 0 where
   repeated-in-group : (h i : ℕ) → i < k → InGroup t fs h i → InGroup t fs h k → labelAtLine fs i ≡ labelAtLine fs k → Single t (labelAtLine fs k) → RuleBreach t fs k
   -- "content breaks length, kind or rule"
   bad-content : fitsLabel (labelAtLine fs k) (contentAtLine fs k) ≡ false → RuleBreach t fs k
-  -- "9218 .. not 02.10"
+  -- "9218 .. not 02.10". One that is not well formed breaks 14 as well, and 14 comes first, by its number
   other-version : labelAtLine fs k ≡ 9218 → contentAtLine fs k ≢ digits 2 2 ++ (point ∷ digits 2 10) → RuleBreach t fs k
 
 -- ---- 16: "required label absent"

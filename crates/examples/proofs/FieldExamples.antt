@@ -1,5 +1,6 @@
 -- The field table (chapter 4 of the QMS description) as printed there, and for each row contents that just fit and contents that just do not.
--- The rows are copied from the document; of specs/ only the definitions under test are used, and none of them to say what must be answered.
+-- The rows are copied from the document; of specs/ only the definitions under test are used, and none of them to say what must be answered; `refusal` only puts the three
+-- numbers of an answer together.
 use mathlib.Core.Path.{_≡_, refl}
 use mathlib.Core.Bool.{Bool, true, false, cond, _&&_, _||_, Bool·beq}
 use mathlib.Core.List.{List, [], _∷_, _++_, map, flatMap, flatten}

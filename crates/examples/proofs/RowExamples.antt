@@ -142,7 +142,7 @@ first6310 =
     ∷ row 8402 top one M ∷ []
 
 -- 8410 is printed m, required if one of 8411 to 8480 stands: without its 8410 that one is Stray, so 8410 itself is never missing.
--- 8411 is printed V, which is no word of this column: K. 8431 is printed 1 and n: the paper says n.
+-- 8411 is printed V, which is no word of this column: K. 8431 is printed 1 and n: the paper says n. Of 8428 and 8437 the head of Tables speaks.
 second6310 : List Printed
 second6310 =
     row 6200 top one K
@@ -325,7 +325,7 @@ needed : List Printed → List ℕ
 unfolding labelsOf
 needed rs = without 8100 (labelsOf (keep (λ (r : Printed). atSetLevel (r .level) && isM (r .need)) rs))
 
--- the members of h that are required if h and l stand
+-- the members of h that are required if h and l stand. For 8410 and 8420: 8421
 called : List Printed → ℕ → ℕ → List ℕ
 unfolding labelsOf
 called rs h l =

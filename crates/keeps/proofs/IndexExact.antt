@@ -2,7 +2,7 @@
 use mathlib.Core.Path.{_≡_, refl, sym, ap, _∙_, subst}
 use mathlib.Core.List.{List, []}
 use mathlib.Core.Logic.{_⊎_, inl, inr, _↔_}
-use Prim.Native.Nat.{ℕ, zero, suc, _+_, _≤_, _<_}
+use Prim.Native.Nat.{ℕ, zero, suc, _+_, _<_}
 use native.Mathlib.Numerals.{add-one}
 use native.Mathlib.Omega.{arith}
 use lib.Dec.{leb}
@@ -12,17 +12,16 @@ use borrow.Author.Tests.{leb-true, le-leb, eq-eqb}
 use Rattle.meaning.specs.declared.Entry.{Entry}
 use Rattle.meaning.specs.declared.Row.{Row}
 use Rattle.meaning.specs.declared.SetType.{SetType}
-use Rattle.meaning.specs.Field.{Field, noField, labelAtLine, contentAtLine}
-use Rattle.meaning.specs.Refusals.{Reply, done, withRoom}
-use Rattle.meaning.specs.Pieces.{Parsed, parsed}
-use Rattle.meaning.specs.Lines.{lineSize, lineLead, offset}
-use Rattle.meaning.specs.Groups.{State, Role, first, stays}
-use Rattle.meaning.specs.Rules.{profile}
+use Rattle.meaning.specs.Field.{Field, noField, labelAtLine}
+use Rattle.meaning.specs.Refusals.{done, withRoom}
+use Rattle.meaning.specs.Pieces.{Parsed}
+use Rattle.meaning.specs.Lines.{lineSize}
+use Rattle.meaning.specs.Groups.{State, Role, stays}
 use Rattle.meaning.specs.Reading.{read}
 use Rattle.meaning.specs.Index.{headerLine, entriesFrom, indexOf, index}
 use Rattle.meaning.proofs.FaultLaws.{thenTo-done, withRoom-done}
-use Rattle.meaning.proofs.IndexLaws.{count-of, Shows, entry-shows}
-use Rattle.keeps.specs.Keeps.{HasRow, MemberOf, IsOdd, InGroup, KeepsRules, Keeps}
+use Rattle.meaning.proofs.IndexLaws.{count-of, entry-shows}
+use Rattle.keeps.specs.Keeps.{HasRow, MemberOf, IsOdd, KeepsRules}
 use Rattle.keeps.specs.Makes.{HeaderOf, EntryOf, Indexes}
 use Rattle.keeps.proofs.TableFacts.{le-cases, no-absurd, not-0, member-no-pair, odd-row-odd, odd-is-pair}
 use Rattle.keeps.proofs.StateLaws.{roleBehind, stateAt, OpenAt, Opened, open-at, at-start, behind-odd, Behind, Stands, at-set-level, in-open, behind-name, role-top, role-open, role-odd}

@@ -13,9 +13,9 @@ use borrow.Author.Tests.{eqb-true, eqb-false, eq-eqb, ne-eqb, leb-true, le-leb}
 use Rattle.meaning.specs.declared.Viewed.{Viewed}
 use Rattle.meaning.specs.declared.Viewed.the-variants.{Sheet}
 use Rattle.meaning.specs.Field.{Field, field, noField, labelAtLine, contentAtLine, isNil}
-use Rattle.meaning.specs.Refusals.{Reply, done, thenTo, verdict}
+use Rattle.meaning.specs.Refusals.{done, thenTo, verdict}
 use Rattle.meaning.specs.Entries.{entryLead, entryThen}
-use Rattle.meaning.specs.Pieces.{Parsed, parsed, pieces, putAll}
+use Rattle.meaning.specs.Pieces.{Parsed, parsed, putAll}
 use Rattle.meaning.specs.Rules.{profile, fits}
 use Rattle.meaning.specs.Reading.{read, inSet}
 use Rattle.meaning.specs.Corrections.{aloneFaults, lineNumberFaults}
@@ -24,8 +24,7 @@ use Rattle.meaning.proofs.Bools.{Every, every-at, and-left, and-right}
 use Rattle.meaning.proofs.FaultLaws.{ask-last, append-none, thenTo-done, verdict-done, done-same}
 use Rattle.meaning.proofs.FieldLaws.{fits-short}
 use Rattle.meaning.proofs.EntryLaws.{Byte}
-use Rattle.meaning.proofs.PieceLaws.{Parts, pieces-put, pieces-only}
-use Rattle.meaning.proofs.CorrectionLaws.{Change}
+use Rattle.meaning.proofs.PieceLaws.{pieces-put, pieces-only}
 use Rattle.meaning.proofs.ViewLaws.{Allowed, sheet-lawful}
 use Rattle.keeps.specs.Keeps.{Keeps}
 use Rattle.keeps.specs.Makes.{entriesOf, PendingFor, LastFor, Shown, of-sheet, of-set, Views}

@@ -1,5 +1,5 @@
 -- The open points that docs/DECISIONS.md decides, each with inputs that show the decision, and the order of the rules if two apply: a table and a theorem for each part.
--- B1 to B44 are the names in docs/DECISIONS.md, which says where a point is shown that is not named here. Contents alone (B25 to B27) are in FieldExamples, sets of 512 lines and lists of
+-- B1 to B53 are the names in docs/DECISIONS.md, which says where a point is shown that is not named here. Contents alone (B25 to B27) are in FieldExamples, sets of 512 lines and lists of
 -- over 511 entries (B28) in LongSets, both in crate `examples`.
 use mathlib.Core.Path.{_≡_, refl}
 use mathlib.Core.List.{List, [], _∷_, _++_}

@@ -1,5 +1,5 @@
 -- The field table (chapter 4 of the QMS description), row by row in the order printed there, and whether a content fits its field.
--- 6330 and 6331 stand for their ranges, as in Tables.
+-- Document 002 decides. Document 000 has the same rows, with specks of print in some rule cells, which are passed over. 6330 and 6331 stand for their ranges, as in Tables.
 use mathlib.Core.Bool.{Bool, cond, _&&_}
 use mathlib.Core.List.{List, [], _∷_}
 use Prim.Native.Nat.{ℕ}
@@ -96,6 +96,7 @@ fieldTable =
 abbrev pub noRow : FieldRow
 noRow = row 0 (record { least = 1; most = 0 }) Alnum
 
+-- the first row with this label, else `noRow` (`let rest`: see Missing)
 unfoldable pub fieldRowIn : List FieldRow → ℕ → FieldRow
 fieldRowIn [] l = noRow
 fieldRowIn (x ∷ xs) l = let rest = fieldRowIn xs l in cond (eqb l (x .label)) x rest

@@ -201,6 +201,7 @@ isPairLabel l = leb 6330 l && leb l 6399
 unfoldable pub rowLabel : ℕ → ℕ
 rowLabel l = cond (isPairLabel l) (6330 + l % 2) l
 
+-- the first row that is printed under this label (`let rest`: see Missing)
 unfoldable pub findIn : List Row → ℕ → Option Row
 findIn [] l = none
 findIn (r ∷ rs) l = let rest = findIn rs l in cond (eqb l (r .label)) (some r) rest
