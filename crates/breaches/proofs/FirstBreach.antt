@@ -37,7 +37,7 @@ use Rattle.keeps.proofs.RulesExact.{of-same, type-digits, type-named, known-typ
 use Rattle.keeps.proofs.Exact.{over-cases, over-of, none-earlier, alone-of, accepted-exactly}
 use Rattle.breaches.specs.Breaches.{lineRank, SetLines, StartBreach, no-start, unknown-set, no-sum, RuleBreach, ruleNumber, always, with-value}
 use Rattle.breaches.specs.Breaches.{with-8438, MissingBreach, of-set, of-group, of-name, TypedLines, Breach, no-bytes, in-line, in-start}
-use Rattle.breaches.specs.Breaches.{in-rules, in-missing, in-sum, startRank, missingRank, Rank, rank, Before, rankOf, FirstBreach}
+use Rattle.breaches.specs.Breaches.{in-rules, in-missing, in-sum, startRank, missingRank, sumRank, Rank, rank, Before, rankOf, FirstBreach}
 use Rattle.breaches.proofs.FirstLine.{same-head, head-append, ask-head, refused-same, done-refused, ScanRefused, scan-refused}
 use Rattle.breaches.proofs.FirstLine.{line-none-before, scanned-no-breach, before-stage, stage-of, sounds, wells}
 use Rattle.breaches.proofs.FirstRule.{RuleFirst, rule-first, FirstFault, first-fault, fine-line, behind-line}
@@ -84,7 +84,7 @@ line-first-breach s r x = record { breach = in-line (x .lines) (x .rest) (x .sta
     before (in-start fs rest l b) z = later-stage (startRank b) (lineRank (x .is-first .breach)) 2 (start-stage fs b) (omega (arith, one)) z
     before (in-rules t fs rest l k i b) z = later-stage (rank 3 k (ruleNumber b) 0) (lineRank (x .is-first .breach)) 3 refl (omega (arith, one)) z
     before (in-missing t fs rest l b) z = later-stage (missingRank b) (lineRank (x .is-first .breach)) 4 (missing-stage t fs b) (omega (arith, one)) z
-    before (in-sum fs rest l e) z = later-stage (rank 5 0 0 0) (lineRank (x .is-first .breach)) 5 refl (omega (arith, one)) z
+    before (in-sum fs rest l e) z = later-stage sumRank (lineRank (x .is-first .breach)) 5 refl (omega (arith, one)) z
 
 no-size : (fs : List Field) → 0 < length fs → size fs ≡ 0 → ⊥
 no-size [] l e = omega arith
@@ -117,7 +117,7 @@ module _ (s : List ℕ) (fs : List Field) (rest : List ℕ) (set-lines : SetLine
       → ((b : StartBreach fs) → Before (startRank b) r → ⊥)
       → ((t : SetType) → contentAtLine fs 0 ≡ digits 4 (typeNumber t) → (k : ℕ) → k < length fs → (b : RuleBreach t fs k) → Before (rank 3 k (ruleNumber b) 0) r → ⊥)
       → ((t : SetType) → contentAtLine fs 0 ≡ digits 4 (typeNumber t) → (b : MissingBreach t fs) → Before (missingRank b) r → ⊥)
-      → (number (contentAtLine fs 1) ≢ size fs → Before (rank 5 0 0 0) r → ⊥)
+      → (number (contentAtLine fs 1) ≢ size fs → Before sumRank r → ⊥)
       → (b : Breach s) → Before (rankOf b) r → ⊥
   by-stage r st ru mi su (no-bytes e) z = no-size fs (set-lines .some-line) (omega (arith, length-render fs rest, ap length (sym (set-lines .its-bytes) ∙ e)))
   by-stage r st ru mi su (in-line gs a l b) z =
@@ -130,7 +130,7 @@ module _ (s : List ℕ) (fs : List Field) (rest : List ℕ) (set-lines : SetLine
       subst (λ (y : List Field). contentAtLine y 0 ≡ digits 4 (typeNumber t) → (c : MissingBreach t y) → Before (missingRank c) r → ⊥)
       (sym (one-list gs a (l .set-lines))) (mi t) (l .names-type) b z
   by-stage r st ru mi su (in-sum gs a l e) z =
-      subst (λ (y : List Field). number (contentAtLine y 1) ≢ size y → Before (rank 5 0 0 0) r → ⊥) (sym (one-list gs a l)) su e z
+      subst (λ (y : List Field). number (contentAtLine y 1) ≢ size y → Before sumRank r → ⊥) (sym (one-list gs a l)) su e z
 
 -- ---- 8, 9, 10
 
@@ -169,7 +169,7 @@ module _ (s : List ℕ) (fs : List Field) (rest : List ℕ) (set-lines : SetLine
       by-stage s fs rest set-lines (rank 2 0 n 0) h
       (λ t q k i c. later-stage (rank 3 k (ruleNumber c) 0) (rank 2 0 n 0) 3 refl (omega arith))
       (λ t q c. later-stage (missingRank c) (rank 2 0 n 0) 4 (missing-stage t fs c) (omega arith))
-      (λ q. later-stage (rank 5 0 0 0) (rank 2 0 n 0) 5 refl (omega arith)) d (subst (λ (y : Rank). Before (rankOf d) y) e z)
+      (λ q. later-stage sumRank (rank 2 0 n 0) 5 refl (omega arith)) d (subst (λ (y : Rank). Before (rankOf d) y) e z)
 
   -- By the three tests in order: the first that fails gives the breach, and those before it hold, so no smaller number is broken.
   start-first : (x : Fault) (xs : List Fault) → startFaults fs ≡ x ∷ xs → FirstBreach s (toldAt fs x)
@@ -237,7 +237,7 @@ module _ (s : List ℕ) (fs : List Field) (rest : List ℕ) (set-lines : SetLine
       breach = in-rules t fs rest typed-lines k (f .inside) (b .breach);
       its-refusal = told-line fs x (ruleNumber (b .breach)) k (labelAtLine fs k) (b .is);
       none-before = by-stage s fs rest set-lines r (λ c z. no-start-breach c) rules-before
-          (λ u q c. later-stage (missingRank c) r 4 (missing-stage u fs c) (omega arith)) (λ q. later-stage (rank 5 0 0 0) r 5 refl (omega arith));
+          (λ u q c. later-stage (missingRank c) r 4 (missing-stage u fs c) (omega arith)) (λ q. later-stage sumRank r 5 refl (omega arith));
     }
       where
         f : FirstFault t fs x
@@ -276,7 +276,7 @@ module _ (s : List ℕ) (fs : List Field) (rest : List ℕ) (set-lines : SetLine
       missing-breach b r e h d z =
           by-stage s fs rest set-lines r (λ c w. no-start-breach c) (λ u q i l c w. no-rule-breach u q i l c)
           (λ u q. subst (λ (y : SetType). (c : MissingBreach y fs) → Before (missingRank c) r → ⊥) (sym (one-type u q)) h)
-          (λ q. later-stage (rank 5 0 0 0) r 5 refl (omega (arith, ap (λ (y : Rank). y .stage) e, missing-stage t fs b))) d (subst (λ (y : Rank). Before (rankOf d) y) e z)
+          (λ q. later-stage sumRank r 5 refl (omega (arith, ap (λ (y : Rank). y .stage) e, missing-stage t fs b))) d (subst (λ (y : Rank). Before (rankOf d) y) e z)
 
       lack-first : (x : Fault) → MissingFirst t fs (labels-fine-at t fs each) x → FirstBreach s (toldAt fs x)
       lack-first x (in-set l a q n e h) = record {
@@ -307,12 +307,12 @@ module _ (s : List ℕ) (fs : List Field) (rest : List ℕ) (set-lines : SetLine
       no-missing-breach r (of-name k i m n) = n (r .names-followed k i m)
 
       -- lines that keep the rules have no breach but of the sum
-      no-breach-but : KeepsRules t fs → (r : Rank) → (number (contentAtLine fs 1) ≢ size fs → Before (rank 5 0 0 0) r → ⊥) → (d : Breach s) → Before (rankOf d) r → ⊥
+      no-breach-but : KeepsRules t fs → (r : Rank) → (number (contentAtLine fs 1) ≢ size fs → Before sumRank r → ⊥) → (d : Breach s) → Before (rankOf d) r → ⊥
       no-breach-but k r h =
           by-stage s fs rest set-lines r (λ c z. no-start-breach c) (λ u q i l c z. no-rule-breach u q i l c)
           (λ u q c z. subst (λ (y : SetType). MissingBreach y fs → ⊥) (sym (one-type u q)) (no-missing-breach k) c) h
 
-      nothing-itself : Before (rank 5 0 0 0) (rank 5 0 0 0) → ⊥
+      nothing-itself : Before sumRank sumRank → ⊥
       nothing-itself (inl x) = omega arith
       nothing-itself (inr (e, inl x)) = omega arith
       nothing-itself (inr (e, inr (f, inl x))) = omega arith
@@ -325,7 +325,7 @@ module _ (s : List ℕ) (fs : List Field) (rest : List ℕ) (set-lines : SetLine
           record {
             breach = in-sum fs rest set-lines (eqb-false _ _ (a .0));
             its-refusal = told-line fs x badSum 1 0 (a .1);
-            none-before = no-breach-but k (rank 5 0 0 0) (λ q z. nothing-itself z);
+            none-before = no-breach-but k sumRank (λ q z. nothing-itself z);
           }
 
     -- the first fault of a set that starts well: of the rules 11 to 15, of 16, or of 17

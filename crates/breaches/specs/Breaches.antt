@@ -190,6 +190,10 @@ missingRank (of-set l a r n) = rank 4 0 l 0
 missingRank (of-group h l b m r n) = rank 4 (suc h) l 0
 missingRank {fs = fs} (of-name k b i n) = rank 4 (suc k) (suc (labelAtLine fs k)) 0
 
+-- "then 17": it comes last
+abbrev pub sumRank : Rank
+sumRank = rank 5 0 0 0
+
 -- "first 1; then all lines ..; then 8, 9, 10; then all lines, in order, each by 11, 12, 13, 14, 15; then 16 ..; then 17"
 abbrev pub rankOf : {s : List ℕ} → Breach s → Rank
 rankOf (no-bytes e) = rank 0 0 0 0
@@ -197,7 +201,7 @@ rankOf (in-line fs rest l b) = lineRank b
 rankOf (in-start fs rest l b) = startRank b
 rankOf (in-rules t fs rest l k i b) = rank 3 k (ruleNumber b) 0
 rankOf (in-missing t fs rest l b) = missingRank b
-rankOf (in-sum fs rest l e) = rank 5 0 0 0
+rankOf (in-sum fs rest l e) = sumRank
 
 -- "So the first fault in this order is the answer": r is the refusal of a breach that no other comes before
 pub record FirstBreach (s : List ℕ) (r : Refusal) : Type 0 where
