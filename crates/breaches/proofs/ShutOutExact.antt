@@ -3,7 +3,7 @@
 use mathlib.Core.Path.{_≡_, refl, sym, ap, _∙_}
 use mathlib.Core.List.{List, [], _∷_, _++_}
 use mathlib.Core.Logic.{_↔_}
-use Prim.Native.Nat.{ℕ}
+use Prim.Native.Nat.{ℕ, _≤_}
 use native.Mathlib.Omega.{arith}
 use lib.ListN.{length, take, replicate}
 use Rattle.meaning.specs.declared.Refusal.{Refusal}
@@ -11,24 +11,27 @@ use Rattle.meaning.specs.declared.Shape.{Shape}
 use Rattle.meaning.specs.declared.Entry.{Entry}
 use Rattle.meaning.specs.declared.Judged.{Judged}
 use Rattle.meaning.specs.declared.Judged.the-variants.{Accepted, Refused}
+use Rattle.meaning.specs.declared.SetType.{SetType}
 use Rattle.meaning.specs.declared.Viewed.{Viewed}
 use Rattle.meaning.specs.declared.Viewed.the-variants.{Set}
 use Rattle.meaning.specs.Field.{Field}
 use Rattle.meaning.specs.Refusals.{Reply, refused, done, refusal}
+use Rattle.meaning.specs.Pieces.{parsed, putAll}
+use Rattle.meaning.specs.Entries.{entryThen, entryForm, listSize}
 use Rattle.meaning.specs.Reading.{judge}
 use Rattle.meaning.specs.Index.{indexOf, index}
-use Rattle.meaning.specs.Lists.{write}
+use Rattle.meaning.specs.Lists.{withoutSum, list, write}
 use Rattle.meaning.specs.Corrections.{correct}
 use Rattle.meaning.specs.Views.{viewing}
 use Rattle.meaning.specs.Computes.{computes}
 use Rattle.meaning.proofs.Asking.{text, line}
 use Rattle.meaning.proofs.Bools.{Every}
 use Rattle.meaning.proofs.FaultLaws.{refused-done, done-same}
-use Rattle.meaning.proofs.EntryLaws.{Byte}
-use Rattle.meaning.proofs.WriterLaws.{listOf}
-use Rattle.keeps.specs.Keeps.{SetAtFront}
-use Rattle.keeps.specs.Makes.{Indexes, Writes, Corrects, Views}
-use Rattle.keeps.proofs.Exact.{accepted-exactly, refused-exactly}
+use Rattle.meaning.proofs.EntryLaws.{Byte, length-entries}
+use Rattle.meaning.proofs.WriterLaws.{listOf, list-only, list-makes}
+use Rattle.keeps.specs.Keeps.{Keeps, SetAtFront}
+use Rattle.keeps.specs.Makes.{entriesOf, Indexes, Writes, Corrects, Views}
+use Rattle.keeps.proofs.Exact.{accepted-keeps, keeps-accepted, accepted-exactly, refused-exactly}
 use Rattle.keeps.proofs.WriterExact.{written-exactly}
 use Rattle.keeps.proofs.CorrectionExact.{corrected-exactly}
 use Rattle.keeps.proofs.IndexExact.{indexed-exactly}
@@ -168,7 +171,7 @@ refused-exactly-with-not-same : (a : Judged) → SaysRefusedExactlyWith (λ s. a
 refused-exactly-with-not-same (Refused r) h = refused-exactly-with-not-refusing (λ s. r) h
 refused-exactly-with-not-same (Accepted x) h = refused-accepted (sym (h [] (refusal 1 0 0) .1 (refused-exactly-with [] (refusal 1 0 0) .0 judge-none)))
 
--- ---- what each leaves to the other
+-- ---- what these four leave to each other
 
 -- accepts what is to be accepted, and refuses the rest always by 1
 abbrev byOne : Judged → Judged
@@ -309,3 +312,105 @@ viewed-exactly-not-same : (a : Reply Viewed) → SaysViewedExactly (λ s h n. a)
 unfolding computes
 viewed-exactly-not-same (refused r) h = viewed-exactly-not-refusing (λ s h n. r) h
 viewed-exactly-not-same (done v) h = refused-done {r = refusal 1 0 0} (viewed-exactly [] [] 4 v tt .1 (h [] [] 4 v tt .0 refl))
+
+-- ---- what these four leave open
+
+-- does what is to be done, and refuses the rest always by 1
+abbrev refusesByOne : {A : Type 0} → Reply A → Reply A
+refusesByOne (refused r) = refused (refusal 1 0 0)
+refusesByOne (done x) = done x
+
+done-by-one : {A : Type 0} (a : Reply A) (x : A) → (refusesByOne a ≡ done x) ↔ (a ≡ done x)
+done-by-one (refused r) x = (λ e. refused-done e, λ e. refused-done e)
+done-by-one (done y) x = (λ e. e, λ e. e)
+
+-- It meets all four: they say when something is made and what, not by which number it is refused else. Shut out by the contracts, and for the numbers and places that are tried by the tables of Decided.
+written-exactly-met-by-one-number : SaysWrittenExactly (λ l room. refusesByOne (write l room))
+written-exactly-met-by-one-number l room out b =
+    let x = written-exactly l room out b in let y = done-by-one (write l room) out in (λ e. x .0 (y .0 e), λ w. y .1 (x .1 w))
+
+corrected-exactly-met-by-one-number : SaysCorrectedExactly (λ b used n c. refusesByOne (correct b used n c))
+corrected-exactly-met-by-one-number b used n c out =
+    let x = corrected-exactly b used n c out in let y = done-by-one (correct b used n c) out in (λ e. x .0 (y .0 e), λ w. y .1 (x .1 w))
+
+indexed-exactly-met-by-one-number : SaysIndexedExactly (λ s room. refusesByOne (index s room))
+indexed-exactly-met-by-one-number s room es =
+    let x = indexed-exactly s room es in let y = done-by-one (index s room) es in (λ e. x .0 (y .0 e), λ w. y .1 (x .1 w))
+
+viewed-exactly-met-by-one-number : SaysViewedExactly (λ s h n. refusesByOne (viewing s h n))
+viewed-exactly-met-by-one-number s h n v b =
+    let x = viewed-exactly s h n v b in let y = done-by-one (viewing s h n) v in (λ e. x .0 (y .0 e), λ w. y .1 (x .1 w))
+
+-- ---- the list, exactly
+
+-- "8100 has no entry.": the set at the front of s has the list l, for which there is room
+pub record ListedAs (s : List ℕ) (room : ℕ) (l : List ℕ) : Type 0 where
+  pub set-type : SetType
+  pub first-line : Field
+  pub sum-line : Field
+  pub others : List Field
+  pub rest : List ℕ
+  pub keeps : Keeps s set-type (first-line ∷ sum-line ∷ others) rest
+  pub list-is : l ≡ entriesOf (first-line ∷ others)
+  -- 22
+  pub has-room : length l ≤ room
+
+entries-put : (es : List Field) → putAll entryForm es [] ≡ entriesOf es
+entries-put [] = refl
+entries-put (e ∷ es) = ap (entryThen e) (entries-put es)
+
+listed-lines : (s : List ℕ) (room : ℕ) (l : List ℕ) (t : SetType) (fs : List Field) (rest : List ℕ) → Keeps s t fs rest → l ≡ listOf fs → listSize (withoutSum fs) ≤ room → ListedAs s room l
+listed-lines s room l t [] rest k m h = let z : _≡_ {A = ℕ} 0 8000 = k .rules .starts .0 in absurd (omega arith)
+listed-lines s room l t (f ∷ []) rest k m h = let z : _≡_ {A = ℕ} 0 8100 = k .rules .second-8100 in absurd (omega arith)
+listed-lines s room l t (f ∷ g ∷ fs) rest k m h = record {
+  set-type = t;
+  first-line = f;
+  sum-line = g;
+  others = fs;
+  rest = rest;
+  keeps = k;
+  list-is = m ∙ entries-put (f ∷ fs);
+  has-room = omega (arith, ap length m, length-entries (f ∷ fs));
+}
+
+list-listed : (s : List ℕ) (room : ℕ) (l : List ℕ) → list s room ≡ done l → ListedAs s room l
+list-listed s room l e =
+    let m = list-only s room l e in
+    let k = accepted-keeps s (m .what) (m .was-read) in
+    listed-lines s room l (k .0) (m .what .fields) (m .what .rest) (k .1) (m .made) (m .has-room)
+
+listed-list : (s : List ℕ) (room : ℕ) (l : List ℕ) → ListedAs s room l → list s room ≡ done l
+listed-list s room l x =
+    let fs : List Field = x .first-line ∷ x .sum-line ∷ x .others in
+    let m : l ≡ listOf fs = x .list-is ∙ sym (entries-put (x .first-line ∷ x .others)) in
+    list-makes s (parsed fs (x .rest)) room (keeps-accepted s (x .set-type) fs (x .rest) (x .keeps))
+    (omega (arith, x .has-room, ap length m, length-entries (x .first-line ∷ x .others)))
+    ∙ ap done (sym m)
+
+-- a list is made, of these bytes, exactly when the set keeps every rule, they are its lines but the second, and there is room
+pub listed-exactly : (s : List ℕ) (room : ℕ) (l : List ℕ) → (list s room ≡ done l) ↔ ListedAs s room l
+listed-exactly s room l = (list-listed s room l, listed-list s room l)
+
+abbrev SaysListedExactly : (List ℕ → ℕ → Reply (List ℕ)) → Type 0
+SaysListedExactly list = (s : List ℕ) (room : ℕ) (l : List ℕ) → (list s room ≡ done l) ↔ ListedAs s room l
+
+list-p : list p 60 ≡ done (listOf pLines)
+unfolding computes p pLines
+list-p = refl
+
+listed-exactly-not-refusing : (r : List ℕ → ℕ → Refusal) → SaysListedExactly (λ s room. refused (r s room)) → ⊥
+listed-exactly-not-refusing r h = refused-done (h p 60 (listOf pLines) .1 (listed-exactly p 60 (listOf pLines) .0 list-p))
+
+listed-exactly-not-same : (a : Reply (List ℕ)) → SaysListedExactly (λ s room. a) → ⊥
+unfolding computes
+listed-exactly-not-same (refused r) h = listed-exactly-not-refusing (λ s room. r) h
+listed-exactly-not-same (done l) h = refused-done {r = refusal 1 0 0} (listed-exactly [] 60 l .1 (h [] 60 l .0 refl))
+
+-- makes a list of no bytes of every set that is refused
+abbrev lenient : Judged → Reply (List ℕ) → Reply (List ℕ)
+lenient (Accepted x) r = r
+lenient (Refused q) r = done []
+
+listed-exactly-not-lenient : SaysListedExactly (λ s room. lenient (judge s) (list s room)) → ⊥
+unfolding computes
+listed-exactly-not-lenient h = refused-done {r = refusal 1 0 0} (listed-exactly [] 60 [] .1 (h [] 60 [] .0 refl))

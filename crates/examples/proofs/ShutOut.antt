@@ -37,7 +37,7 @@ use Rattle.meaning.proofs.Bools.{Every}
 use Rattle.meaning.proofs.FaultLaws.{refused-done, done-same}
 use Rattle.meaning.proofs.EntryLaws.{Byte}
 use Rattle.meaning.proofs.SetLaws.{Standing, accepted, read-render, sum-back, Accepted as AcceptedSet}
-use Rattle.meaning.proofs.WriterLaws.{listOf}
+use Rattle.meaning.proofs.WriterLaws.{listOf, ListMade, list-only}
 use Rattle.meaning.proofs.NumberLaws.{Numbered, OneOf, readNumbers, writeNumbers, read-numbers, index-numbers, list-numbers, write-numbers, correct-numbers, view-numbers}
 use Rattle.meaning.proofs.Demands.{refused-keeps-bytes, refused-keeps-entries, list-write, list-there, write-list, write-judge, bothReplaced, either-order}
 use Rattle.meaning.proofs.CallLaws.{set-list-set, list-set-list, either-call}
@@ -317,6 +317,9 @@ keeps-says = (refused-keeps-bytes, refused-keeps-entries)
 keeps-not-same : {A : Type 0} (x : A) (a : List A) → SaysKeeps (λ r b. a) → ⊥
 keeps-not-same x a h = let z : _≡_ {A = ℕ} 0 1 = ap length (sym (h (refusal 1 0 0) []) ∙ h (refusal 1 0 0) (x ∷ [])) in omega arith
 
+keeps-not-clearing : SaysKeeps (λ (r : Reply (List ℕ)) (b : List ℕ). replicate (length b) 0) → ⊥
+keeps-not-clearing h = let z : _≡_ {A = ℕ} 0 7 = ap (λ (b : List ℕ). getD b 0 0) (h (refusal 1 0 0) (7 ∷ [])) in omega arith
+
 -- A call that never writes meets them. Shut out by the contract (`correct-not-idle`), and by `either-call`.
 keeps-met-by-idle : {A : Type 0} → SaysKeeps {A = A} (λ r b. b)
 keeps-met-by-idle r b = refl
@@ -470,6 +473,45 @@ list-there-not-refusing r h = let l = h p (shaped 51 4 6300) judge-p in refused-
 -- a lister that makes the same list of every set meets it; shut out by `list-write` and `set-list-set`
 list-there-met-by-same : (l : List ℕ) → SaysListThere (λ s room. done l)
 list-there-met-by-same l s x j = (l, λ room h. refl)
+
+-- All three speak of accepted sets alone: a lister that makes a list of no bytes of every set that is refused meets them. Shut out by its contract and by `list-only`, and by
+-- `listed-exactly` in ShutOutExact of crate `breaches`.
+abbrev lenient : Judged → Reply (List ℕ) → Reply (List ℕ)
+lenient (Accepted x) r = r
+lenient (RefusedSet q) r = done []
+
+lenientList : List ℕ → ℕ → Reply (List ℕ)
+lenientList s room = lenient (judge s) (list s room)
+
+lenient-same : (s : List ℕ) (x : Shape) (room : ℕ) → judge s ≡ Accepted x → lenientList s room ≡ list s room
+unfolding lenientList
+lenient-same s x room j = ap (λ (y : Judged). lenient y (list s room)) j
+
+list-there-met-by-lenient : SaysListThere lenientList
+list-there-met-by-lenient s x j = let l = list-there s x j in (l .0, λ room h. lenient-same s x room j ∙ l .1 room h)
+
+list-write-met-by-lenient-list : SaysListWrite lenientList write
+list-write-met-by-lenient-list s x l room room′ j e h = list-write s x l room room′ j (sym (lenient-same s x room j) ∙ e) h
+
+set-list-set-met-by-lenient-list : SaysSetListSet (λ s out. call (made (lenientList s (length out))) (bytesLeft (lenientList s (length out)) out)) writeCall
+set-list-set-met-by-lenient-list s x j =
+    let l = set-list-set s x j in (
+      l .0,
+      λ list₀ list₁ out₀ out₁ listed written room room′ p q u v.
+          let e : lenientList s (length list₀) ≡ list s (length list₀) = lenient-same s x (length list₀) j in
+          l .1 list₀ list₁ out₀ out₁ listed written room room′ (p ∙ ap made e) (q ∙ ap (λ (r : Reply (List ℕ)). bytesLeft r list₀) e) u v,
+    )
+
+-- list-only: given that the list was made
+abbrev SaysListOnly : (List ℕ → ℕ → Reply (List ℕ)) → Type 0
+SaysListOnly list = (s : List ℕ) (room : ℕ) (l : List ℕ) → list s room ≡ done l → ListMade s room l
+
+list-only-says : SaysListOnly list
+list-only-says = list-only
+
+list-only-not-lenient : SaysListOnly lenientList → ⊥
+unfolding computes lenientList
+list-only-not-lenient h = refused-done {r = refusal 1 0 0} (h [] 0 [] refl .was-read)
 
 -- ---- demand 2: list to set to list
 
