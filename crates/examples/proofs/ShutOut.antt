@@ -6,7 +6,7 @@
 use mathlib.Core.Path.{_≡_, refl, sym, ap, ap₂, _∙_, subst}
 use mathlib.Core.Bool.{true, cond, true≢false}
 use mathlib.Core.List.{List, [], _∷_, _++_}
-use Prim.Native.Nat.{ℕ, pred, _-_, _≤_, _<_}
+use Prim.Native.Nat.{ℕ, pred, _+_, _-_, _≤_, _<_}
 use native.Mathlib.Omega.{arith}
 use lib.Dec.{eqb}
 use lib.ListN.{length, take, drop, getD, replicate, length-replicate}
@@ -19,6 +19,7 @@ use Rattle.meaning.specs.declared.Made.{Made}
 use Rattle.meaning.specs.declared.Made.the-variants.{Done, Refused}
 use Rattle.meaning.specs.declared.Viewed.{Viewed}
 use Rattle.meaning.specs.declared.Viewed.the-variants.{Set, Refused as RefusedView}
+use Rattle.meaning.specs.Limits.{maxLines, maxSetBytes}
 use Rattle.meaning.specs.Field.{Field, field, labelAtLine, contentAtLine}
 use Rattle.meaning.specs.Refusals.{Reply, refused, done, refusal}
 use Rattle.meaning.specs.Pieces.{Parsed, parsed}
@@ -42,7 +43,9 @@ use Rattle.meaning.proofs.NumberLaws.{Numbered, OneOf, readNumbers, writeNumber
 use Rattle.meaning.proofs.Demands.{refused-keeps-bytes, refused-keeps-entries, list-write, list-there, write-list, write-judge, bothReplaced, either-order}
 use Rattle.meaning.proofs.CallLaws.{set-list-set, list-set-list, either-call}
 use Rattle.meaning.proofs.FieldLaws.{Short}
-use Rattle.meaning.proofs.SizeLaws.{mostBytes, accepted-short, accepted-size}
+use Rattle.meaning.proofs.RuleLaws.{Ruled, ruled}
+use Rattle.meaning.proofs.LineLaws.{length-render}
+use Rattle.meaning.proofs.SizeLaws.{mostBytes, ruled-total, accepted-short, accepted-size}
 use Rattle.meaning.proofs.CorrectionLaws.{Holds, Change, change, Alike, Corrected, still-standing, alike-changed, correct-makes, correct-only}
 use Rattle.meaning.proofs.IndexLaws.{Shows, index-shows}
 use Rattle.meaning.proofs.ViewLaws.{newest, view-shows, view-as-corrected}
@@ -194,6 +197,11 @@ index-not-same : (a : Call Entry) → SaysIndex (λ s out. a) → ⊥
 unfolding computes
 index-not-same a h = refused-made (sym (ap answerOf (h [] [])) ∙ (ap answerOf (h p lentEntries) ∙ four-entries))
 
+-- the first entry has the label 7 before the call, and 8000 after it
+index-not-idle : (a : List ℕ → List Entry → Made) → SaysIndex (λ s out. call (a s out) out) → ⊥
+unfolding computes p
+index-not-idle a h = let z : _≡_ {A = ℕ} 7 8000 = ap (λ (c : Call Entry). getD (c .buffer) 0 lentEntry .label) (h p lentEntries) in omega arith
+
 abbrev SaysList : (List ℕ → List ℕ → Call ℕ) → Type 0
 SaysList f = (s out : List ℕ) → f s out ≡ listCall s out
 
@@ -209,6 +217,11 @@ list-not-same a h =
     let e : Done (length (listOf pLines)) ≡ Done (length (listOf qLines)) = sym (ap made list-p) ∙ (ap answerOf (sym (h p lent) ∙ h q lent) ∙ ap made list-q) in
     omega (arith, made-same e, p-list, q-list)
 
+-- the last byte that was lent is 7 before the call, and 0 after it
+list-not-idle : (a : List ℕ → List ℕ → Made) → SaysList (λ s out. call (a s out) out) → ⊥
+unfolding computes p
+list-not-idle a h = let z : _≡_ {A = ℕ} 7 0 = ap (λ (c : Call ℕ). getD (c .buffer) 59 0) (h p lent) in omega arith
+
 abbrev SaysWrite : (List ℕ → List ℕ → Call ℕ) → Type 0
 SaysWrite f = (l out : List ℕ) → f l out ≡ writeCall l out
 
@@ -219,6 +232,10 @@ write-not-same : (a : Call ℕ) → SaysWrite (λ l out. a) → ⊥
 write-not-same a h =
     let e : Done (length p) ≡ Done (length q) = sym (ap made write-p) ∙ (ap answerOf (sym (h (listOf pLines) lent) ∙ h (listOf qLines) lent) ∙ ap made write-q) in
     omega (arith, made-same e, length-p, length-q)
+
+write-not-idle : (a : List ℕ → List ℕ → Made) → SaysWrite (λ l out. call (a l out) out) → ⊥
+unfolding computes pLines
+write-not-idle a h = let z : _≡_ {A = ℕ} 7 0 = ap (λ (c : Call ℕ). getD (c .buffer) 59 0) (h (listOf pLines) lent) in omega arith
 
 abbrev SaysCorrect : (List ℕ → ℕ → ℕ → List ℕ → Call ℕ) → Type 0
 SaysCorrect f = (b : List ℕ) (used n : ℕ) (c : List ℕ) → f b used n c ≡ correctCall b used n c
@@ -232,13 +249,9 @@ correct-not-same a h =
     sym (ap made correct-p) ∙ (ap answerOf (sym (h inBuffer 51 4 (text "0")) ∙ h inBuffer 51 4 (text "10027")) ∙ ap made correct-q) in
     omega (arith, made-same e, length-p, length-q)
 
--- the seventh byte after P is 0 after a correction, and was 7
 correct-not-idle : (a : List ℕ → ℕ → ℕ → List ℕ → Made) → SaysCorrect (λ b used n c. call (a b used n c) b) → ⊥
-unfolding p inBuffer
-correct-not-idle a h =
-    let z : _≡_ {A = ℕ} 7 0 =
-    ap (λ (c : Call ℕ). getD (c .buffer) 57 0) (h inBuffer 51 4 (text "0")) ∙ ap (λ (r : Reply (List ℕ)). getD (bytesLeft r inBuffer) 57 0) correct-p in
-    omega arith
+unfolding computes p inBuffer
+correct-not-idle a h = let z : _≡_ {A = ℕ} 7 0 = ap (λ (c : Call ℕ). getD (c .buffer) 59 0) (h inBuffer 51 4 (text "0")) in omega arith
 
 abbrev SaysViewed : (List ℕ → List ℕ → ℕ → Viewed) → Type 0
 SaysViewed f = (s h : List ℕ) (n : ℕ) → f s h n ≡ viewed s h n
@@ -320,7 +333,7 @@ keeps-not-same x a h = let z : _≡_ {A = ℕ} 0 1 = ap length (sym (h (refusal 
 keeps-not-clearing : SaysKeeps (λ (r : Reply (List ℕ)) (b : List ℕ). replicate (length b) 0) → ⊥
 keeps-not-clearing h = let z : _≡_ {A = ℕ} 0 7 = ap (λ (b : List ℕ). getD b 0 0) (h (refusal 1 0 0) (7 ∷ [])) in omega arith
 
--- A call that never writes meets them. Shut out by the contract (`correct-not-idle`), and by `either-call`.
+-- A call that never writes meets them. Shut out by the contracts: `index-not-idle`, `list-not-idle`, `write-not-idle`, `correct-not-idle`.
 keeps-met-by-idle : {A : Type 0} → SaysKeeps {A = A} (λ r b. b)
 keeps-met-by-idle r b = refl
 
@@ -1044,6 +1057,32 @@ sizes-met-by-same = (
 -- what they shut out: a line without content, or a set that is too long
 sizes-not-empty-content : SaysSizes (λ s. done (parsed (field 3000 [] ∷ []) [])) → ⊥
 sizes-not-empty-content h = let z : 1 ≤ 0 = h .0 [] (parsed (field 3000 [] ∷ []) []) refl .0 .some-byte in omega arith
+
+-- ruled-total: given at most 512 lines that keep the rules
+abbrev SaysRuledTotal : (List Field → ℕ) → Type 0
+SaysRuledTotal size = (fs : List Field) → Ruled fs → length fs ≤ maxLines → size fs ≤ maxSetBytes
+
+ruled-total-says : SaysRuledTotal size
+ruled-total-says = ruled-total
+
+-- what is given is met by P; so a size that is always larger does not meet it. One that is always 0 does; shut out by `length-render`, by which the size is that of the bytes.
+ruled-total-not-same : (n : ℕ) → maxSetBytes < n → SaysRuledTotal (λ fs. n) → ⊥
+ruled-total-not-same n l h = omega (arith, h pLines (ruled pLines (standing-p .right) .0) (standing-p .few))
+
+ruled-total-met-by-none : SaysRuledTotal (λ fs. 0)
+ruled-total-met-by-none fs r l = omega arith
+
+abbrev SaysLengthRender : (List Field → ℕ) → Type 0
+SaysLengthRender size = (fs : List Field) (t : List ℕ) → length (render fs t) ≡ size fs + length t
+
+length-render-says : SaysLengthRender size
+length-render-says = length-render
+
+length-render-not-same : (n : ℕ) → SaysLengthRender (λ fs. n) → ⊥
+length-render-not-same n h =
+    let x : 0 ≡ n + 0 = h [] [] in
+    let y : 9 ≡ n + 0 = h (field 0 [] ∷ []) [] in
+    omega arith
 
 -- sum-back: given lines without faults
 abbrev SaysSumBack : (List Field → List Field) → (List Field → List Field) → Type 0
