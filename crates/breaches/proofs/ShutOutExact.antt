@@ -324,7 +324,8 @@ done-by-one : {A : Type 0} (a : Reply A) (x : A) → (refusesByOne a ≡ done x)
 done-by-one (refused r) x = (λ e. refused-done e, λ e. refused-done e)
 done-by-one (done y) x = (λ e. e, λ e. e)
 
--- It meets all four: they say when something is made and what, not by which number it is refused else. Shut out by the contracts, and for the numbers and places that are tried by the tables of Decided.
+-- It meets all four: they say when something is made and what, not by which number it is refused else. Shut out by the contracts, and for the inputs that they try by the tables
+-- of Decided in crate `meaning`.
 written-exactly-met-by-one-number : SaysWrittenExactly (λ l room. refusesByOne (write l room))
 written-exactly-met-by-one-number l room out b =
     let x = written-exactly l room out b in let y = done-by-one (write l room) out in (λ e. x .0 (y .0 e), λ w. y .1 (x .1 w))

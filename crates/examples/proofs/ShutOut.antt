@@ -19,13 +19,16 @@ use Rattle.meaning.specs.declared.Made.{Made}
 use Rattle.meaning.specs.declared.Made.the-variants.{Done, Refused}
 use Rattle.meaning.specs.declared.Viewed.{Viewed}
 use Rattle.meaning.specs.declared.Viewed.the-variants.{Set, Refused as RefusedView}
-use Rattle.meaning.specs.Limits.{maxLines, maxSetBytes}
+use Rattle.meaning.specs.declared.Known.{Known}
+use Rattle.meaning.specs.declared.SetType.{SetType}
+use Rattle.meaning.specs.declared.SetType.the-variants.{T6300, T6301}
+use Rattle.meaning.specs.Limits.{maxLines, maxSetBytes, typeOf, typeNumber}
 use Rattle.meaning.specs.Field.{Field, field, labelAtLine, contentAtLine}
 use Rattle.meaning.specs.Refusals.{Reply, refused, done, refusal}
 use Rattle.meaning.specs.Pieces.{Parsed, parsed}
 use Rattle.meaning.specs.Lines.{size, render, setOver}
 use Rattle.meaning.specs.Entries.{entryThen}
-use Rattle.meaning.specs.Reading.{read, judge}
+use Rattle.meaning.specs.Reading.{read, knownNumber, judge}
 use Rattle.meaning.specs.Index.{index}
 use Rattle.meaning.specs.Rules.{setFaults}
 use Rattle.meaning.specs.Lists.{withoutSum, withSum, list, write}
@@ -287,6 +290,14 @@ not-0-and-10027 e f = let z : _≡_ {A = ℕ} 1 5 = ap length (sym e ∙ f) in o
 
 view-not-same : (a : List ℕ) → SaysView (λ s h n. a) → ⊥
 view-not-same a h = not-0-and-10027 (h p [] 4 ∙ view-p) (h q [] 4 ∙ view-q)
+
+-- a set type by its number, and its number
+type-of-not-same : (a : Known) → ((n : ℕ) → a ≡ typeOf n) → ⊥
+unfolding typeOf
+type-of-not-same a h = let z : _≡_ {A = ℕ} 6300 0 = ap knownNumber (sym (h 6300) ∙ h 0) in omega arith
+
+type-number-not-same : (n : ℕ) → ((x : SetType) → n ≡ typeNumber x) → ⊥
+type-number-not-same n h = let z : _≡_ {A = ℕ} 6300 6301 = sym (h T6300) ∙ h T6301 in omega arith
 
 -- ---- demand 1
 
