@@ -3,7 +3,7 @@
 use mathlib.Core.Path.{_≡_, refl, sym, ap, _∙_}
 use mathlib.Core.List.{List, [], _∷_, _++_}
 use mathlib.Core.Logic.{_↔_}
-use Prim.Native.Nat.{ℕ, _≤_}
+use Prim.Native.Nat.{ℕ}
 use native.Mathlib.Omega.{arith}
 use lib.ListN.{length, take, replicate}
 use Rattle.meaning.specs.declared.Refusal.{Refusal}
@@ -11,27 +11,24 @@ use Rattle.meaning.specs.declared.Shape.{Shape}
 use Rattle.meaning.specs.declared.Entry.{Entry}
 use Rattle.meaning.specs.declared.Judged.{Judged}
 use Rattle.meaning.specs.declared.Judged.the-variants.{Accepted, Refused}
-use Rattle.meaning.specs.declared.SetType.{SetType}
 use Rattle.meaning.specs.declared.Viewed.{Viewed}
 use Rattle.meaning.specs.declared.Viewed.the-variants.{Set}
 use Rattle.meaning.specs.Field.{Field}
 use Rattle.meaning.specs.Refusals.{Reply, refused, done, refusal}
-use Rattle.meaning.specs.Pieces.{parsed, putAll}
-use Rattle.meaning.specs.Entries.{entryThen, entryForm, listSize}
 use Rattle.meaning.specs.Reading.{judge}
 use Rattle.meaning.specs.Index.{indexOf, index}
-use Rattle.meaning.specs.Lists.{withoutSum, list, write}
+use Rattle.meaning.specs.Lists.{list, write}
 use Rattle.meaning.specs.Corrections.{correct}
 use Rattle.meaning.specs.Views.{viewing}
 use Rattle.meaning.specs.Computes.{computes}
 use Rattle.meaning.proofs.Asking.{text, line}
 use Rattle.meaning.proofs.Bools.{Every}
 use Rattle.meaning.proofs.FaultLaws.{refused-done, done-same}
-use Rattle.meaning.proofs.EntryLaws.{Byte, length-entries}
-use Rattle.meaning.proofs.WriterLaws.{listOf, list-only, list-makes}
-use Rattle.keeps.specs.Keeps.{Keeps, SetAtFront}
-use Rattle.keeps.specs.Makes.{entriesOf, Indexes, Writes, Corrects, Views}
-use Rattle.keeps.proofs.Exact.{accepted-keeps, keeps-accepted, accepted-exactly, refused-exactly}
+use Rattle.meaning.proofs.EntryLaws.{Byte}
+use Rattle.meaning.proofs.WriterLaws.{listOf}
+use Rattle.keeps.specs.Keeps.{SetAtFront}
+use Rattle.keeps.specs.Makes.{Indexes, Writes, Corrects, Views}
+use Rattle.keeps.proofs.Exact.{accepted-exactly, refused-exactly}
 use Rattle.keeps.proofs.WriterExact.{written-exactly}
 use Rattle.keeps.proofs.CorrectionExact.{corrected-exactly}
 use Rattle.keeps.proofs.IndexExact.{indexed-exactly}
@@ -39,6 +36,7 @@ use Rattle.keeps.proofs.ViewExact.{viewed-exactly}
 use Rattle.breaches.specs.Breaches.{Breach, FirstBreach}
 use Rattle.breaches.proofs.FirstBreach.{refused-for-a-breach}
 use Rattle.breaches.proofs.FirstOnly.{refused-exactly-with}
+use Rattle.breaches.proofs.CallExact.{ListedAs, listed-exactly, refused-same, IndexRefused, index-refused-with, ListRefused, list-refused-with}
 
 -- ---- the inputs
 
@@ -344,56 +342,12 @@ viewed-exactly-met-by-one-number s h n v b =
 
 -- ---- the list, exactly
 
--- "8100 has no entry.": the set at the front of s has the list l, for which there is room
-pub record ListedAs (s : List ℕ) (room : ℕ) (l : List ℕ) : Type 0 where
-  pub set-type : SetType
-  pub first-line : Field
-  pub sum-line : Field
-  pub others : List Field
-  pub rest : List ℕ
-  pub keeps : Keeps s set-type (first-line ∷ sum-line ∷ others) rest
-  pub list-is : l ≡ entriesOf (first-line ∷ others)
-  -- 22
-  pub has-room : length l ≤ room
-
-entries-put : (es : List Field) → putAll entryForm es [] ≡ entriesOf es
-entries-put [] = refl
-entries-put (e ∷ es) = ap (entryThen e) (entries-put es)
-
-listed-lines : (s : List ℕ) (room : ℕ) (l : List ℕ) (t : SetType) (fs : List Field) (rest : List ℕ) → Keeps s t fs rest → l ≡ listOf fs → listSize (withoutSum fs) ≤ room → ListedAs s room l
-listed-lines s room l t [] rest k m h = let z : _≡_ {A = ℕ} 0 8000 = k .rules .starts .0 in absurd (omega arith)
-listed-lines s room l t (f ∷ []) rest k m h = let z : _≡_ {A = ℕ} 0 8100 = k .rules .second-8100 in absurd (omega arith)
-listed-lines s room l t (f ∷ g ∷ fs) rest k m h = record {
-  set-type = t;
-  first-line = f;
-  sum-line = g;
-  others = fs;
-  rest = rest;
-  keeps = k;
-  list-is = m ∙ entries-put (f ∷ fs);
-  has-room = omega (arith, ap length m, length-entries (f ∷ fs));
-}
-
-list-listed : (s : List ℕ) (room : ℕ) (l : List ℕ) → list s room ≡ done l → ListedAs s room l
-list-listed s room l e =
-    let m = list-only s room l e in
-    let k = accepted-keeps s (m .what) (m .was-read) in
-    listed-lines s room l (k .0) (m .what .fields) (m .what .rest) (k .1) (m .made) (m .has-room)
-
-listed-list : (s : List ℕ) (room : ℕ) (l : List ℕ) → ListedAs s room l → list s room ≡ done l
-listed-list s room l x =
-    let fs : List Field = x .first-line ∷ x .sum-line ∷ x .others in
-    let m : l ≡ listOf fs = x .list-is ∙ sym (entries-put (x .first-line ∷ x .others)) in
-    list-makes s (parsed fs (x .rest)) room (keeps-accepted s (x .set-type) fs (x .rest) (x .keeps))
-    (omega (arith, x .has-room, ap length m, length-entries (x .first-line ∷ x .others)))
-    ∙ ap done (sym m)
-
--- a list is made, of these bytes, exactly when the set keeps every rule, they are its lines but the second, and there is room
-pub listed-exactly : (s : List ℕ) (room : ℕ) (l : List ℕ) → (list s room ≡ done l) ↔ ListedAs s room l
-listed-exactly s room l = (list-listed s room l, listed-list s room l)
-
+-- listed-exactly: nothing given
 abbrev SaysListedExactly : (List ℕ → ℕ → Reply (List ℕ)) → Type 0
 SaysListedExactly list = (s : List ℕ) (room : ℕ) (l : List ℕ) → (list s room ≡ done l) ↔ ListedAs s room l
+
+listed-exactly-says : SaysListedExactly list
+listed-exactly-says = listed-exactly
 
 list-p : list p 60 ≡ done (listOf pLines)
 unfolding computes p pLines
@@ -415,3 +369,45 @@ lenient (Refused q) r = done []
 listed-exactly-not-lenient : SaysListedExactly (λ s room. lenient (judge s) (list s room)) → ⊥
 unfolding computes
 listed-exactly-not-lenient h = refused-done {r = refusal 1 0 0} (listed-exactly [] 60 [] .1 (h [] 60 [] .0 refl))
+
+-- ---- index and list, refused exactly with
+
+-- index-refused-with and list-refused-with: nothing given
+abbrev SaysIndexRefusedWith : (List ℕ → ℕ → Reply (List Entry)) → Type 0
+SaysIndexRefusedWith index = (s : List ℕ) (room : ℕ) (r : Refusal) → (index s room ≡ refused r) ↔ IndexRefused s room r
+
+abbrev SaysListRefusedWith : (List ℕ → ℕ → Reply (List ℕ)) → Type 0
+SaysListRefusedWith list = (s : List ℕ) (room : ℕ) (r : Refusal) → (list s room ≡ refused r) ↔ ListRefused s room r
+
+refused-with-say : SaysIndexRefusedWith index × SaysListRefusedWith list
+refused-with-say = (index-refused-with, list-refused-with)
+
+index-refused-with-not-refusing : (r : List ℕ → ℕ → Refusal) → SaysIndexRefusedWith (λ s room. refused (r s room)) → ⊥
+index-refused-with-not-refusing r h = refused-done (sym (index-refused-with p 8 (r p 8) .1 (h p 8 (r p 8) .0 refl)) ∙ index-p)
+
+index-refused-with-not-same : (a : Reply (List Entry)) → SaysIndexRefusedWith (λ s room. a) → ⊥
+unfolding computes
+index-refused-with-not-same (refused r) h = index-refused-with-not-refusing (λ s room. r) h
+index-refused-with-not-same (done es) h = refused-done (sym (h [] 8 (refusal 1 0 0) .1 (index-refused-with [] 8 (refusal 1 0 0) .0 refl)))
+
+list-refused-with-not-refusing : (r : List ℕ → ℕ → Refusal) → SaysListRefusedWith (λ s room. refused (r s room)) → ⊥
+list-refused-with-not-refusing r h = refused-done (sym (list-refused-with p 60 (r p 60) .1 (h p 60 (r p 60) .0 refl)) ∙ list-p)
+
+list-refused-with-not-same : (a : Reply (List ℕ)) → SaysListRefusedWith (λ s room. a) → ⊥
+unfolding computes
+list-refused-with-not-same (refused r) h = list-refused-with-not-refusing (λ s room. r) h
+list-refused-with-not-same (done l) h = refused-done (sym (h [] 8 (refusal 1 0 0) .1 (list-refused-with [] 8 (refusal 1 0 0) .0 refl)))
+
+index-refused-with-not-one-number : SaysIndexRefusedWith (λ s room. refusesByOne (index s room)) → ⊥
+unfolding computes
+index-refused-with-not-one-number h =
+    let e = h (text "x") 8 (refusal 2 0 0) .1 (index-refused-with (text "x") 8 (refusal 2 0 0) .0 refl) in
+    let z : _≡_ {A = ℕ} 1 2 = ap (λ (y : Refusal). y .no) (refused-same e) in
+    omega arith
+
+list-refused-with-not-one-number : SaysListRefusedWith (λ s room. refusesByOne (list s room)) → ⊥
+unfolding computes
+list-refused-with-not-one-number h =
+    let e = h (text "x") 8 (refusal 2 0 0) .1 (list-refused-with (text "x") 8 (refusal 2 0 0) .0 refl) in
+    let z : _≡_ {A = ℕ} 1 2 = ap (λ (y : Refusal). y .no) (refused-same e) in
+    omega arith

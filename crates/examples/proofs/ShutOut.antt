@@ -499,7 +499,7 @@ list-there-met-by-same : (l : List ℕ) → SaysListThere (λ s room. done l)
 list-there-met-by-same l s x j = (l, λ room h. refl)
 
 -- All three speak of accepted sets alone: a lister that makes a list of no bytes of every set that is refused meets them. Shut out by its contract and by `list-only`, and by
--- `listed-exactly` in ShutOutExact of crate `breaches`.
+-- `listed-exactly` in crate `breaches`.
 abbrev lenient : Judged → Reply (List ℕ) → Reply (List ℕ)
 lenient (Accepted x) r = r
 lenient (RefusedSet q) r = done []
