@@ -36,7 +36,7 @@ use Rattle.keeps.proofs.ViewExact.{viewed-exactly}
 use Rattle.breaches.specs.Breaches.{Breach, FirstBreach}
 use Rattle.breaches.proofs.FirstBreach.{refused-for-a-breach}
 use Rattle.breaches.proofs.FirstOnly.{refused-exactly-with}
-use Rattle.breaches.proofs.CallExact.{ListedAs, listed-exactly, refused-same, IndexRefused, index-refused-with, ListRefused, list-refused-with}
+use Rattle.breaches.proofs.CallExact.{ListedAs, listed-exactly, refused-same, IndexRefused, index-refused-with, ListRefused, list-refused-with, CorrectionRefused, correction-refused-with}
 
 -- ---- the inputs
 
@@ -322,8 +322,8 @@ done-by-one : {A : Type 0} (a : Reply A) (x : A) → (refusesByOne a ≡ done x)
 done-by-one (refused r) x = (λ e. refused-done e, λ e. refused-done e)
 done-by-one (done y) x = (λ e. e, λ e. e)
 
--- It meets all four: they say when something is made and what, not by which number it is refused else. Shut out by the contracts, and for the inputs that they try by the tables
--- of Decided in crate `meaning`.
+-- It meets all four: they say when something is made and what, not by which number it is refused else. Shut out by the contracts; for index and correction by `index-refused-with` and
+-- `correction-refused-with` too, for writer and view only on the inputs that the tables of Decided in crate `meaning` try.
 written-exactly-met-by-one-number : SaysWrittenExactly (λ l room. refusesByOne (write l room))
 written-exactly-met-by-one-number l room out b =
     let x = written-exactly l room out b in let y = done-by-one (write l room) out in (λ e. x .0 (y .0 e), λ w. y .1 (x .1 w))
@@ -370,7 +370,7 @@ listed-exactly-not-lenient : SaysListedExactly (λ s room. lenient (judge s) (li
 unfolding computes
 listed-exactly-not-lenient h = refused-done {r = refusal 1 0 0} (listed-exactly [] 60 [] .1 (h [] 60 [] .0 refl))
 
--- ---- index and list, refused exactly with
+-- ---- index, list and correction, refused exactly with
 
 -- index-refused-with and list-refused-with: nothing given
 abbrev SaysIndexRefusedWith : (List ℕ → ℕ → Reply (List Entry)) → Type 0
@@ -411,3 +411,29 @@ list-refused-with-not-one-number h =
     let e = h (text "x") 8 (refusal 2 0 0) .1 (list-refused-with (text "x") 8 (refusal 2 0 0) .0 refl) in
     let z : _≡_ {A = ℕ} 1 2 = ap (λ (y : Refusal). y .no) (refused-same e) in
     omega arith
+
+-- correction-refused-with: nothing given
+abbrev SaysCorrectionRefusedWith : (List ℕ → ℕ → ℕ → List ℕ → Reply (List ℕ)) → Type 0
+SaysCorrectionRefusedWith correct = (b : List ℕ) (used n : ℕ) (c : List ℕ) (r : Refusal) → (correct b used n c ≡ refused r) ↔ CorrectionRefused b used n c r
+
+correction-refused-with-says : SaysCorrectionRefusedWith correct
+correction-refused-with-says = correction-refused-with
+
+correction-refused-with-not-refusing : (r : List ℕ → ℕ → ℕ → List ℕ → Refusal) → SaysCorrectionRefusedWith (λ b used n c. refused (r b used n c)) → ⊥
+correction-refused-with-not-refusing r h =
+    let q : Refusal = r inBuffer 51 4 (text "0") in
+    refused-done (sym (correction-refused-with inBuffer 51 4 (text "0") q .1 (h inBuffer 51 4 (text "0") q .0 refl)) ∙ correct-p)
+
+-- one byte is said to be used, and there is none: 18
+used-over-0 : CorrectionRefused [] 1 4 (text "0") (refusal 18 0 0)
+unfolding computes
+used-over-0 = correction-refused-with [] 1 4 (text "0") (refusal 18 0 0) .0 refl
+
+correction-refused-with-not-same : (a : Reply (List ℕ)) → SaysCorrectionRefusedWith (λ b used n c. a) → ⊥
+correction-refused-with-not-same (refused r) h = correction-refused-with-not-refusing (λ b used n c. r) h
+correction-refused-with-not-same (done x) h = refused-done (sym (h [] 1 4 (text "0") (refusal 18 0 0) .1 used-over-0))
+
+correction-refused-with-not-one-number : SaysCorrectionRefusedWith (λ b used n c. refusesByOne (correct b used n c)) → ⊥
+unfolding computes
+correction-refused-with-not-one-number h =
+    let z : _≡_ {A = ℕ} 1 18 = ap (λ (y : Refusal). y .no) (refused-same (h [] 1 4 (text "0") (refusal 18 0 0) .1 used-over-0)) in omega arith
