@@ -2,7 +2,7 @@
 --
 -- `SaysX` is the statement of theorem x, word for word, with any function in the place of the one that it is about; `x-says` is the theorem itself. Then trivial functions are put in:
 -- `x-not-refusing`: one that refuses every input, each with whatever refusal, does not meet it. `x-not-same`: one that answers always the same, whatever that is, does not meet it.
--- `x-not-idle`: nor one that reports success and leaves every lent buffer as it was. `x-met-by-..`: this trivial function meets it; the comment names what shuts that one out.
+-- `x-not-idle`: nor one that leaves every lent buffer as it was, whatever it answers. `x-met-by-..`: this trivial function meets it; the comment names what shuts that one out.
 use mathlib.Core.Path.{_≡_, refl, sym, ap, ap₂, _∙_, subst}
 use mathlib.Core.Bool.{true, cond, true≢false}
 use mathlib.Core.List.{List, [], _∷_, _++_}
@@ -1110,6 +1110,6 @@ sum-back-not-same-list : (es : List Field) (F : List Field → List Field) → S
 unfolding pLines qLines
 sum-back-not-same-list es F h = let z : _≡_ {A = ℕ} 51 55 = ap size (h pLines (standing-p .right) ∙ sym (h qLines (standing-q .right))) in omega arith
 
--- If nothing is taken out and nothing put in, it is met. Shut out by `lists-decided`, and by `written-exactly` in crate `keeps`.
+-- If nothing is taken out and nothing put in, it is met. Shut out by `lists-decided`, in which the list of P has no entry for 8100.
 sum-back-met-by-idle : SaysSumBack (λ es. es) (λ fs. fs)
 sum-back-met-by-idle fs e = refl
