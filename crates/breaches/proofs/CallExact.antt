@@ -1,0 +1,463 @@
+-- Beside the exact theorems of crate `keeps`, which say when something is made and what: the list is exact too; and with what number, place and label index, list and correction are
+-- refused. Not stated so are the refusals of the writer and of a view: of these the contracts and the tables of Decided in crate `meaning` speak alone.
+use mathlib.Core.Path.{_≡_, refl, sym, ap, _∙_, subst}
+use mathlib.Core.Bool.{Bool, true, false, cond, not, _&&_, _||_, true≢false}
+use mathlib.Core.List.{List, [], _∷_, _++_, cons≢nil, append-assoc}
+use mathlib.Core.Logic.{_⊎_, inl, inr, _≢_, _↔_}
+use Prim.Native.Nat.{ℕ, zero, suc, pred, _+_, _≤_, _<_}
+use native.Mathlib.Omega.{arith}
+use lib.Dec.{leb, eqb}
+use lib.ListN.{length, take, getD}
+use lib.Seq.{take-all}
+use borrow.Author.Tests.{leb-true, leb-false, le-leb, lt-leb, eqb-true}
+use Rattle.meaning.specs.declared.Refusal.{Refusal}
+use Rattle.meaning.specs.declared.Shape.{Shape}
+use Rattle.meaning.specs.declared.SetType.{SetType}
+use Rattle.meaning.specs.declared.Judged.{Judged}
+use Rattle.meaning.specs.declared.Judged.the-variants.{Accepted, Refused}
+use Rattle.meaning.specs.Limits.{maxSetBytes}
+use Rattle.meaning.specs.Field.{Field, labelAtLine, isNil}
+use Rattle.meaning.specs.Refusals.{Spot, byte, Fault, atLine, atByte, ask, Reply, refused, done, refusal, thenTo, verdict, withRoom}
+use Rattle.meaning.specs.Refusals.{badByte, badContent, badUse, noSuchLine, fixedLine, noRoom}
+use Rattle.meaning.specs.Pieces.{Parsed, parsed, putAll}
+use Rattle.meaning.specs.Lines.{leastByte, size, offset, render, lowBytes}
+use Rattle.meaning.specs.FieldTable.{fitsLabel}
+use Rattle.meaning.specs.Rules.{fits}
+use Rattle.meaning.specs.Entries.{entryThen, entryForm, listSize}
+use Rattle.meaning.specs.Reading.{read, shape, judged, judge}
+use Rattle.meaning.specs.Index.{indexOf, index}
+use Rattle.meaning.specs.Lists.{withoutSum, list, setWithRoom}
+use Rattle.meaning.specs.Corrections.{fixed, changeFaults, inChange, changed, correctLines, correct}
+use Rattle.meaning.proofs.Bools.{and-left, and-right, and-both, and-no, not-true, not-false}
+use Rattle.meaning.proofs.FaultLaws.{refused-done, lows-none}
+use Rattle.meaning.proofs.EntryLaws.{length-entries}
+use Rattle.meaning.proofs.WriterLaws.{listOf, list-only, list-makes}
+use Rattle.meaning.proofs.RuleLaws.{ruled}
+use Rattle.meaning.proofs.SetLaws.{Standing}
+use Rattle.meaning.proofs.SizeLaws.{ruled-total}
+use Rattle.meaning.proofs.CorrectionLaws.{Change, still-standing}
+use Rattle.meaning.proofs.Demands.{judge-read, read-judge}
+use Rattle.keeps.specs.Keeps.{Keeps, SetAtFront}
+use Rattle.keeps.specs.Makes.{NoLowByte, entriesOf}
+use Rattle.keeps.proofs.Exact.{every-of, accepted-keeps, keeps-standing, keeps-accepted, accepted-exactly}
+use Rattle.keeps.proofs.TableFacts.{or-cases}
+use Rattle.keeps.proofs.CorrectionExact.{NotFixed, not-fixed, fixed-not}
+use Rattle.breaches.specs.Breaches.{FirstBreach}
+use Rattle.breaches.proofs.FirstOnly.{refused-exactly-with}
+
+-- ---- the list
+
+-- "8100 has no entry.": the set at the front of s has the list l, for which there is room
+pub record ListedAs (s : List ℕ) (room : ℕ) (l : List ℕ) : Type 0 where
+  pub set-type : SetType
+  pub first-line : Field
+  pub sum-line : Field
+  pub others : List Field
+  pub rest : List ℕ
+  pub keeps : Keeps s set-type (first-line ∷ sum-line ∷ others) rest
+  pub list-is : l ≡ entriesOf (first-line ∷ others)
+  -- 22
+  pub has-room : length l ≤ room
+
+entries-put : (es : List Field) → putAll entryForm es [] ≡ entriesOf es
+entries-put [] = refl
+entries-put (e ∷ es) = ap (entryThen e) (entries-put es)
+
+listed-lines : (s : List ℕ) (room : ℕ) (l : List ℕ) (t : SetType) (fs : List Field) (rest : List ℕ) → Keeps s t fs rest → l ≡ listOf fs → listSize (withoutSum fs) ≤ room → ListedAs s room l
+listed-lines s room l t [] rest k m h = let z : _≡_ {A = ℕ} 0 8000 = k .rules .starts .0 in absurd (omega arith)
+listed-lines s room l t (f ∷ []) rest k m h = let z : _≡_ {A = ℕ} 0 8100 = k .rules .second-8100 in absurd (omega arith)
+listed-lines s room l t (f ∷ g ∷ fs) rest k m h = record {
+  set-type = t;
+  first-line = f;
+  sum-line = g;
+  others = fs;
+  rest = rest;
+  keeps = k;
+  list-is = m ∙ entries-put (f ∷ fs);
+  has-room = omega (arith, ap length m, length-entries (f ∷ fs));
+}
+
+list-listed : (s : List ℕ) (room : ℕ) (l : List ℕ) → list s room ≡ done l → ListedAs s room l
+list-listed s room l e =
+    let m = list-only s room l e in
+    let k = accepted-keeps s (m .what) (m .was-read) in
+    listed-lines s room l (k .0) (m .what .fields) (m .what .rest) (k .1) (m .made) (m .has-room)
+
+listed-list : (s : List ℕ) (room : ℕ) (l : List ℕ) → ListedAs s room l → list s room ≡ done l
+listed-list s room l x =
+    let fs : List Field = x .first-line ∷ x .sum-line ∷ x .others in
+    let m : l ≡ listOf fs = x .list-is ∙ sym (entries-put (x .first-line ∷ x .others)) in
+    list-makes s (parsed fs (x .rest)) room (keeps-accepted s (x .set-type) fs (x .rest) (x .keeps))
+    (omega (arith, x .has-room, ap length m, length-entries (x .first-line ∷ x .others)))
+    ∙ ap done (sym m)
+
+-- a list is made, of these bytes, exactly when the set keeps every rule, they are its lines but the second, and there is room
+pub listed-exactly : (s : List ℕ) (room : ℕ) (l : List ℕ) → (list s room ≡ done l) ↔ ListedAs s room l
+listed-exactly s room l = (list-listed s room l, listed-list s room l)
+
+-- ---- index and list: "Index and list refuse as the set does, then by 22", with the need as its place
+
+pub refused-same : {A : Type 0} {r y : Refusal} → _≡_ {A = Reply A} (refused r) (refused y) → r ≡ y
+refused-same e = cc
+
+refused-accepted : {r : Refusal} {x : Shape} → _≡_ {A = Judged} (Refused r) (Accepted x) → ⊥
+refused-accepted e = let z : _≡_ {A = ℕ} 0 1 = cc in omega arith
+
+judged-same : {r y : Refusal} → _≡_ {A = Judged} (Refused r) (Refused y) → r ≡ y
+judged-same e = cc
+
+-- both make something of the lines, for which they need this much
+module _ {A : Type 0} (need : Parsed → ℕ) (made : Parsed → A) (s : List ℕ) (room : ℕ) (r : Refusal) where
+  abbrev reply : Reply A
+  reply = thenTo (read s) (λ d. withRoom (leb (need d) room) (need d) (made d))
+
+  -- the set is refused, or there is too little room
+  data Lacks : Type 0 where
+    set-refused : judge s ≡ Refused r → Lacks
+    too-small : (d : Parsed) → read s ≡ done d → room < need d → r ≡ refusal noRoom (need d) 0 → Lacks
+
+  reply-lacks : reply ≡ refused r → Lacks
+  unfolding judge
+  reply-lacks e = go (read s) refl e
+    where
+      room-lacks : (d : Parsed) → read s ≡ done d → (t : Bool) → leb (need d) room ≡ t → withRoom t (need d) (made d) ≡ refused r → Lacks
+      room-lacks d q true f g = refused-done (sym g)
+      room-lacks d q false f g = too-small d q (leb-false (need d) room f) (sym (refused-same g))
+
+      go : (y : Reply Parsed) → read s ≡ y → thenTo y (λ d. withRoom (leb (need d) room) (need d) (made d)) ≡ refused r → Lacks
+      go (refused y) q f = set-refused (ap judged q ∙ ap Refused (refused-same f))
+      go (done d) q f = room-lacks d q (leb (need d) room) refl f
+
+  lacks-reply : Lacks → reply ≡ refused r
+  unfolding judge
+  lacks-reply (set-refused e) = go (read s) refl e
+    where
+      go : (y : Reply Parsed) → read s ≡ y → judged y ≡ Refused r → reply ≡ refused r
+      go (refused y) q f = rw q (ap refused (judged-same f))
+      go (done d) q f = absurd (refused-accepted (sym f))
+  lacks-reply (too-small d q l e) = rw (q, lt-leb (need d) room l) (ap refused (sym e))
+
+pub data IndexRefused (s : List ℕ) (room : ℕ) (r : Refusal) : Type 0 where
+  as-the-set : FirstBreach s r → IndexRefused s room r
+  no-room : (x : Shape) → SetAtFront s x → room < x .lines → r ≡ refusal noRoom (x .lines) 0 → IndexRefused s room r
+
+pub index-refused-with : (s : List ℕ) (room : ℕ) (r : Refusal) → (index s room ≡ refused r) ↔ IndexRefused s room r
+unfolding index
+index-refused-with s room r = (
+  λ e. to (reply-lacks (λ d. length (d .fields)) (λ d. indexOf (d .fields)) s room r e),
+  λ x. lacks-reply (λ d. length (d .fields)) (λ d. indexOf (d .fields)) s room r (from x),
+)
+  where
+    to : Lacks (λ d. length (d .fields)) (λ d. indexOf (d .fields)) s room r → IndexRefused s room r
+    to (set-refused e) = as-the-set (refused-exactly-with s r .0 e)
+    to (too-small d q l e) = no-room (shape (d .fields)) (accepted-exactly s (shape (d .fields)) .0 (read-judge s d q)) l e
+
+    from : IndexRefused s room r → Lacks (λ d. length (d .fields)) (λ d. indexOf (d .fields)) s room r
+    from (as-the-set f) = set-refused (refused-exactly-with s r .1 f)
+    from (no-room x f l e) =
+        let d = judge-read s x (accepted-exactly s x .1 f) in
+        let n : x .lines ≡ length (d .0 .fields) = ap (λ (y : Shape). y .lines) (d .2) in
+        too-small (d .0) (d .1) (subst (λ (k : ℕ). room < k) n l) (e ∙ ap (λ (k : ℕ). refusal noRoom k 0) n)
+
+pub data ListRefused (s : List ℕ) (room : ℕ) (r : Refusal) : Type 0 where
+  as-the-set : FirstBreach s r → ListRefused s room r
+  no-room : (l : List ℕ) → ListedAs s (length l) l → room < length l → r ≡ refusal noRoom (length l) 0 → ListRefused s room r
+
+abbrev listNeed : Parsed → ℕ
+listNeed d = listSize (withoutSum (d .fields))
+
+pub list-refused-with : (s : List ℕ) (room : ℕ) (r : Refusal) → (list s room ≡ refused r) ↔ ListRefused s room r
+unfolding list
+list-refused-with s room r = (λ e. to (reply-lacks listNeed (λ d. listOf (d .fields)) s room r e), λ x. lacks-reply listNeed (λ d. listOf (d .fields)) s room r (from x))
+  where
+    to : Lacks listNeed (λ d. listOf (d .fields)) s room r → ListRefused s room r
+    to (set-refused e) = as-the-set (refused-exactly-with s r .0 e)
+    to (too-small d q l e) =
+        let m : listNeed d ≡ length (listOf (d .fields)) = omega (arith, length-entries (withoutSum (d .fields))) in
+        let k : list s (length (listOf (d .fields))) ≡ done (listOf (d .fields)) = list-makes s d (length (listOf (d .fields))) q (omega (arith, m)) in
+        no-room (listOf (d .fields)) (list-listed s (length (listOf (d .fields))) (listOf (d .fields)) k) (subst (λ (n : ℕ). room < n) m l) (e ∙ ap (λ (n : ℕ). refusal noRoom n 0) m)
+
+    from : ListRefused s room r → Lacks listNeed (λ d. listOf (d .fields)) s room r
+    from (as-the-set f) = set-refused (refused-exactly-with s r .1 f)
+    from (no-room x f l e) =
+        let o = list-only s (length x) x (listed-list s (length x) x f) in
+        let m : length x ≡ listNeed (o .what) = omega (arith, ap length (o .made), length-entries (withoutSum (o .what .fields))) in
+        too-small (o .what) (o .was-read) (subst (λ (n : ℕ). room < n) m l) (e ∙ ap (λ (n : ℕ). refusal noRoom n 0) m)
+
+-- ---- corrections
+
+-- "line is 8000, 8100 or 9218"
+abbrev pub FixedLabel : ℕ → Type 0
+FixedLabel l = (l ≡ 8000) ⊎ ((l ≡ 8100) ⊎ (l ≡ 9218))
+
+-- the lines fs are a set that keeps the rules, and rest follows it; line number n of it is to be given content c, in a buffer of this many bytes. What is told, each if nothing before
+-- it is wrong: "18 (second set), 19, 20, 6, 14, 22"
+pub data ChangeRefused (room : ℕ) (fs : List Field) (rest : List ℕ) (n : ℕ) (c : List ℕ) (r : Refusal) : Type 0 where
+  -- "another set follows (place: first set's length)"
+  another-set : rest ≢ [] → r ≡ refusal badUse (size fs) 0 → ChangeRefused room fs rest n c r
+  -- "line number 0 or beyond the set; place: set length"
+  no-line : rest ≡ [] → (n ≡ 0) ⊎ (length fs < n) → r ≡ refusal noSuchLine (size fs) 0 → ChangeRefused room fs rest n c r
+  fixed-line : rest ≡ [] → (1 ≤ n) × (n ≤ length fs) → FixedLabel (labelAtLine fs (pred n))
+      → r ≡ refusal fixedLine (offset fs (pred n)) (labelAtLine fs (pred n)) → ChangeRefused room fs rest n c r
+  -- the first byte under 20h, by its place in the new content
+  low-byte : rest ≡ [] → (1 ≤ n) × (n ≤ length fs) → NotFixed (labelAtLine fs (pred n)) → (i : ℕ) → i < length c → getD c i 0 < leastByte → ((j : ℕ) → j < i → leastByte ≤ getD c j 0)
+      → r ≡ refusal badByte i 0 → ChangeRefused room fs rest n c r
+  bad-content : rest ≡ [] → (1 ≤ n) × (n ≤ length fs) → NotFixed (labelAtLine fs (pred n)) → NoLowByte c → fitsLabel (labelAtLine fs (pred n)) c ≡ false
+      → r ≡ refusal badContent (offset fs (pred n)) (labelAtLine fs (pred n)) → ChangeRefused room fs rest n c r
+  -- the new lines are those that `corrected-exactly` speaks of
+  no-room : rest ≡ [] → (1 ≤ n) × (n ≤ length fs) → NotFixed (labelAtLine fs (pred n)) → NoLowByte c → fitsLabel (labelAtLine fs (pred n)) c ≡ true
+      → room < size (changed fs n c) → r ≡ refusal noRoom (size (changed fs n c)) 0 → ChangeRefused room fs rest n c r
+
+pub data CorrectionRefused (b : List ℕ) (used n : ℕ) (c : List ℕ) (r : Refusal) : Type 0 where
+  -- "used length over the buffer (place: buffer length)"
+  used-over : length b < used → r ≡ refusal badUse (length b) 0 → CorrectionRefused b used n c r
+  as-the-set : used ≤ length b → FirstBreach (take used b) r → CorrectionRefused b used n c r
+  of-change : used ≤ length b → (t : SetType) (fs : List Field) (rest : List ℕ) → Keeps (take used b) t fs rest → ChangeRefused (length b) fs rest n c r → CorrectionRefused b used n c r
+
+-- each test in words, both ways
+
+nil-not : (s : List ℕ) → (isNil s ≡ false) ↔ (s ≢ [])
+nil-not [] = (λ e. absurd (true≢false e), λ n. absurd (n refl))
+nil-not (b ∷ s) = (λ e q. cons≢nil q, λ n. refl)
+
+nil-so : (s : List ℕ) → (isNil s ≡ true) ↔ (s ≡ [])
+nil-so [] = (λ e. refl, λ e. refl)
+nil-so (b ∷ s) = (λ e. absurd (true≢false (sym e)), λ q. absurd (cons≢nil q))
+
+line-not : (n m : ℕ) → (leb 1 n && leb n m ≡ false) ↔ ((n ≡ 0) ⊎ (m < n))
+line-not n m = (λ e. to (leb 1 n) refl e, from)
+  where
+    to : (t : Bool) → leb 1 n ≡ t → t && leb n m ≡ false → (n ≡ 0) ⊎ (m < n)
+    to true p e = inr (leb-false n m e)
+    to false p e = let l : n < 1 = leb-false 1 n p in inl (omega arith)
+
+    from : (n ≡ 0) ⊎ (m < n) → leb 1 n && leb n m ≡ false
+    from (inl p) = rw (lt-leb 1 n (omega arith)) refl
+    from (inr p) = and-no (leb 1 n) (lt-leb n m p)
+
+line-so : (n m : ℕ) → (leb 1 n && leb n m ≡ true) ↔ ((1 ≤ n) × (n ≤ m))
+line-so n m =
+    (λ e. (leb-true 1 n (and-left (leb 1 n) _ e), leb-true n m (and-right (leb 1 n) _ e)), λ l. and-both (le-leb 1 n (l .0)) (le-leb n m (l .1)))
+
+fixed-so : (l : ℕ) → (not (fixed l) ≡ false) ↔ FixedLabel l
+fixed-so l = (λ e. to (or-cases (eqb l 8000) _ (not-false (fixed l) e)), from)
+  where
+    later : (eqb l 8100 ≡ true) ⊎ (eqb l 9218 ≡ true) → FixedLabel l
+    later (inl p) = inr (inl (eqb-true l 8100 p))
+    later (inr p) = inr (inr (eqb-true l 9218 p))
+
+    to : (eqb l 8000 ≡ true) ⊎ (eqb l 8100 || eqb l 9218 ≡ true) → FixedLabel l
+    to (inl p) = inl (eqb-true l 8000 p)
+    to (inr p) = later (or-cases (eqb l 8100) _ p)
+
+    from : FixedLabel l → not (fixed l) ≡ false
+    from (inl q) = ap (λ (x : ℕ). not (fixed x)) q
+    from (inr (inl q)) = ap (λ (x : ℕ). not (fixed x)) q
+    from (inr (inr q)) = ap (λ (x : ℕ). not (fixed x)) q
+
+free-so : (l : ℕ) → (not (fixed l) ≡ true) ↔ NotFixed l
+free-so l = (λ e. not-fixed l (not-true (fixed l) e), λ n. ap not (fixed-not l n))
+
+-- one test after the other: what `k` makes of `a` if no fault is there, else the first fault
+module _ {A B : Type 0} (place : ℕ → Spot → ℕ) (a : A) (k : A → Reply B) (r : Refusal) where
+  abbrev told : Fault → Refusal
+  told x = refusal (x .no) (place (x .line) (x .spot)) (x .label)
+
+  abbrev Answers : List Fault → Type 0
+  Answers xs = thenTo (verdict place xs a) k ≡ refused r
+
+  data Asked (t : Bool) (x : Fault) (xs : List Fault) : Type 0 where
+    failed : t ≡ false → r ≡ told x → Asked t x xs
+    passed : t ≡ true → Answers xs → Asked t x xs
+
+  asked : (t : Bool) (x : Fault) (xs : List Fault) → Answers (ask t x ++ xs) → Asked t x xs
+  asked true x xs e = passed refl e
+  asked false x xs e = failed refl (sym (refused-same e))
+
+  ask-failed : (t : Bool) (x : Fault) (xs : List Fault) → t ≡ false → r ≡ told x → Answers (ask t x ++ xs)
+  ask-failed t x xs e f = rw e (ap refused (sym f))
+
+  ask-passed : (t : Bool) (x : Fault) (xs : List Fault) → t ≡ true → Answers xs → Answers (ask t x ++ xs)
+  ask-passed t x xs e f = rw e f
+
+  -- the first low byte of c, or none
+  data Low (m : ℕ) (c : List ℕ) (i : ℕ) (xs : List Fault) : Type 0 where
+    low : (j : ℕ) → j < length c → getD c j 0 < 32 → ((h : ℕ) → h < j → 32 ≤ getD c h 0) → r ≡ refusal badByte (place m (byte (i + j))) 0 → Low m c i xs
+    none-low : NoLowByte c → Answers xs → Low m c i xs
+
+  lows : (m i : ℕ) (c : List ℕ) (xs : List Fault) → Answers (lowBytes m i c ++ xs) → Low m c i xs
+  lows m i [] xs e = none-low (λ j l. absurd (omega arith)) e
+  lows m i (b ∷ c) xs e =
+      go (lows m (suc i) c xs) (leb 32 b) refl (subst (λ (ys : List Fault). Answers ys) (append-assoc (ask (leb 32 b) (atByte badByte m i)) (lowBytes m (suc i) c) xs) e)
+    where
+      later : 32 ≤ b → Low m c (suc i) xs → Low m (b ∷ c) i xs
+      later h (low j l y q f) = low (suc j) (omega arith) y before (f ∙ ap (λ (z : ℕ). refusal badByte (place m (byte z)) 0) (omega arith))
+        where
+          before : (z : ℕ) → z < suc j → 32 ≤ getD (b ∷ c) z 0
+          before zero p = h
+          before (suc z) p = q z (omega arith)
+      later h (none-low q f) = none-low all f
+        where
+          all : (z : ℕ) → z < length (b ∷ c) → 32 ≤ getD (b ∷ c) z 0
+          all zero p = h
+          all (suc z) p = q z (omega arith)
+
+      go : (Answers (lowBytes m (suc i) c ++ xs) → Low m c (suc i) xs) → (t : Bool) → leb 32 b ≡ t → Answers (ask t (atByte badByte m i) ++ (lowBytes m (suc i) c ++ xs))
+          → Low m (b ∷ c) i xs
+      go ih false p f =
+          low 0 (omega arith) (leb-false 32 b p) (λ h l. absurd (omega arith)) (sym (refused-same f) ∙ ap (λ (z : ℕ). refusal badByte (place m (byte z)) 0) (omega arith))
+      go ih true p f = later (leb-true 32 b p) (ih f)
+
+  low-answers : (m i : ℕ) (c : List ℕ) (xs : List Fault) (j : ℕ) → j < length c → getD c j 0 < 32 → ((h : ℕ) → h < j → 32 ≤ getD c h 0)
+      → r ≡ refusal badByte (place m (byte (i + j))) 0 → Answers (lowBytes m i c ++ xs)
+  low-answers m i [] xs j l y q f = absurd (omega arith)
+  low-answers m i (b ∷ c) xs zero l y q f = rw (lt-leb 32 b y) (ap refused (sym (f ∙ ap (λ (z : ℕ). refusal badByte (place m (byte z)) 0) (omega arith))))
+  low-answers m i (b ∷ c) xs (suc j) l y q f =
+      rw (le-leb 32 b (q 0 (omega arith)))
+      (low-answers m (suc i) c xs j (omega arith) y (λ h p. q (suc h) (omega arith)) (f ∙ ap (λ (z : ℕ). refusal badByte (place m (byte z)) 0) (omega arith)))
+
+  no-low-answers : (m i : ℕ) (c : List ℕ) (xs : List Fault) → NoLowByte c → Answers xs → Answers (lowBytes m i c ++ xs)
+  no-low-answers m i c xs n f = rw (lows-none m i c (every-of (λ b. 32 ≤ b) c 0 n)) f
+
+  -- the last test of all
+  asked-last : (t : Bool) (x : Fault) → Answers (ask t x) → Asked t x []
+  asked-last true x e = passed refl e
+  asked-last false x e = failed refl (sym (refused-same e))
+
+  last-failed : (t : Bool) (x : Fault) → t ≡ false → r ≡ told x → Answers (ask t x)
+  last-failed t x e f = rw e (ap refused (sym f))
+
+  last-passed : (t : Bool) (x : Fault) → t ≡ true → Answers [] → Answers (ask t x)
+  last-passed t x e f = rw e f
+
+module _ (room n : ℕ) (c : List ℕ) (fs : List Field) (rest : List ℕ) (r : Refusal) (st : Standing fs) where
+  abbrev label : ℕ
+  label = labelAtLine fs (pred n)
+
+  abbrev new : List Field
+  new = changed fs n c
+
+  abbrev put : List Field → Reply (List ℕ)
+  put gs = setWithRoom gs room
+
+  -- the tests that are left after 18, 19, 20 and 6
+  abbrev content-test : Fault
+  content-test = atLine badContent (pred n) label
+
+  abbrev from6 : List Fault
+  from6 = lowBytes (pred n) 0 c ++ ask (fitsLabel label c) content-test
+
+  abbrev from20 : List Fault
+  from20 = ask (not (fixed label)) (atLine fixedLine (pred n) label) ++ from6
+
+  abbrev from19 : List Fault
+  from19 = ask (leb 1 n && leb n (length fs)) (atLine noSuchLine (length fs) 0) ++ from20
+
+  whole-set : offset fs (length fs) ≡ size fs
+  whole-set = ap size (take-all (length fs) fs (omega arith))
+
+  -- "over 99,999" never decides
+  total : (1 ≤ n) × (n ≤ length fs) → NotFixed label → NoLowByte c → fitsLabel label c ≡ true → size new ≤ maxSetBytes
+  unfolding fits
+  total w f h q =
+      let ch : Change fs n c = record { least = w .0; most = w .1; free = fixed-not label f; high = every-of (λ b. 32 ≤ b) c 0 h; right = q } in
+      let s = still-standing fs n c st ch in
+      ruled-total new (ruled new (s .right) .0) (s .few)
+
+  room-lacks-so : size new ≤ maxSetBytes → put new ≡ refused r → (room < size new) × (r ≡ refusal noRoom (size new) 0)
+  room-lacks-so m e = go (leb (size new) room) refl (subst (λ (t : Bool). withRoom (leb (size new) room && t) (size new) (render new []) ≡ refused r) (le-leb (size new) maxSetBytes m) e)
+    where
+      go : (t : Bool) → leb (size new) room ≡ t → withRoom (t && true) (size new) (render new []) ≡ refused r → (room < size new) × (r ≡ refusal noRoom (size new) 0)
+      go true p f = refused-done (sym f)
+      go false p f = (leb-false (size new) room p, sym (refused-same f))
+
+  so-room-lacks : room < size new → r ≡ refusal noRoom (size new) 0 → put new ≡ refused r
+  so-room-lacks l f = rw (lt-leb (size new) room l) (ap refused (sym f))
+
+  change-refused : correctLines room n c (parsed fs rest) ≡ refused r → ChangeRefused room fs rest n c r
+  unfolding changeFaults fits
+  change-refused e = by18 (asked (inChange fs) new put r (isNil rest) (atLine badUse (length fs) 0) from19 e)
+    where
+      by14 : rest ≡ [] → (1 ≤ n) × (n ≤ length fs) → NotFixed label → NoLowByte c → Asked (inChange fs) new put r (fitsLabel label c) content-test [] → ChangeRefused room fs rest n c r
+      by14 a w f h (failed p q) = bad-content a w f h p q
+      by14 a w f h (passed p q) = let z = room-lacks-so (total w f h p) q in no-room a w f h p (z .0) (z .1)
+
+      by6 : rest ≡ [] → (1 ≤ n) × (n ≤ length fs) → NotFixed label → Low (inChange fs) new put r (pred n) c 0 (ask (fitsLabel label c) content-test) → ChangeRefused room fs rest n c r
+      by6 a w f (low j l y h q) = low-byte a w f j l y h (q ∙ ap (λ (z : ℕ). refusal badByte z 0) (omega arith))
+      by6 a w f (none-low h q) = by14 a w f h (asked-last (inChange fs) new put r (fitsLabel label c) content-test q)
+
+      by20 : rest ≡ [] → (1 ≤ n) × (n ≤ length fs) → Asked (inChange fs) new put r (not (fixed label)) (atLine fixedLine (pred n) label) from6 → ChangeRefused room fs rest n c r
+      by20 a w (failed p q) = fixed-line a w (fixed-so label .0 p) q
+      by20 a w (passed p q) = by6 a w (free-so label .0 p) (lows (inChange fs) new put r (pred n) 0 c (ask (fitsLabel label c) content-test) q)
+
+      by19 : rest ≡ [] → Asked (inChange fs) new put r (leb 1 n && leb n (length fs)) (atLine noSuchLine (length fs) 0) from20 → ChangeRefused room fs rest n c r
+      by19 a (failed p q) = no-line a (line-not n (length fs) .0 p) (q ∙ ap (λ (z : ℕ). refusal noSuchLine z 0) whole-set)
+      by19 a (passed p q) = by20 a (line-so n (length fs) .0 p) (asked (inChange fs) new put r (not (fixed label)) (atLine fixedLine (pred n) label) from6 q)
+
+      by18 : Asked (inChange fs) new put r (isNil rest) (atLine badUse (length fs) 0) from19 → ChangeRefused room fs rest n c r
+      by18 (failed p q) = another-set (nil-not rest .0 p) (q ∙ ap (λ (z : ℕ). refusal badUse z 0) whole-set)
+      by18 (passed p q) = by19 (nil-so rest .0 p) (asked (inChange fs) new put r (leb 1 n && leb n (length fs)) (atLine noSuchLine (length fs) 0) from20 q)
+
+  refused-change : ChangeRefused room fs rest n c r → correctLines room n c (parsed fs rest) ≡ refused r
+  unfolding changeFaults fits
+  refused-change x = go x
+    where
+      after18 : rest ≡ [] → Answers (inChange fs) new put r from19 → correctLines room n c (parsed fs rest) ≡ refused r
+      after18 a = ask-passed (inChange fs) new put r (isNil rest) (atLine badUse (length fs) 0) from19 (nil-so rest .1 a)
+
+      after19 : rest ≡ [] → (1 ≤ n) × (n ≤ length fs) → Answers (inChange fs) new put r from20 → correctLines room n c (parsed fs rest) ≡ refused r
+      after19 a w q =
+          after18 a (ask-passed (inChange fs) new put r (leb 1 n && leb n (length fs)) (atLine noSuchLine (length fs) 0) from20 (line-so n (length fs) .1 w) q)
+
+      after20 : rest ≡ [] → (1 ≤ n) × (n ≤ length fs) → NotFixed label → Answers (inChange fs) new put r from6 → correctLines room n c (parsed fs rest) ≡ refused r
+      after20 a w f q = after19 a w (ask-passed (inChange fs) new put r (not (fixed label)) (atLine fixedLine (pred n) label) from6 (free-so label .1 f) q)
+
+      after6 : rest ≡ [] → (1 ≤ n) × (n ≤ length fs) → NotFixed label → NoLowByte c → Answers (inChange fs) new put r (ask (fitsLabel label c) content-test)
+          → correctLines room n c (parsed fs rest) ≡ refused r
+      after6 a w f h q = after20 a w f (no-low-answers (inChange fs) new put r (pred n) 0 c (ask (fitsLabel label c) content-test) h q)
+
+      go : ChangeRefused room fs rest n c r → correctLines room n c (parsed fs rest) ≡ refused r
+      go (another-set a q) =
+          ask-failed (inChange fs) new put r (isNil rest) (atLine badUse (length fs) 0) from19 (nil-not rest .1 a) (q ∙ ap (λ (z : ℕ). refusal badUse z 0) (sym whole-set))
+      go (no-line a w q) =
+          after18 a
+          (ask-failed (inChange fs) new put r (leb 1 n && leb n (length fs)) (atLine noSuchLine (length fs) 0) from20 (line-not n (length fs) .1 w)
+          (q ∙ ap (λ (z : ℕ). refusal noSuchLine z 0) (sym whole-set)))
+      go (fixed-line a w f q) = after19 a w (ask-failed (inChange fs) new put r (not (fixed label)) (atLine fixedLine (pred n) label) from6 (fixed-so label .1 f) q)
+      go (low-byte a w f i l y h q) =
+          after20 a w f
+          (low-answers (inChange fs) new put r (pred n) 0 c (ask (fitsLabel label c) content-test) i l y h (q ∙ ap (λ (z : ℕ). refusal badByte z 0) (omega arith)))
+      go (bad-content a w f h p q) = after6 a w f h (last-failed (inChange fs) new put r (fitsLabel label c) content-test p q)
+      go (no-room a w f h p l q) = after6 a w f h (last-passed (inChange fs) new put r (fitsLabel label c) content-test p (so-room-lacks l q))
+
+read-refused : (s : List ℕ) (r : Refusal) → judge s ≡ Refused r → read s ≡ refused r
+unfolding judge
+read-refused s r e = go (read s) refl e
+  where
+    go : (y : Reply Parsed) → read s ≡ y → judged y ≡ Refused r → read s ≡ refused r
+    go (refused y) q f = q ∙ ap refused (judged-same f)
+    go (done d) q f = absurd (refused-accepted (sym f))
+
+-- a correction is refused with number, place and label r exactly when they are those of the first reason in the paper's order: "18 (used length), the set's own refusals, .."
+pub correction-refused-with : (b : List ℕ) (used n : ℕ) (c : List ℕ) (r : Refusal) → (correct b used n c ≡ refused r) ↔ CorrectionRefused b used n c r
+unfolding correct judge
+correction-refused-with b used n c r = (λ e. within (leb used (length b)) refl e, from)
+  where
+    of-set : used ≤ length b → (y : Reply Parsed) → read (take used b) ≡ y → thenTo y (λ d. correctLines (length b) n c d) ≡ refused r → CorrectionRefused b used n c r
+    of-set l (refused y) q f = as-the-set l (refused-exactly-with (take used b) r .0 (ap judged q ∙ ap Refused (refused-same f)))
+    of-set l (done d) q f =
+        let k = accepted-keeps (take used b) d q in
+        of-change l (k .0) (d .fields) (d .rest) (k .1)
+        (change-refused (length b) n c (d .fields) (d .rest) r (keeps-standing (take used b) (k .0) (d .fields) (d .rest) (k .1)) f)
+
+    within : (t : Bool) → leb used (length b) ≡ t
+        → cond t (thenTo (read (take used b)) (λ d. correctLines (length b) n c d)) (refused (refusal badUse (length b) 0)) ≡ refused r → CorrectionRefused b used n c r
+    within true p f = of-set (leb-true used (length b) p) (read (take used b)) refl f
+    within false p f = used-over (leb-false used (length b) p) (sym (refused-same f))
+
+    from : CorrectionRefused b used n c r → correct b used n c ≡ refused r
+    from (used-over l f) = rw (lt-leb used (length b) l) (ap refused (sym f))
+    from (as-the-set l f) = rw (le-leb used (length b) l, read-refused (take used b) r (refused-exactly-with (take used b) r .1 f)) refl
+    from (of-change l t fs rest k x) =
+        rw (le-leb used (length b) l, keeps-accepted (take used b) t fs rest k)
+        (refused-change (length b) n c fs rest r (keeps-standing (take used b) t fs rest k) x)
