@@ -1,5 +1,5 @@
--- Beside the exact theorems of crate `keeps`, which say when something is made and what: the list is exact too; and with what number, place and label index, list and correction are
--- refused. Not stated so are the refusals of the writer and of a view: of these the contracts and the tables of Decided in crate `meaning` speak alone.
+-- Beside the exact theorems of crate `keeps`, which say when something is made and what: with what number, place and label index, list and correction are refused.
+-- Not stated so are the refusals of the writer and of a view: of these the contracts and the tables of Decided in crate `meaning` speak alone.
 use mathlib.Core.Path.{_≡_, refl, sym, ap, _∙_, subst}
 use mathlib.Core.Bool.{Bool, true, false, cond, not, _&&_, _||_, true≢false}
 use mathlib.Core.List.{List, [], _∷_, _++_, cons≢nil, append-assoc}
@@ -12,18 +12,17 @@ use lib.Seq.{take-all}
 use borrow.Author.Tests.{leb-true, leb-false, le-leb, lt-leb, eqb-true}
 use Rattle.meaning.specs.declared.Refusal.{Refusal}
 use Rattle.meaning.specs.declared.Shape.{Shape}
-use Rattle.meaning.specs.declared.SetType.{SetType}
 use Rattle.meaning.specs.declared.Judged.{Judged}
 use Rattle.meaning.specs.declared.Judged.the-variants.{Accepted, Refused}
 use Rattle.meaning.specs.Limits.{maxSetBytes}
 use Rattle.meaning.specs.Field.{Field, labelAtLine, isNil}
 use Rattle.meaning.specs.Refusals.{Spot, byte, Fault, atLine, atByte, ask, Reply, refused, done, refusal, thenTo, verdict, withRoom}
 use Rattle.meaning.specs.Refusals.{badByte, badContent, badUse, noSuchLine, fixedLine, noRoom}
-use Rattle.meaning.specs.Pieces.{Parsed, parsed, putAll}
-use Rattle.meaning.specs.Lines.{leastByte, size, offset, render, lowBytes}
+use Rattle.meaning.specs.Pieces.{Parsed, parsed}
+use Rattle.meaning.specs.Lines.{size, offset, render, lowBytes}
 use Rattle.meaning.specs.FieldTable.{fitsLabel}
 use Rattle.meaning.specs.Rules.{fits}
-use Rattle.meaning.specs.Entries.{entryThen, entryForm, listSize}
+use Rattle.meaning.specs.Entries.{listSize}
 use Rattle.meaning.specs.Reading.{read, shape, judged, judge}
 use Rattle.meaning.specs.Index.{indexOf, index}
 use Rattle.meaning.specs.Lists.{withoutSum, list, setWithRoom}
@@ -37,63 +36,14 @@ use Rattle.meaning.proofs.SetLaws.{Standing}
 use Rattle.meaning.proofs.SizeLaws.{ruled-total}
 use Rattle.meaning.proofs.CorrectionLaws.{Change, still-standing}
 use Rattle.meaning.proofs.Demands.{judge-read, read-judge}
-use Rattle.keeps.specs.Keeps.{Keeps, SetAtFront}
-use Rattle.keeps.specs.Makes.{NoLowByte, entriesOf}
+use Rattle.keeps.specs.Makes.{NoLowByte, NotFixed}
 use Rattle.keeps.proofs.Exact.{every-of, accepted-keeps, keeps-standing, keeps-accepted, accepted-exactly}
 use Rattle.keeps.proofs.TableFacts.{or-cases}
-use Rattle.keeps.proofs.CorrectionExact.{NotFixed, not-fixed, fixed-not}
-use Rattle.breaches.specs.Breaches.{FirstBreach}
+use Rattle.keeps.proofs.CorrectionExact.{not-fixed, fixed-not, changed-new, new-changed}
+use Rattle.keeps.proofs.ListExact.{list-listed, listed-list}
+use Rattle.breaches.specs.CallBreaches.{IndexRefused, ListRefused, as-the-set, no-room, FixedLabel, ChangeRefused, another-set, no-line, fixed-line, low-byte, bad-content}
+use Rattle.breaches.specs.CallBreaches.{CorrectionRefused, used-over, of-change}
 use Rattle.breaches.proofs.FirstOnly.{refused-exactly-with}
-
--- ---- the list
-
--- "8100 has no entry.": the set at the front of s has the list l, for which there is room
-pub record ListedAs (s : List ℕ) (room : ℕ) (l : List ℕ) : Type 0 where
-  pub set-type : SetType
-  pub first-line : Field
-  pub sum-line : Field
-  pub others : List Field
-  pub rest : List ℕ
-  pub keeps : Keeps s set-type (first-line ∷ sum-line ∷ others) rest
-  pub list-is : l ≡ entriesOf (first-line ∷ others)
-  -- 22
-  pub has-room : length l ≤ room
-
-entries-put : (es : List Field) → putAll entryForm es [] ≡ entriesOf es
-entries-put [] = refl
-entries-put (e ∷ es) = ap (entryThen e) (entries-put es)
-
-listed-lines : (s : List ℕ) (room : ℕ) (l : List ℕ) (t : SetType) (fs : List Field) (rest : List ℕ) → Keeps s t fs rest → l ≡ listOf fs → listSize (withoutSum fs) ≤ room → ListedAs s room l
-listed-lines s room l t [] rest k m h = let z : _≡_ {A = ℕ} 0 8000 = k .rules .starts .0 in absurd (omega arith)
-listed-lines s room l t (f ∷ []) rest k m h = let z : _≡_ {A = ℕ} 0 8100 = k .rules .second-8100 in absurd (omega arith)
-listed-lines s room l t (f ∷ g ∷ fs) rest k m h = record {
-  set-type = t;
-  first-line = f;
-  sum-line = g;
-  others = fs;
-  rest = rest;
-  keeps = k;
-  list-is = m ∙ entries-put (f ∷ fs);
-  has-room = omega (arith, ap length m, length-entries (f ∷ fs));
-}
-
-list-listed : (s : List ℕ) (room : ℕ) (l : List ℕ) → list s room ≡ done l → ListedAs s room l
-list-listed s room l e =
-    let m = list-only s room l e in
-    let k = accepted-keeps s (m .what) (m .was-read) in
-    listed-lines s room l (k .0) (m .what .fields) (m .what .rest) (k .1) (m .made) (m .has-room)
-
-listed-list : (s : List ℕ) (room : ℕ) (l : List ℕ) → ListedAs s room l → list s room ≡ done l
-listed-list s room l x =
-    let fs : List Field = x .first-line ∷ x .sum-line ∷ x .others in
-    let m : l ≡ listOf fs = x .list-is ∙ sym (entries-put (x .first-line ∷ x .others)) in
-    list-makes s (parsed fs (x .rest)) room (keeps-accepted s (x .set-type) fs (x .rest) (x .keeps))
-    (omega (arith, x .has-room, ap length m, length-entries (x .first-line ∷ x .others)))
-    ∙ ap done (sym m)
-
--- a list is made, of these bytes, exactly when the set keeps every rule, they are its lines but the second, and there is room
-pub listed-exactly : (s : List ℕ) (room : ℕ) (l : List ℕ) → (list s room ≡ done l) ↔ ListedAs s room l
-listed-exactly s room l = (list-listed s room l, listed-list s room l)
 
 -- ---- index and list: "Index and list refuse as the set does, then by 22", with the need as its place
 
@@ -137,10 +87,6 @@ module _ {A : Type 0} (need : Parsed → ℕ) (made : Parsed → A) (s : List �
       go (done d) q f = absurd (refused-accepted (sym f))
   lacks-reply (too-small d q l e) = rw (q, lt-leb (need d) room l) (ap refused (sym e))
 
-pub data IndexRefused (s : List ℕ) (room : ℕ) (r : Refusal) : Type 0 where
-  as-the-set : FirstBreach s r → IndexRefused s room r
-  no-room : (x : Shape) → SetAtFront s x → room < x .lines → r ≡ refusal noRoom (x .lines) 0 → IndexRefused s room r
-
 pub index-refused-with : (s : List ℕ) (room : ℕ) (r : Refusal) → (index s room ≡ refused r) ↔ IndexRefused s room r
 unfolding index
 index-refused-with s room r = (
@@ -158,10 +104,6 @@ index-refused-with s room r = (
         let d = judge-read s x (accepted-exactly s x .1 f) in
         let n : x .lines ≡ length (d .0 .fields) = ap (λ (y : Shape). y .lines) (d .2) in
         too-small (d .0) (d .1) (subst (λ (k : ℕ). room < k) n l) (e ∙ ap (λ (k : ℕ). refusal noRoom k 0) n)
-
-pub data ListRefused (s : List ℕ) (room : ℕ) (r : Refusal) : Type 0 where
-  as-the-set : FirstBreach s r → ListRefused s room r
-  no-room : (l : List ℕ) → ListedAs s (length l) l → room < length l → r ≡ refusal noRoom (length l) 0 → ListRefused s room r
 
 abbrev listNeed : Parsed → ℕ
 listNeed d = listSize (withoutSum (d .fields))
@@ -185,34 +127,6 @@ list-refused-with s room r = (λ e. to (reply-lacks listNeed (λ d. listOf (d .f
         too-small (o .what) (o .was-read) (subst (λ (n : ℕ). room < n) m l) (e ∙ ap (λ (n : ℕ). refusal noRoom n 0) m)
 
 -- ---- corrections
-
--- "line is 8000, 8100 or 9218"
-abbrev pub FixedLabel : ℕ → Type 0
-FixedLabel l = (l ≡ 8000) ⊎ ((l ≡ 8100) ⊎ (l ≡ 9218))
-
--- the lines fs are a set that keeps the rules, and rest follows it; line number n of it is to be given content c, in a buffer of this many bytes. What is told, each if nothing before
--- it is wrong: "18 (second set), 19, 20, 6, 14, 22"
-pub data ChangeRefused (room : ℕ) (fs : List Field) (rest : List ℕ) (n : ℕ) (c : List ℕ) (r : Refusal) : Type 0 where
-  -- "another set follows (place: first set's length)"
-  another-set : rest ≢ [] → r ≡ refusal badUse (size fs) 0 → ChangeRefused room fs rest n c r
-  -- "line number 0 or beyond the set; place: set length"
-  no-line : rest ≡ [] → (n ≡ 0) ⊎ (length fs < n) → r ≡ refusal noSuchLine (size fs) 0 → ChangeRefused room fs rest n c r
-  fixed-line : rest ≡ [] → (1 ≤ n) × (n ≤ length fs) → FixedLabel (labelAtLine fs (pred n))
-      → r ≡ refusal fixedLine (offset fs (pred n)) (labelAtLine fs (pred n)) → ChangeRefused room fs rest n c r
-  -- the first byte under 20h, by its place in the new content
-  low-byte : rest ≡ [] → (1 ≤ n) × (n ≤ length fs) → NotFixed (labelAtLine fs (pred n)) → (i : ℕ) → i < length c → getD c i 0 < leastByte → ((j : ℕ) → j < i → leastByte ≤ getD c j 0)
-      → r ≡ refusal badByte i 0 → ChangeRefused room fs rest n c r
-  bad-content : rest ≡ [] → (1 ≤ n) × (n ≤ length fs) → NotFixed (labelAtLine fs (pred n)) → NoLowByte c → fitsLabel (labelAtLine fs (pred n)) c ≡ false
-      → r ≡ refusal badContent (offset fs (pred n)) (labelAtLine fs (pred n)) → ChangeRefused room fs rest n c r
-  -- the new lines are those that `corrected-exactly` speaks of
-  no-room : rest ≡ [] → (1 ≤ n) × (n ≤ length fs) → NotFixed (labelAtLine fs (pred n)) → NoLowByte c → fitsLabel (labelAtLine fs (pred n)) c ≡ true
-      → room < size (changed fs n c) → r ≡ refusal noRoom (size (changed fs n c)) 0 → ChangeRefused room fs rest n c r
-
-pub data CorrectionRefused (b : List ℕ) (used n : ℕ) (c : List ℕ) (r : Refusal) : Type 0 where
-  -- "used length over the buffer (place: buffer length)"
-  used-over : length b < used → r ≡ refusal badUse (length b) 0 → CorrectionRefused b used n c r
-  as-the-set : used ≤ length b → FirstBreach (take used b) r → CorrectionRefused b used n c r
-  of-change : used ≤ length b → (t : SetType) (fs : List Field) (rest : List ℕ) → Keeps (take used b) t fs rest → ChangeRefused (length b) fs rest n c r → CorrectionRefused b used n c r
 
 -- each test in words, both ways
 
@@ -330,7 +244,7 @@ module _ {A B : Type 0} (place : ℕ → Spot → ℕ) (a : A) (k : A → Reply 
   last-passed : (t : Bool) (x : Fault) → t ≡ true → Answers [] → Answers (ask t x)
   last-passed t x e f = rw e f
 
-module _ (room n : ℕ) (c : List ℕ) (fs : List Field) (rest : List ℕ) (r : Refusal) (st : Standing fs) where
+module _ (room n : ℕ) (c : List ℕ) (fs : List Field) (rest : List ℕ) (r : Refusal) (st : Standing fs) (first : labelAtLine fs 0 ≡ 8000) (second : labelAtLine fs 1 ≡ 8100) where
   abbrev label : ℕ
   label = labelAtLine fs (pred n)
 
@@ -380,7 +294,8 @@ module _ (room n : ℕ) (c : List ℕ) (fs : List Field) (rest : List ℕ) (r : 
     where
       by14 : rest ≡ [] → (1 ≤ n) × (n ≤ length fs) → NotFixed label → NoLowByte c → Asked (inChange fs) new put r (fitsLabel label c) content-test [] → ChangeRefused room fs rest n c r
       by14 a w f h (failed p q) = bad-content a w f h p q
-      by14 a w f h (passed p q) = let z = room-lacks-so (total w f h p) q in no-room a w f h p (z .0) (z .1)
+      by14 a w f h (passed p q) =
+          let z = room-lacks-so (total w f h p) q in no-room a w f h p new (changed-new fs n c first second w f) (z .0) (z .1)
 
       by6 : rest ≡ [] → (1 ≤ n) × (n ≤ length fs) → NotFixed label → Low (inChange fs) new put r (pred n) c 0 (ask (fitsLabel label c) content-test) → ChangeRefused room fs rest n c r
       by6 a w f (low j l y h q) = low-byte a w f j l y h (q ∙ ap (λ (z : ℕ). refusal badByte z 0) (omega arith))
@@ -428,7 +343,11 @@ module _ (room n : ℕ) (c : List ℕ) (fs : List Field) (rest : List ℕ) (r : 
           after20 a w f
           (low-answers (inChange fs) new put r (pred n) 0 c (ask (fitsLabel label c) content-test) i l y h (q ∙ ap (λ (z : ℕ). refusal badByte z 0) (omega arith)))
       go (bad-content a w f h p q) = after6 a w f h (last-failed (inChange fs) new put r (fitsLabel label c) content-test p q)
-      go (no-room a w f h p l q) = after6 a w f h (last-passed (inChange fs) new put r (fitsLabel label c) content-test p (so-room-lacks l q))
+      go (no-room a w f h p gs m l q) =
+          let e : gs ≡ new = new-changed fs n c gs first second w f m in
+          after6 a w f h
+          (last-passed (inChange fs) new put r (fitsLabel label c) content-test p
+          (so-room-lacks (subst (λ (x : List Field). room < size x) e l) (q ∙ ap (λ (x : List Field). refusal noRoom (size x) 0) e)))
 
 read-refused : (s : List ℕ) (r : Refusal) → judge s ≡ Refused r → read s ≡ refused r
 unfolding judge
@@ -448,7 +367,7 @@ correction-refused-with b used n c r = (λ e. within (leb used (length b)) refl 
     of-set l (done d) q f =
         let k = accepted-keeps (take used b) d q in
         of-change l (k .0) (d .fields) (d .rest) (k .1)
-        (change-refused (length b) n c (d .fields) (d .rest) r (keeps-standing (take used b) (k .0) (d .fields) (d .rest) (k .1)) f)
+        (change-refused (length b) n c (d .fields) (d .rest) r (keeps-standing (take used b) (k .0) (d .fields) (d .rest) (k .1)) (k .1 .rules .starts .0) (k .1 .rules .second-8100) f)
 
     within : (t : Bool) → leb used (length b) ≡ t
         → cond t (thenTo (read (take used b)) (λ d. correctLines (length b) n c d)) (refused (refusal badUse (length b) 0)) ≡ refused r → CorrectionRefused b used n c r
@@ -460,4 +379,4 @@ correction-refused-with b used n c r = (λ e. within (leb used (length b)) refl 
     from (as-the-set l f) = rw (le-leb used (length b) l, read-refused (take used b) r (refused-exactly-with (take used b) r .1 f)) refl
     from (of-change l t fs rest k x) =
         rw (le-leb used (length b) l, keeps-accepted (take used b) t fs rest k)
-        (refused-change (length b) n c fs rest r (keeps-standing (take used b) t fs rest k) x)
+        (refused-change (length b) n c fs rest r (keeps-standing (take used b) t fs rest k) (k .rules .starts .0) (k .rules .second-8100) x)

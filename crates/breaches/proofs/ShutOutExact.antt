@@ -27,16 +27,18 @@ use Rattle.meaning.proofs.FaultLaws.{refused-done, done-same}
 use Rattle.meaning.proofs.EntryLaws.{Byte}
 use Rattle.meaning.proofs.WriterLaws.{listOf}
 use Rattle.keeps.specs.Keeps.{SetAtFront}
-use Rattle.keeps.specs.Makes.{Indexes, Writes, Corrects, Views}
+use Rattle.keeps.specs.Makes.{Indexes, Lists, Writes, Corrects, Views}
 use Rattle.keeps.proofs.Exact.{accepted-exactly, refused-exactly}
 use Rattle.keeps.proofs.WriterExact.{written-exactly}
 use Rattle.keeps.proofs.CorrectionExact.{corrected-exactly}
 use Rattle.keeps.proofs.IndexExact.{indexed-exactly}
+use Rattle.keeps.proofs.ListExact.{listed-exactly}
 use Rattle.keeps.proofs.ViewExact.{viewed-exactly}
 use Rattle.breaches.specs.Breaches.{Breach, FirstBreach}
+use Rattle.breaches.specs.CallBreaches.{IndexRefused, ListRefused, CorrectionRefused, used-over}
 use Rattle.breaches.proofs.FirstBreach.{refused-for-a-breach}
 use Rattle.breaches.proofs.FirstOnly.{refused-exactly-with}
-use Rattle.breaches.proofs.CallExact.{ListedAs, listed-exactly, refused-same, IndexRefused, index-refused-with, ListRefused, list-refused-with, CorrectionRefused, correction-refused-with}
+use Rattle.breaches.proofs.CallExact.{refused-same, index-refused-with, list-refused-with, correction-refused-with}
 
 -- ---- the inputs
 
@@ -344,7 +346,7 @@ viewed-exactly-met-by-one-number s h n v b =
 
 -- listed-exactly: nothing given
 abbrev SaysListedExactly : (List ℕ → ℕ → Reply (List ℕ)) → Type 0
-SaysListedExactly list = (s : List ℕ) (room : ℕ) (l : List ℕ) → (list s room ≡ done l) ↔ ListedAs s room l
+SaysListedExactly list = (s : List ℕ) (room : ℕ) (l : List ℕ) → (list s room ≡ done l) ↔ Lists s room l
 
 listed-exactly-says : SaysListedExactly list
 listed-exactly-says = listed-exactly

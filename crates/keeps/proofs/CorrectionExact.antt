@@ -18,14 +18,11 @@ use Rattle.meaning.specs.Rules.{fits}
 use Rattle.meaning.specs.Corrections.{fixed, changed, correct}
 use Rattle.meaning.proofs.Bools.{every-at}
 use Rattle.meaning.proofs.CorrectionLaws.{Change, Holds, Corrected, correct-makes, correct-only}
-use Rattle.keeps.specs.Makes.{NewLines, Corrects}
+use Rattle.keeps.specs.Makes.{NotFixed, NewLines, Corrects}
 use Rattle.keeps.proofs.TableFacts.{no-absurd}
 use Rattle.keeps.proofs.Exact.{every-of, accepted-keeps, keeps-accepted}
 
 -- ---- fixed lines
-
-abbrev pub NotFixed : ℕ → Type 0
-NotFixed l = (l ≢ 8000) × (l ≢ 8100) × (l ≢ 9218)
 
 pub not-fixed : (l : ℕ) → fixed l ≡ false → NotFixed l
 not-fixed l e = (λ q. no-absurd (ap fixed q) e, λ q. no-absurd (ap fixed q) e, λ q. no-absurd (ap fixed q) e)
@@ -101,6 +98,15 @@ new-one fs n c new (third f g gs m l e q) x =
     one-new f g gs m c l new (subst (λ (k : ℕ). NewLines (f ∷ g ∷ gs) k c new) q (subst (λ (y : List Field). NewLines y n c new) e x))
     ∙ sym (ap (λ (y : List Field). changed y n c) e ∙ ap (λ (k : ℕ). changed (f ∷ g ∷ gs) k c) q)
 
+-- in a set that starts with 8000 and 8100 the new lines are those of the definition, and no others
+pub changed-new : (fs : List Field) (n : ℕ) (c : List ℕ) → labelAtLine fs 0 ≡ 8000 → labelAtLine fs 1 ≡ 8100 → (1 ≤ n) × (n ≤ length fs) → NotFixed (labelAtLine fs (pred n))
+    → NewLines fs n c (changed fs n c)
+changed-new fs n c p q l x = new-of fs n c (behind-second fs n (l .0) (l .1) p q x)
+
+pub new-changed : (fs : List Field) (n : ℕ) (c : List ℕ) (new : List Field) → labelAtLine fs 0 ≡ 8000 → labelAtLine fs 1 ≡ 8100 → (1 ≤ n) × (n ≤ length fs)
+    → NotFixed (labelAtLine fs (pred n)) → NewLines fs n c new → new ≡ changed fs n c
+new-changed fs n c new p q l x = new-one fs n c new (behind-second fs n (l .0) (l .1) p q x)
+
 -- ---- both ways
 
 made-corrects : (b : List ℕ) (used n : ℕ) (c out : List ℕ) → Corrected b used n c out → Corrects b used n c out
@@ -120,7 +126,7 @@ made-corrects b used n c out m =
       not-fixed = x;
       no-low-byte = λ i l. every-at (λ y. 32 ≤ y) c i 0 l (ch .high);
       content-fits = ch .right;
-      new-lines = new-of fs n c (behind-second fs n (ch .least) (ch .most) (k .1 .rules .starts .0) (k .1 .rules .second-8100) x);
+      new-lines = changed-new fs n c (k .1 .rules .starts .0) (k .1 .rules .second-8100) (ch .least, ch .most) x;
       has-room = m .room;
       out-is = m .made;
     }
@@ -138,7 +144,7 @@ corrects-made b used n c out m =
       right = m .content-fits;
     } in
     let e : m .new ≡ changed fs n c =
-    new-one fs n c (m .new) (behind-second fs n (ch .least) (ch .most) (m .keeps .rules .starts .0) (m .keeps .rules .second-8100) (m .not-fixed)) (m .new-lines) in
+    new-changed fs n c (m .new) (m .keeps .rules .starts .0) (m .keeps .rules .second-8100) (m .line-there) (m .not-fixed) (m .new-lines) in
     correct-makes b used n c fs held ch (subst (λ (x : List Field). size x ≤ length b) e (m .has-room))
     ∙ ap done (sym (m .out-is ∙ ap (λ (x : List Field). render x []) e))
 

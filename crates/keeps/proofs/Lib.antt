@@ -1,4 +1,4 @@
--- Facts on the tables and on the state from line to line, then that judging, writing and correcting are exact.
+-- Facts on the tables and on the state from line to line, then that judging, writing, correcting, index, list and view are exact.
 pub mod TableFacts
 pub mod StateLaws
 pub mod LabelLaws
@@ -8,4 +8,5 @@ pub mod Exact
 pub mod WriterExact
 pub mod CorrectionExact
 pub mod IndexExact
+pub mod ListExact
 pub mod ViewExact

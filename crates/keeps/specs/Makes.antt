@@ -1,5 +1,5 @@
--- What is made of a set: its index, and what a view of it shows; which lists are written and which corrections are made, and what is made of them: the reasons of the paper, each by itself.
--- Stated by the rules of Keeps. proofs/IndexExact, proofs/ViewExact, proofs/WriterExact and proofs/CorrectionExact: exactly these are made.
+-- What is made of a set: its index, its list, and what a view of it shows; which lists are written and which corrections are made, and what is made of them: the reasons of the paper,
+-- each by itself. Stated by the rules of Keeps. proofs/IndexExact, ListExact, WriterExact, CorrectionExact and ViewExact: exactly these are made.
 use mathlib.Core.Path.{_≡_}
 use mathlib.Core.Bool.{true}
 use mathlib.Core.List.{List, [], _∷_}
@@ -21,6 +21,10 @@ use Rattle.keeps.specs.Keeps.{IsOdd, InGroup, KeepsRules, Keeps}
 -- "Content bytes are 20h to FFh."
 abbrev pub NoLowByte : List ℕ → Type 0
 NoLowByte c = (i : ℕ) → i < length c → leastByte ≤ getD c i 0
+
+-- 20, the other way round: "line is 8000, 8100 or 9218"
+abbrev pub NotFixed : ℕ → Type 0
+NotFixed l = (l ≢ 8000) × (l ≢ 8100) × (l ≢ 9218)
 
 -- "8100 has five digits, the sum of all line lengths of the set, its own included."
 abbrev pub sumLineOf : List Field → Field
@@ -51,12 +55,26 @@ pub record Indexes (s : List ℕ) (room : ℕ) (es : List Entry) : Type 0 where
   pub as-many : length es ≡ length lines
   pub each : (k : ℕ) (none : Entry) → k < length lines → EntryOf set-type lines k (getD es k none)
 
--- ---- the writer
+-- ---- the list
 
 -- "Entry after entry, nothing between: content length in two bytes, kind in two bytes (the label), both little-endian, then the content."
 abbrev pub entriesOf : List Field → List ℕ
 entriesOf [] = []
 entriesOf (e ∷ es) = entryThen e (entriesOf es)
+
+-- "8100 has no entry.": the set at the front of s has the list l, for which there is room
+pub record Lists (s : List ℕ) (room : ℕ) (l : List ℕ) : Type 0 where
+  pub set-type : SetType
+  pub first-line : Field
+  pub sum-line : Field
+  pub others : List Field
+  pub rest : List ℕ
+  pub keeps : Keeps s set-type (first-line ∷ sum-line ∷ others) rest
+  pub list-is : l ≡ entriesOf (first-line ∷ others)
+  -- 22
+  pub has-room : length l ≤ room
+
+-- ---- the writer
 
 -- an entry that is not refused by 21 or 6; its length has two bytes
 pub record EntryRight (e : Field) : Type 0 where
@@ -102,8 +120,8 @@ pub record Corrects (b : List ℕ) (used n : ℕ) (c out : List ℕ) : Type 0 wh
   pub keeps : Keeps (take used b) set-type lines []
   -- 19: "line number 0 or beyond the set"
   pub line-there : (1 ≤ n) × (n ≤ length lines)
-  -- 20: "line is 8000, 8100 or 9218"
-  pub not-fixed : (labelAtLine lines (pred n) ≢ 8000) × (labelAtLine lines (pred n) ≢ 8100) × (labelAtLine lines (pred n) ≢ 9218)
+  -- 20
+  pub not-fixed : NotFixed (labelAtLine lines (pred n))
   -- 6, 14
   pub no-low-byte : NoLowByte c
   pub content-fits : fitsLabel (labelAtLine lines (pred n)) c ≡ true
@@ -117,7 +135,7 @@ pub record Corrects (b : List ℕ) (used n : ℕ) (c out : List ℕ) : Type 0 wh
 -- an entry of a sheet that is not refused by 19, 20, 6 or 14: it names a line that may be corrected, and gives a content that fits there
 pub record PendingFor (lines : List Field) (e : Field) : Type 0 where
   pub line-there : (1 ≤ e .label) × (e .label ≤ length lines)
-  pub not-fixed : (labelAtLine lines (pred (e .label)) ≢ 8000) × (labelAtLine lines (pred (e .label)) ≢ 8100) × (labelAtLine lines (pred (e .label)) ≢ 9218)
+  pub not-fixed : NotFixed (labelAtLine lines (pred (e .label)))
   pub no-low-byte : NoLowByte (e .content)
   pub content-fits : fitsLabel (labelAtLine lines (pred (e .label))) (e .content) ≡ true
 
