@@ -310,7 +310,7 @@ module _ (room n : ℕ) (c : List ℕ) (fs : List Field) (rest : List ℕ) (r : 
       by19 a (passed p q) = by20 a (line-so n (length fs) .0 p) (asked (inChange fs) new put r (not (fixed label)) (atLine fixedLine (pred n) label) from6 q)
 
       by18 : Asked (inChange fs) new put r (isNil rest) (atLine badUse (length fs) 0) from19 → ChangeRefused room fs rest n c r
-      by18 (failed p q) = another-set (nil-not rest .0 p) (q ∙ ap (λ (z : ℕ). refusal badUse z 0) whole-set)
+      by18 (failed p q) = another-set (nil-not rest .0 p) (q ∙ ap (λ (z : ℕ). refusal badUse z 0) (omega (arith, whole-set)))
       by18 (passed p q) = by19 (nil-so rest .0 p) (asked (inChange fs) new put r (leb 1 n && leb n (length fs)) (atLine noSuchLine (length fs) 0) from20 q)
 
   refused-change : ChangeRefused room fs rest n c r → correctLines room n c (parsed fs rest) ≡ refused r
@@ -333,7 +333,7 @@ module _ (room n : ℕ) (c : List ℕ) (fs : List Field) (rest : List ℕ) (r : 
 
       go : ChangeRefused room fs rest n c r → correctLines room n c (parsed fs rest) ≡ refused r
       go (another-set a q) =
-          ask-failed (inChange fs) new put r (isNil rest) (atLine badUse (length fs) 0) from19 (nil-not rest .1 a) (q ∙ ap (λ (z : ℕ). refusal badUse z 0) (sym whole-set))
+          ask-failed (inChange fs) new put r (isNil rest) (atLine badUse (length fs) 0) from19 (nil-not rest .1 a) (q ∙ ap (λ (z : ℕ). refusal badUse z 0) (omega (arith, whole-set)))
       go (no-line a w q) =
           after18 a
           (ask-failed (inChange fs) new put r (leb 1 n && leb n (length fs)) (atLine noSuchLine (length fs) 0) from20 (line-not n (length fs) .1 w)
