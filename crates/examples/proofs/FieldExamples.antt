@@ -10,7 +10,7 @@ use lib.Dec.{leb, eqb}
 use Rattle.meaning.specs.declared.Judged.{Judged}
 use Rattle.meaning.specs.declared.Judged.the-variants.{Accepted, Refused}
 use Rattle.meaning.specs.Refusals.{refusal}
-use Rattle.meaning.specs.Kinds.{is0210}
+use Rattle.meaning.specs.Kinds.{isAlnum, isNum, isFloat, isRule020, isRule008, isRule090, isRule112, isRule116, isCharset, isVersion, is0210}
 use Rattle.meaning.specs.FieldTable.{fitsLabel}
 use Rattle.meaning.specs.Reading.{judge}
 use Rattle.meaning.specs.Computes.{computes}
@@ -277,3 +277,11 @@ all-fields :
     ∷ Refused (refusal 14 27 9218) ∷ [])
 unfolding computes printed cases versions versionReply
 all-fields = (refl, refl, refl, refl, refl)
+
+-- Each test by itself, of a content of no bytes, which every length of the table shuts out: only alnum and num ask for no byte.
+abbrev tests : List (List ℕ → Bool)
+tests = isAlnum ∷ isNum ∷ isFloat ∷ isRule020 ∷ isRule008 ∷ isRule090 ∷ isRule112 ∷ isRule116 ∷ isCharset ∷ isVersion ∷ is0210 ∷ []
+
+nothing-tested : map (λ (test : List ℕ → Bool). test []) tests ≡ true ∷ true ∷ replicate 9 false
+unfolding computes
+nothing-tested = refl
