@@ -208,8 +208,8 @@ byKind l rule020 =
     texts l true ("00000000" ∷ "31121999" ∷ "31129999" ∷ "31020000" ∷ [])
     ++ texts l false ("32011999" ∷ "31131999" ∷ "99121999" ∷ "31991999" ∷ [])
 byKind l rule008 =
-    texts l true ("01011999" ∷ "31121999" ∷ "31129999" ∷ "31020000" ∷ [])
-    ++ texts l false ("00011999" ∷ "01001999" ∷ "32011999" ∷ "01131999" ∷ "00000000" ∷ [])
+    texts l true ("01011999" ∷ "31121999" ∷ "31129999" ∷ "31020000" ∷ "10011999" ∷ [])
+    ++ texts l false ("00011999" ∷ "01001999" ∷ "32011999" ∷ "01131999" ∷ "00000000" ∷ "00101999" ∷ [])
 byKind l rule090 =
     texts l true ("000000" ∷ "235959" ∷ "240000" ∷ "245959" ∷ [])
     ++ texts l false ("250000" ∷ "006000" ∷ "000060" ∷ "990000" ∷ [])
@@ -266,7 +266,7 @@ wrong test (c ∷ cs) = let rest = wrong test cs in cond (Bool·beq (test (c .la
 -- `wrong fitsLabel (ofRow r) ≡ []`.
 all-fields :
     (length printed ≡ 57)
-    × (length cases ≡ 2226)
+    × (length cases ≡ 2230)
     × (wrong fitsLabel cases ≡ [])
     × (wrong (λ l c. is0210 c) versions ≡ [])
     × (map versionReply ("02.10" ∷ "02.00" ∷ "01.00" ∷ "99.99" ∷ "02,10" ∷ [])
