@@ -11,7 +11,7 @@ use lib.Dec.{leb, eqb}
 use Rattle.meaning.specs.declared.Judged.{Judged}
 use Rattle.meaning.specs.declared.Judged.the-variants.{Accepted, Refused}
 use Rattle.meaning.specs.Refusals.{refusal}
-use Rattle.meaning.specs.Kinds.{is0210}
+use Rattle.meaning.specs.Kinds.{isAlnum, isNum, isFloat, isRule020, isRule008, isRule090, isRule112, isRule116, isCharset, isVersion, is0210}
 use Rattle.meaning.specs.FieldTable.{fitsLabel}
 use Rattle.meaning.specs.Reading.{judge}
 use Rattle.meaning.specs.Computes.{computes}
@@ -209,8 +209,8 @@ byKind l rule020 =
     texts l true ("00000000" ∷ "31121999" ∷ "31129999" ∷ "31020000" ∷ [])
     ++ texts l false ("32011999" ∷ "31131999" ∷ "99121999" ∷ "31991999" ∷ [])
 byKind l rule008 =
-    texts l true ("01011999" ∷ "31121999" ∷ "31129999" ∷ "31020000" ∷ [])
-    ++ texts l false ("00011999" ∷ "01001999" ∷ "32011999" ∷ "01131999" ∷ "00000000" ∷ [])
+    texts l true ("01011999" ∷ "31121999" ∷ "31129999" ∷ "31020000" ∷ "10011999" ∷ [])
+    ++ texts l false ("00011999" ∷ "01001999" ∷ "32011999" ∷ "01131999" ∷ "00000000" ∷ "00101999" ∷ [])
 byKind l rule090 =
     texts l true ("000000" ∷ "235959" ∷ "240000" ∷ "245959" ∷ [])
     ++ texts l false ("250000" ∷ "006000" ∷ "000060" ∷ "990000" ∷ [])
@@ -267,7 +267,7 @@ wrong test (c ∷ cs) = let rest = wrong test cs in cond (Bool·beq (test (c .la
 -- `wrong fitsLabel (ofRow r) ≡ []`.
 all-fields :
     (length printed ≡ 57)
-    × (length cases ≡ 2226)
+    × (length cases ≡ 2230)
     × (wrong fitsLabel cases ≡ [])
     × (wrong (λ l c. is0210 c) versions ≡ [])
     × (map versionReply ("02.10" ∷ "02.00" ∷ "01.00" ∷ "99.99" ∷ "02,10" ∷ [])
@@ -278,3 +278,11 @@ all-fields :
     ∷ Refused (refusal 14 27 9218) ∷ [])
 unfolding computes printed cases versions versionReply
 all-fields = (refl, refl, refl, refl, refl)
+
+-- Each test by itself, of a content of no bytes, which every length of the table shuts out: only alnum and num ask for no byte.
+abbrev tests : List (List ℕ → Bool)
+tests = isAlnum ∷ isNum ∷ isFloat ∷ isRule020 ∷ isRule008 ∷ isRule090 ∷ isRule112 ∷ isRule116 ∷ isCharset ∷ isVersion ∷ is0210 ∷ []
+
+nothing-tested : map (λ (test : List ℕ → Bool). test []) tests ≡ true ∷ true ∷ replicate 9 false
+unfolding computes
+nothing-tested = refl

@@ -8,16 +8,20 @@ use lib.ListN.{length, take}
 use Rattle.meaning.specs.declared.Refusal.{Refusal}
 use Rattle.meaning.specs.declared.Shape.{Shape}
 use Rattle.meaning.specs.declared.Entry.{Entry}
-use Rattle.meaning.specs.declared.Judged.the-variants.{Accepted}
+use Rattle.meaning.specs.declared.Judged.the-variants.{Accepted, Refused as RefusedSet}
+use Rattle.meaning.specs.declared.Made.the-variants.{Refused}
+use Rattle.meaning.specs.declared.Viewed.the-variants.{Refused as RefusedView}
 use Rattle.meaning.specs.Field.{Field}
-use Rattle.meaning.specs.Refusals.{Reply, refused, done}
+use Rattle.meaning.specs.Refusals.{Reply, refused, done, refusal}
 use Rattle.meaning.specs.Pieces.{Parsed, parsed, putAll}
 use Rattle.meaning.specs.Lines.{size, render}
 use Rattle.meaning.specs.Entries.{entryForm, listSize}
 use Rattle.meaning.specs.Reading.{shape, judged, read, judge}
 use Rattle.meaning.specs.Lists.{withoutSum, withSum, list, write}
 use Rattle.meaning.specs.Corrections.{recontent, resum, changed, correct}
-use Rattle.meaning.specs.Answers.{made, bytesLeft, entriesLeft}
+use Rattle.meaning.specs.Index.{index}
+use Rattle.meaning.specs.Views.{viewed, view}
+use Rattle.meaning.specs.Answers.{made, bytesLeft, entriesLeft, indexCall, listCall, writeCall, correctCall, judgedRefusal, judgedShape, madeCount, viewedFlag, viewedPart}
 use Rattle.meaning.proofs.Bools.{Every}
 use Rattle.meaning.proofs.EntryLaws.{Byte, length-entries}
 use Rattle.meaning.proofs.LineLaws.{length-render, take-render}
@@ -38,6 +42,43 @@ refused-keeps-bytes r b = refl
 
 pub refused-keeps-entries : (r : Refusal) (b : List Entry) → entriesLeft (refused r) b ≡ b
 refused-keeps-entries r b = refl
+
+-- the same of the calls: one that answers a refusal has made nothing, its count is 0, and every byte or entry of its buffer is as it was
+pub refused-index : (s : List ℕ) (out : List Entry) (r : Refusal) → indexCall s out .answer ≡ Refused r
+    → (madeCount (indexCall s out .answer) ≡ 0) × (indexCall s out .buffer ≡ out)
+refused-index s out r = go (index s (length out))
+  where
+    go : (x : Reply (List Entry)) → made x ≡ Refused r → (madeCount (made x) ≡ 0) × (entriesLeft x out ≡ out)
+    go (refused q) e = (refl, refl)
+    go (done es) e = let z : _≡_ {A = ℕ} 0 1 = cc in absurd (omega arith)
+
+nothing-made : (x : Reply (List ℕ)) (b : List ℕ) (r : Refusal) → made x ≡ Refused r → (madeCount (made x) ≡ 0) × (bytesLeft x b ≡ b)
+nothing-made (refused q) b r e = (refl, refl)
+nothing-made (done bs) b r e = let z : _≡_ {A = ℕ} 0 1 = cc in absurd (omega arith)
+
+pub refused-list : (s out : List ℕ) (r : Refusal) → listCall s out .answer ≡ Refused r → (madeCount (listCall s out .answer) ≡ 0) × (listCall s out .buffer ≡ out)
+refused-list s out r = nothing-made (list s (length out)) out r
+
+pub refused-write : (l out : List ℕ) (r : Refusal) → writeCall l out .answer ≡ Refused r → (madeCount (writeCall l out .answer) ≡ 0) × (writeCall l out .buffer ≡ out)
+refused-write l out r = nothing-made (write l (length out)) out r
+
+pub refused-correct : (b : List ℕ) (used n : ℕ) (c : List ℕ) (r : Refusal) → correctCall b used n c .answer ≡ Refused r
+    → (madeCount (correctCall b used n c .answer) ≡ 0) × (correctCall b used n c .buffer ≡ b)
+refused-correct b used n c r = nothing-made (correct b used n c) b r
+
+-- a refused set has no length, no lines and no type
+pub refused-shape : (s : List ℕ) (r : Refusal) → judge s ≡ RefusedSet r → judgedShape (judge s) ≡ record { length = 0; lines = 0; settype = 0 }
+refused-shape s r e = rw e
+
+-- "A refusal comes with an empty part of the set, flagged as the set's.": no byte is shown
+pub refused-view : (s h : List ℕ) (n : ℕ) (r : Refusal) → viewed s h n ≡ RefusedView r
+    → (viewedFlag (viewed s h n) ≡ 0) × (viewedPart (viewed s h n) ≡ record { place = 0; length = 0 }) × (view s h n ≡ [])
+unfolding view
+refused-view s h n r e = rw e (refl, refl, refl)
+
+-- "number, place and label; 0, 0, 0 if nothing is refused"
+pub accepted-no-refusal : (s : List ℕ) (x : Shape) → judge s ≡ Accepted x → judgedRefusal (judge s) ≡ refusal 0 0 0
+accepted-no-refusal s x e = rw e
 
 -- ---- demand 2
 

@@ -1,4 +1,5 @@
--- The sentences of "Groups" that name labels, held against the tables: which labels are required at set level, which repeat there, and which are a header's members.
+-- The sentences of "Groups" that name labels, held against the tables: which labels are required at set level, which repeat there, and which are a header's members. The set
+-- types and the limits as the paper names them.
 -- Each is one computed test.
 use mathlib.Core.Path.{_≡_, refl}
 use mathlib.Core.Bool.{Bool, true, cond, not, _&&_}
@@ -6,8 +7,10 @@ use mathlib.Core.List.{List, [], _∷_, map}
 use Prim.Native.Nat.{ℕ}
 use lib.Dec.{eqb}
 use Rattle.meaning.specs.declared.Row.{Row}
+use Rattle.meaning.specs.declared.Known.the-variants.{Of}
 use Rattle.meaning.specs.declared.SetType.{SetType}
 use Rattle.meaning.specs.declared.SetType.the-variants.{T6300, T6301, T6302, T6310, T6311}
+use Rattle.meaning.specs.Limits.{limits, typeOf, typeNumber}
 use Rattle.meaning.specs.Tables.{table, setLevel}
 use Rattle.meaning.specs.Missing.{rowsUnder, ascending}
 use Rattle.meaning.specs.Computes.{computes}
@@ -78,3 +81,19 @@ allAtSetLevel (r ∷ rs) = (eqb (r .under) setLevel && not (r .many)) && allAtSe
 plain-elsewhere : map (λ t. allAtSetLevel (table t)) (T6300 ∷ T6301 ∷ T6302 ∷ T6311 ∷ []) ≡ true ∷ true ∷ true ∷ true ∷ []
 unfolding computes
 plain-elsewhere = refl
+
+-- "Sets 6300, 6301, 6302, 6310 and 6311": the number of a type names it, and these are the numbers
+type-back : (t : SetType) → typeOf (typeNumber t) ≡ Of t
+unfolding computes
+type-back T6300 = refl
+type-back T6301 = refl
+type-back T6302 = refl
+type-back T6310 = refl
+type-back T6311 = refl
+
+types-are : map typeNumber (T6300 ∷ T6301 ∷ T6302 ∷ T6310 ∷ T6311 ∷ []) ≡ 6300 ∷ 6301 ∷ 6302 ∷ 6310 ∷ 6311 ∷ []
+types-are = refl
+
+-- "512 lines", "999 bytes a line", "99,999 bytes a set"
+limits-are : limits ≡ record { lines = 512; line = 999; set = 99999 }
+limits-are = refl
