@@ -292,7 +292,8 @@ module _ (room n : ℕ) (c : List ℕ) (fs : List Field) (rest : List ℕ) (r : 
   unfolding changeFaults fits
   change-refused e = by18 (asked (inChange fs) new put r (isNil rest) (atLine badUse (length fs) 0) from19 e)
     where
-      by14 : rest ≡ [] → (1 ≤ n) × (n ≤ length fs) → NotFixed label → NoLowByte c → Asked (inChange fs) new put r (fitsLabel label c) content-test [] → ChangeRefused room fs rest n c r
+      by14 : rest ≡ [] → (1 ≤ n) × (n ≤ length fs) → NotFixed label → NoLowByte c
+          → Asked (inChange fs) new put r (fitsLabel label c) content-test [] → ChangeRefused room fs rest n c r
       by14 a w f h (failed p q) = bad-content a w f h p q
       by14 a w f h (passed p q) =
           let z = room-lacks-so (total w f h p) q in no-room a w f h p new (changed-new fs n c first second w f) (z .0) (z .1)

@@ -260,7 +260,8 @@ SaysCorrectedExactly correct = (b : List ℕ) (used n : ℕ) (c out : List ℕ) 
 corrected-exactly-says : SaysCorrectedExactly correct
 corrected-exactly-says = corrected-exactly
 
-corrected-exactly-at : (C : List ℕ → ℕ → ℕ → List ℕ → Reply (List ℕ)) → SaysCorrectedExactly C → (c x : List ℕ) → correct inBuffer 51 4 c ≡ done x → C inBuffer 51 4 c ≡ done x
+corrected-exactly-at : (C : List ℕ → ℕ → ℕ → List ℕ → Reply (List ℕ)) → SaysCorrectedExactly C
+    → (c x : List ℕ) → correct inBuffer 51 4 c ≡ done x → C inBuffer 51 4 c ≡ done x
 corrected-exactly-at C h c x e = h inBuffer 51 4 c x .1 (corrected-exactly inBuffer 51 4 c x .0 e)
 
 corrected-exactly-not-refusing : (r : List ℕ → ℕ → ℕ → List ℕ → Refusal) → SaysCorrectedExactly (λ b used n c. refused (r b used n c)) → ⊥

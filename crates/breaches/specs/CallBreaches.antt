@@ -46,9 +46,10 @@ pub data ChangeRefused (room : ℕ) (fs : List Field) (rest : List ℕ) (n : ℕ
   fixed-line : rest ≡ [] → (1 ≤ n) × (n ≤ length fs) → FixedLabel (labelAtLine fs (pred n))
       → r ≡ refusal fixedLine (offset fs (pred n)) (labelAtLine fs (pred n)) → ChangeRefused room fs rest n c r
   -- the first byte under 20h, by its place in the new content
-  low-byte : rest ≡ [] → (1 ≤ n) × (n ≤ length fs) → NotFixed (labelAtLine fs (pred n)) → (i : ℕ) → i < length c → getD c i 0 < leastByte → ((j : ℕ) → j < i → leastByte ≤ getD c j 0)
+  low-byte : rest ≡ [] → (1 ≤ n) × (n ≤ length fs) → NotFixed (labelAtLine fs (pred n))
+      → (i : ℕ) → i < length c → getD c i 0 < leastByte → ((j : ℕ) → j < i → leastByte ≤ getD c j 0)
       → r ≡ refusal badByte i 0 → ChangeRefused room fs rest n c r
-  -- "content breaks length, kind or rule", and so does 14 from a correction carry it
+  -- "content breaks length, kind or rule"; "14 from a correction" carries the label concerned, too
   bad-content : rest ≡ [] → (1 ≤ n) × (n ≤ length fs) → NotFixed (labelAtLine fs (pred n)) → NoLowByte c → fitsLabel (labelAtLine fs (pred n)) c ≡ false
       → r ≡ refusal badContent (offset fs (pred n)) (labelAtLine fs (pred n)) → ChangeRefused room fs rest n c r
   -- "place: the need": the size of the lines with the new content and its sum

@@ -243,7 +243,8 @@ write-not-idle a h = let z : _≡_ {A = ℕ} 7 0 = ap (λ (c : Call ℕ). getD (
 abbrev SaysCorrect : (List ℕ → ℕ → ℕ → List ℕ → Call ℕ) → Type 0
 SaysCorrect f = (b : List ℕ) (used n : ℕ) (c : List ℕ) → f b used n c ≡ correctCall b used n c
 
-correct-not-refusing : (r : List ℕ → ℕ → ℕ → List ℕ → Refusal) (o : List ℕ → ℕ → ℕ → List ℕ → List ℕ) → SaysCorrect (λ b used n c. call (Refused (r b used n c)) (o b used n c)) → ⊥
+correct-not-refusing : (r : List ℕ → ℕ → ℕ → List ℕ → Refusal) (o : List ℕ → ℕ → ℕ → List ℕ → List ℕ)
+    → SaysCorrect (λ b used n c. call (Refused (r b used n c)) (o b used n c)) → ⊥
 correct-not-refusing r o h = refused-made (ap answerOf (h inBuffer 51 4 (text "0")) ∙ ap made correct-p)
 
 correct-not-same : (a : Call ℕ) → SaysCorrect (λ b used n c. a) → ⊥
@@ -1023,7 +1024,8 @@ view-as-corrected-says = view-as-corrected
 view-as-corrected-met-by-same-view : (a : List ℕ) (C : List ℕ → ℕ → ℕ → List ℕ → Reply (List ℕ)) → SaysViewAsCorrected C (λ s h n. a)
 view-as-corrected-met-by-same-view a C b used n m c x bc e ne fs r lo hi = refl
 
-view-as-corrected-met-by-refusing-correct : (r : List ℕ → ℕ → ℕ → List ℕ → Refusal) (F : List ℕ → List ℕ → ℕ → List ℕ) → SaysViewAsCorrected (λ b used n c. refused (r b used n c)) F
+view-as-corrected-met-by-refusing-correct : (r : List ℕ → ℕ → ℕ → List ℕ → Refusal) (F : List ℕ → List ℕ → ℕ → List ℕ)
+    → SaysViewAsCorrected (λ b used n c. refused (r b used n c)) F
 view-as-corrected-met-by-refusing-correct r F b used n m c x bc e = refused-done e
 
 pending-0 : view (take 51 inBuffer) (entryThen (line 4 "0") []) 4 ≡ text "0"

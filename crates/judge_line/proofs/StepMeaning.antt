@@ -63,14 +63,16 @@ repeated-is pl true t k l at e = refl
 repeated-is pl false true k l at e = ap (λ (p : ℕ). refusal repeated p l) (sym e)
 repeated-is pl false false k l at e = refl
 
-label-is : (pl : ℕ → Spot → ℕ) (a b : Bool) (r : Row) (ms : G.State) (k l at : ℕ) (t i : Bool) → at ≡ pl k start → t ≡ elem (r .label) (ms .top) → i ≡ elem (r .label) (ms .members)
+label-is : (pl : ℕ → Spot → ℕ) (a b : Bool) (r : Row) (ms : G.State) (k l at : ℕ) (t i : Bool)
+    → at ≡ pl k start → t ≡ elem (r .label) (ms .top) → i ≡ elem (r .label) (ms .members)
     → firstOf pl (labelFaults (roleBy a b r) ms k l) ≡ numbered (labelNoBy a b (r .many) t i) at l
 unfolding labelFaults
 label-is pl true b r ms k l at t i e p q = rw (← p) (repeated-is pl (r .many) t k l at e)
 label-is pl false true r ms k l at t i e p q = rw (← q) (repeated-is pl (r .many) i k l at e)
 label-is pl false false r ms k l at t i e p q = ap (λ (x : ℕ). refusal stray x l) (sym e)
 
-content-is : (pl : ℕ → Spot → ℕ) (p : Profile) (k at : ℕ) (f : Field) → at ≡ pl k start → firstOf pl (contentFaults p k f) ≡ numbered (contentNo (f .label) (f .content)) at (f .label)
+content-is : (pl : ℕ → Spot → ℕ) (p : Profile) (k at : ℕ) (f : Field) → at ≡ pl k start
+    → firstOf pl (contentFaults p k f) ≡ numbered (contentNo (f .label) (f .content)) at (f .label)
 unfolding contentFaults contentNo versionNo fits current
 content-is pl p k at f e = go (fitsLabel (f .label) (f .content)) (eqb (f .label) 9218) (is0210 (f .content))
   where

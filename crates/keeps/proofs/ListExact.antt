@@ -21,7 +21,8 @@ entries-put : (es : List Field) → putAll entryForm es [] ≡ entriesOf es
 entries-put [] = refl
 entries-put (e ∷ es) = ap (entryThen e) (entries-put es)
 
-listed-lines : (s : List ℕ) (room : ℕ) (l : List ℕ) (t : SetType) (fs : List Field) (rest : List ℕ) → Keeps s t fs rest → l ≡ listOf fs → listSize (withoutSum fs) ≤ room → Lists s room l
+listed-lines : (s : List ℕ) (room : ℕ) (l : List ℕ) (t : SetType) (fs : List Field) (rest : List ℕ)
+    → Keeps s t fs rest → l ≡ listOf fs → listSize (withoutSum fs) ≤ room → Lists s room l
 listed-lines s room l t [] rest k m h = let z : _≡_ {A = ℕ} 0 8000 = k .rules .starts .0 in absurd (omega arith)
 listed-lines s room l t (f ∷ []) rest k m h = let z : _≡_ {A = ℕ} 0 8100 = k .rules .second-8100 in absurd (omega arith)
 listed-lines s room l t (f ∷ g ∷ fs) rest k m h = record {
