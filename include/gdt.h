@@ -1,17 +1,23 @@
 /* gdt.h: reading, writing and correcting GDT 2.1 sets.
 
    Every call takes any bytes from anyone. It answers a record of numbers by value (gdt_view_copy a length). `no` is 0 if the call was
-   done, else the number of the refusal (GDT_EMPTY to GDT_NO_ROOM); then `place` says where, and `label` which label is concerned. Both
-   are 0 if the call was done, and `label` is 0 if no label is concerned. After a refusal every lent buffer and entry holds what it held
-   before, and the other numbers of the record are 0.
+   done, else the number of the refusal (GDT_EMPTY to GDT_TOO_MANY_SETS); then `place` says where, and `label` which label is concerned.
+   Both are 0 if the call was done, and `label` is 0 if no label is concerned. After a refusal every lent byte, entry and number is what
+   it was before, and the other numbers of the record are 0.
 
    `place` is the offset of the first byte of the line concerned, for GDT_BAD_BYTE of that byte; what differs is said at the number. It
    counts in the set; for gdt_write in the list (the entry's first byte); for an entry of a sheet in the sheet; for GDT_BAD_BYTE of a
-   correction in the new content.
+   correction in the new content. The day calls add the set's offset in the file to the place of what they find wrong in a set (GDT_EMPTY
+   to GDT_BAD_SUM); so GDT_MISSING at set level is at the set's offset.
 
    A field list, and a sheet of pending corrections, is entry after entry with nothing between: the content's length in two bytes, the
    label (in a sheet the line number, from 1) in two bytes, both little-endian, then the content. A list has no entry for 8100: gdt_write
    adds it as line 2. In a sheet the last entry for a line counts.
+
+   A day file is set after set with nothing between, at most 2,048. Its index has four numbers a set, in file order: the set's offset in
+   the file, its length, the number of its type, and the place in the file of its 3000 content, the patient's number. It is kept beside
+   the file by whoever calls. `numbers` says how many numbers a slice has, four for each entry; one to three numbers after the last four
+   are no entry. A count, and the need of GDT_NO_ROOM, are entries, not numbers.
 
    A pointer must not be null, also if its length is 0. What is lent to be written overlaps nothing else that is lent.
    No call keeps a pointer, allocates, or uses more than 8 KiB of stack.
@@ -42,11 +48,13 @@ enum {
     GDT_OTHER_VERSION = 15,  /* 9218 is not 02.10 */
     GDT_MISSING = 16,        /* `label` is required and absent; place: 0, or the line of the header or name that lacks it */
     GDT_BAD_SUM = 17,        /* 8100 is not the set's length (place: line 2) */
-    GDT_BAD_USE = 18,        /* the used length is over the buffer (place: the buffer's length), or another set follows (place: the first set's length) */
+    GDT_BAD_USE = 18,        /* the used length is over the buffer, or the old length over the day file (place: its length); or another set follows the
+                                one that must be alone (place: that one's length) */
     GDT_NO_SUCH_LINE = 19,   /* line number 0, or beyond the set (place: the set's length) */
     GDT_FIXED_LINE = 20,     /* lines 8000, 8100 and 9218 cannot be corrected */
     GDT_BAD_LIST = 21,       /* an entry is cut, or its label is over 9999 */
-    GDT_NO_ROOM = 22         /* more room is needed; place: how many bytes or entries */
+    GDT_NO_ROOM = 22,        /* more room is needed; place: how many bytes, entries or found sets */
+    GDT_TOO_MANY_SETS = 23   /* a 2,049th set of a day file (place: its offset in the file) */
 };
 
 /* What judging a set answers: its length in bytes, its lines, and the number of its type, as 6310. */
@@ -55,7 +63,8 @@ struct gdt_judged {
     size_t length, lines, type;
 };
 
-/* What index, list, writer and correction answer: how many entries or bytes were made; of a correction the new used length. */
+/* What index, list, writer, correction and the day calls answer: how many entries or bytes were made; of a correction the new used
+   length; of gdt_day_build and gdt_day_append the entries of the index, of gdt_day_find the sets that were found. */
 struct gdt_made {
     size_t no, place, label;
     size_t count;
@@ -95,5 +104,25 @@ struct gdt_viewed gdt_view(const uint8_t *set, size_t set_length, const uint8_t 
 /* Copies that content to `out` and answers its length; 0 for a refusal. If the length is over `room` nothing is written, so that a cut
    content is never shown. Bytes of `out` after the content stay as they were. */
 size_t gdt_view_copy(const uint8_t *set, size_t set_length, const uint8_t *sheet, size_t sheet_length, size_t line, uint8_t *out, size_t room);
+
+/* Writes the index of a day file, an entry for each of its sets; a file of no bytes has none. Set by set, in file order: refused as that
+   set is, with the place in the file; then by GDT_TOO_MANY_SETS if it is the 2,049th, and sets after that one are not looked at. After
+   the last set GDT_NO_ROOM, with the sets as the need. Numbers after the last entry stay as they were. */
+struct gdt_made gdt_day_build(const uint8_t *file, size_t file_length, size_t *index, size_t numbers);
+
+/* Adds the entry of the one set that stands in the file after its first `old` bytes to an index of `count` entries, and answers
+   count + 1. If that was the index of the file's first `old` bytes, it is then the index of the whole file, just as gdt_day_build
+   gives it; the first `count` entries are not looked at. In this order: GDT_BAD_USE if `old` is over the file's length (place: that
+   length); the set's own refusals, placed in the file; GDT_BAD_USE if another set follows (place: the appended set's length);
+   GDT_TOO_MANY_SETS at `old` if `count` is 2,048 or more; GDT_NO_ROOM if there is no room for count + 1 entries (place: count + 1).
+   Only the four numbers of the new entry are written. */
+struct gdt_made gdt_day_append(const uint8_t *file, size_t file_length, size_t old, size_t *index, size_t numbers, size_t count);
+
+/* Looks up a patient: writes the entry numbers, from 1, of the entries that match the asked bytes, lowest first (in file order, if the
+   index was built), and answers how many. Every whole entry of `index` is asked: lend four times the count that gdt_day_build or
+   gdt_day_append answered, not the whole room. An entry, also of an index that is not this file's, matches if no asked byte is under
+   20h, and the asked bytes and then 0Dh 0Ah stand in the file at the place that is its fourth number. Refused by GDT_NO_ROOM alone, with
+   the entries that match as the need; `room` and this need are single numbers. Numbers of `out` after the count stay as they were. */
+struct gdt_made gdt_day_find(const uint8_t *file, size_t file_length, const size_t *index, size_t numbers, const uint8_t *asked, size_t asked_length, size_t *out, size_t room);
 
 #endif

@@ -14,14 +14,14 @@ use Rattle.meaning.specs.Refusals.{Reply, refused, done, thenTo, refusal, badUs
 use Rattle.meaning.specs.Pieces.{Parsed, parsed}
 use Rattle.meaning.specs.Lines.{lineLead, size, render}
 use Rattle.meaning.specs.Reading.{judged, read, judge}
-use Rattle.meaning.specs.Lists.{sumDigits}
+use Rattle.meaning.specs.Lists.{sumDigits, sumPlace}
 use Rattle.meaning.specs.Corrections.{changed, correctLines, correct}
 use Rattle.meaning.specs.Answers.{made, bytesLeft}
 use Rattle.meaning.proofs.LineLaws.{length-render}
 use Rattle.meaning.proofs.RuleLaws.{ruled, begins-of}
 use Rattle.meaning.proofs.SetLaws.{Standing, accepted}
 use Rattle.meaning.proofs.CorrectionLaws.{Change, holds-standing, Corrected, correct-only}
-use Rattle.correct_put.specs.Middle.{newTotal, sumPlace, recontented}
+use Rattle.correct_put.specs.Middle.{newTotal, recontented}
 use Rattle.correct_plan.specs.declared.Plan.{Plan}
 use Rattle.correct_plan.specs.declared.Plan.the-variants.{Refused, Make}
 use Rattle.correct_plan.specs.Planned.{unless, making, plannedBy, planned}

@@ -8,13 +8,13 @@ use lib.Seq.{take-at, drop-at, drop-append-add}
 use Rattle.meaning.specs.Digits.{digits}
 use Rattle.meaning.specs.Field.{Field, field, noField, contentAtLine}
 use Rattle.meaning.specs.Lines.{lengthDigits, lineLead, lineEnd, lineSize, lineThen, size, offset, render}
-use Rattle.meaning.specs.Lists.{sumField, sumDigits}
+use Rattle.meaning.specs.Lists.{sumField, sumDigits, sumPlace}
 use Rattle.meaning.specs.Corrections.{recontent, resum}
 use Rattle.meaning.proofs.LineLaws.{length-line, length-render, render-split}
 use Rattle.meaning.proofs.CorrectionLaws.{leaves}
 use Rattle.byte_put.specs.Places.{over}
 use Rattle.byte_put.proofs.LendLaws.{over-after}
-use Rattle.correct_put.specs.Middle.{replaced, newTotal, sumPlace, recontented}
+use Rattle.correct_put.specs.Middle.{replaced, newTotal, recontented}
 use Rattle.correct_plan.proofs.TotalLaws.{Headed, size-at, total-is}
 
 -- ---- the bytes in the middle of some others

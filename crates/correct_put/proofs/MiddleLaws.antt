@@ -8,11 +8,11 @@ use lib.Seq.{take-at, drop-at, drop-drop, length-take-le}
 use borrow.Rule.Slice.PartMut.{midOf, putMid}
 use Rattle.meaning.specs.Digits.{digits}
 use Rattle.meaning.specs.Lines.{lengthDigits, lineLead, lineEnd}
-use Rattle.meaning.specs.Lists.{sumDigits}
+use Rattle.meaning.specs.Lists.{sumDigits, sumPlace}
 use Rattle.byte_put.specs.Places.{over}
 use Rattle.byte_put.proofs.LendLaws.{mid-tail, put-tail}
 use Rattle.byte_move.specs.Moved.{moved}
-use Rattle.correct_put.specs.Middle.{replaced, newTotal, sumPlace, recontented}
+use Rattle.correct_put.specs.Middle.{replaced, newTotal, recontented}
 
 -- ---- what `replace_middle` leaves
 

@@ -4,9 +4,8 @@ use mathlib.Core.List.{List, _++_}
 use Prim.Native.Nat.{ℕ, _+_, _-_}
 use lib.ListN.{length, take, drop, replicate}
 use Rattle.meaning.specs.Digits.{digits}
-use Rattle.meaning.specs.Rules.{typeDigits}
 use Rattle.meaning.specs.Lines.{lengthDigits, lineLead, lineEnd}
-use Rattle.meaning.specs.Lists.{sumDigits}
+use Rattle.meaning.specs.Lists.{sumDigits, sumPlace}
 use Rattle.byte_put.specs.Places.{over}
 
 -- b, of which the first `used` bytes count, with the `old` bytes at an offset replaced by others; zeros from its new end on
@@ -19,10 +18,6 @@ replaced at old new used b =
 -- how many bytes count with those of the content replaced
 abbrev pub newTotal : (old : ℕ) → List ℕ → ℕ → ℕ
 newTotal old c used = used - old + length c
-
--- where the content of line 2 stands, after line 1 with its four digits
-abbrev pub sumPlace : ℕ
-sumPlace = typeDigits + (lineLead + lineEnd) + lineLead
 
 -- b with the content of the line at an offset replaced, and with it the line's length and the sum
 unfoldable pub recontented : (place old : ℕ) → List ℕ → ℕ → List ℕ → List ℕ

@@ -5,14 +5,11 @@ ghost use mathlib.Core.Path.{_≡_};
 ghost use Prim.Native.Nat.{_+_, _-_, _≤_};
 ghost use lib.ListN.{length};
 ghost use Rattle.meaning.specs.Lines.{lineLead};
-ghost use Rattle.meaning.specs.Lists.{sumDigits};
-ghost use Rattle.correct_put.specs.Middle.{replaced, newTotal, sumPlace, recontented};
+ghost use Rattle.meaning.specs.Lists.{sumDigits, sumPlace};
+ghost use Rattle.correct_put.specs.Middle.{replaced, newTotal, recontented};
 use meaning::LENGTH_DIGITS;
 use meaning::LINE_FRAME;
 use meaning::LINE_LEAD;
-
-// The content of line 2, the sum, stands after line 1, whose content is the set's type, and after its own line's lead.
-const SUM_PLACE: usize = meaning::TYPE_DIGITS + LINE_FRAME + LINE_LEAD;
 
 // Replaces the `old` bytes at an offset by others: the bytes after them move inside the buffer, and "every byte past the new used length becomes zero".
 fn replace_middle(buffer: &mut [u8], at: usize, old: usize, new: &[u8], used: usize)
@@ -43,5 +40,5 @@ pub fn put_content(
 {
     replace_middle(buffer, place + LINE_LEAD, old, content, used);
     byte_put::put_digits(buffer, place, LENGTH_DIGITS, content.len() + LINE_FRAME);
-    byte_put::put_digits(buffer, SUM_PLACE, meaning::SUM_DIGITS, total);
+    byte_put::put_digits(buffer, meaning::SUM_PLACE, meaning::SUM_DIGITS, total);
 }

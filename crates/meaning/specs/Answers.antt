@@ -1,4 +1,4 @@
--- The six calls as a caller sees them: what each answers, and what the lent buffer holds afterwards. `judge` (Reading), `viewed` and `view` (Views) are lent nothing to write to.
+-- The six calls of the base as a caller sees them: what each answers, and what the lent buffer holds afterwards. `judge` (Reading), `viewed` and `view` (Views) are lent nothing to write to.
 -- They determine the answer and every lent byte or entry, refusals too.
 use mathlib.Core.Bool.{cond}
 use mathlib.Core.List.{List, _++_}
@@ -33,8 +33,8 @@ abbrev pub bytesLeft : Reply (List ℕ) → List ℕ → List ℕ
 bytesLeft (refused r) b = b
 bytesLeft (done bs) b = bs ++ replicate (length b - length bs) 0
 
--- "Index entries beyond the count stay as they were"
-abbrev pub entriesLeft : Reply (List Entry) → List Entry → List Entry
+-- "Index entries beyond the count stay as they were"; of what kind they are does not matter
+abbrev pub entriesLeft : {A : Type 0} → Reply (List A) → List A → List A
 entriesLeft (refused r) b = b
 entriesLeft (done es) b = es ++ drop (length es) b
 

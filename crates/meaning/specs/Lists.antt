@@ -11,7 +11,7 @@ use Rattle.meaning.specs.Refusals.{Spot, behind, Reply, refused, thenTo,
 use Rattle.meaning.specs.Pieces.{pieces, putAll}
 use Rattle.meaning.specs.Lines.{lineLead, lineEnd, lineSize, size, render}
 use Rattle.meaning.specs.Entries.{entryForm, entryLead, listSize}
-use Rattle.meaning.specs.Rules.{ruleFaults}
+use Rattle.meaning.specs.Rules.{typeDigits, ruleFaults}
 use Rattle.meaning.specs.Reading.{read}
 
 -- ---- set to list
@@ -39,6 +39,10 @@ sumField n = field 8100 (digits sumDigits n)
 -- how many bytes the line of 8100 has
 abbrev pub sumLine : ℕ
 sumLine = sumDigits + (lineLead + lineEnd)
+
+-- where in a set these digits stand: after line 1, whose content is the set's type, and the lead of line 2
+abbrev pub sumPlace : ℕ
+sumPlace = typeDigits + (lineLead + lineEnd) + lineLead
 
 -- "The writer adds it as line 2", with "the sum of all line lengths of the set, its own included"
 abbrev pub withSum : List Field → List Field

@@ -71,10 +71,13 @@ badList = 21
 abbrev pub noRoom : ℕ
 noRoom = 22
 
+abbrev pub tooManySets : ℕ
+tooManySets = 23
+
 abbrev pub numbers : List ℕ
 numbers =
     empty ∷ badLength ∷ cutLine ∷ badEnd ∷ badLabel ∷ badByte ∷ tooManyLines ∷ noStart ∷ unknownSet ∷ noSum ∷ notInSet
-    ∷ stray ∷ repeated ∷ badContent ∷ otherVersion ∷ missing ∷ badSum ∷ badUse ∷ noSuchLine ∷ fixedLine ∷ badList ∷ noRoom ∷ []
+    ∷ stray ∷ repeated ∷ badContent ∷ otherVersion ∷ missing ∷ badSum ∷ badUse ∷ noSuchLine ∷ fixedLine ∷ badList ∷ noRoom ∷ tooManySets ∷ []
 
 abbrev pub refusal : ℕ → ℕ → ℕ → Refusal
 refusal n p l = record { no = n; place = p; label = l }

@@ -41,6 +41,9 @@ pub const SUM_DIGITS: usize = 5;
 
 pub const SUM_LINE: usize = SUM_DIGITS + LINE_FRAME;
 
+// These digits stand after line 1, whose content is the set's type, and after the lead of line 2.
+pub const SUM_PLACE: usize = TYPE_DIGITS + LINE_FRAME + LINE_LEAD;
+
 // "Content length in two bytes", label (in a sheet a line number) in two bytes.
 pub const NUMBER_BYTES: usize = 2;
 
@@ -217,8 +220,10 @@ impl Refusal {
 
     pub const NO_ROOM: usize = 22;
 
+    pub const TOO_MANY_SETS: usize = 23;
+
     // Called by nobody: its proof says that the numbers are those of specs/, in the paper's order.
-    pub fn numbers() -> [usize; 22]
+    pub fn numbers() -> [usize; 23]
         ensures { λ r. ⌜ r ≡ numbers ⌝ }
     {
         [
@@ -244,6 +249,7 @@ impl Refusal {
             Refusal::FIXED_LINE,
             Refusal::BAD_LIST,
             Refusal::NO_ROOM,
+            Refusal::TOO_MANY_SETS,
         ]
     }
 

@@ -1,0 +1,1 @@
+-- The day file is exact for its rules by themselves.

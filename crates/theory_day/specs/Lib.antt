@@ -1,0 +1,3 @@
+-- What is said of the day file by itself.
+pub mod DayRules
+pub mod DayBreaches
