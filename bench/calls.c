@@ -2,22 +2,47 @@
    It assumes x86-64 and how words are passed there; tools/both builds it, and bench/measure.py runs it and reads its lines:
    `calls` prints the loads, `calls count LOAD` prints `CALL NO PROVED SECOND`, instructions, for each input of the load and each call
    that answers its number, `calls time LOAD` prints `CALL PROVED SECOND`, nanoseconds of the process, for each sample of the whole load.
-   It ends with status 1 if the two answer differently or not the number that the input is made for. */
+   It ends with status 1 if the two answer differently or not the number that the input is made for. The calls on a day file are in
+   bench/days.c. */
 #include "x86.h"
 #include "icount.h"
 #include "gdt.h"
 #include "inputs.h"
 
 enum {
-    WORDS = 8, /* that a call is given at most */
-    REPLY_WORDS = 6,
-    FILL = 0xAA, /* what is lent holds before a call */
-    SPARE = 8,   /* bytes that a correction has after the set */
-    SAMPLES = 3, /* bench/measure.py runs it some times */
-    LEAST_SAMPLE = 4000000 /* nanoseconds */
+    OUT = BUFFER,
+    SPARE = 8 /* bytes that a correction has after the set */
 };
+#include "tasks.h"
 
 /* ---- The loads --------------------------------------------------------------------------------------------------------------- */
+
+/* The paper's set P. */
+static void paper(struct input *input)
+{
+    line(input, 8000, "6300");
+    line(input, 8100, "00051");
+    line(input, 9218, "02.10");
+    line(input, 3000, "0");
+}
+
+static void long_512(struct input *input)
+{
+    begin(input);
+    lines(input, 507, 6220, forty);
+}
+
+static void long_groups(struct input *input)
+{
+    begin(input);
+    for (size_t i = 0; i < 126; i++) {
+        line(input, 8410, "abcdefghijklmnopqrst");
+        line(input, 8411, forty);
+        line(input, 8430, forty);
+        line(input, 8470, forty);
+    }
+    lines(input, 3, 6220, forty);
+}
 
 static const struct load {
     const char *name;
@@ -64,10 +89,7 @@ static uint64_t byte_sum(const uint8_t *bytes, size_t length)
 
 enum { JUDGE, INDEX, LIST, WRITE, CORRECT, VIEW, VIEW_COPY, BYTE_SUM, CALLS };
 
-static const struct call {
-    const char *name;
-    void *proved, *second;
-} calls[CALLS] = {
+static const struct call calls[CALLS] = {
     [JUDGE] = {"judge", (void *)gdt_judge, (void *)second_judge},
     [INDEX] = {"index", (void *)gdt_index, (void *)second_index},
     [LIST] = {"list", (void *)gdt_list, (void *)second_list},
@@ -92,18 +114,11 @@ static bool can_answer(int call, size_t no)
     }
 }
 
-/* A call that one of the two programs is to make: the words that it is given, and those of a call that turns it back; the record that
-   it answers, and what it is lent to be written. */
-static struct task {
-    uint64_t words[2][WORDS], reply[REPLY_WORDS];
-    uint8_t out[BUFFER];
-} ours[GDT_NO_ROOM], theirs[GDT_NO_ROOM];
+static struct task ours[GDT_NO_ROOM], theirs[GDT_NO_ROOM];
 
 /* A call that answers a record is given its place as the first word. */
 static void put_words(struct task *task, int call, const struct input *input)
 {
-#define GIVE(...) memcpy(task->words[0], (const uint64_t[WORDS]){__VA_ARGS__}, sizeof task->words[0])
-#define W(pointer) (uint64_t)(uintptr_t)(pointer)
     bool tight = input->no == GDT_NO_ROOM;
     uint64_t reply = W(task->reply), out = W(task->out), set = W(input->set), sheet = W(input->sheet), content = W(input->content);
     size_t used = input->used, list_room = tight ? input->list_used - 1 : used, buffer_room = tight ? used : used + SPARE;
@@ -123,9 +138,7 @@ static void prepare(struct task *task, int call, const struct input *input)
 {
     enum { USED_WORD = 3, LENGTH_WORD = 6 };
     put_words(task, call, input);
-    memcpy(task->words[1], task->words[0], sizeof task->words[1]);
-    memset(task->reply, FILL, sizeof task->reply);
-    memset(task->out, FILL, sizeof task->out);
+    fill(task);
     if (call == CORRECT) {
         memcpy(task->out, input->set, input->used);
         task->words[1][USED_WORD] += input->no == 0; /* the new content is the old one and one byte more */
@@ -133,32 +146,16 @@ static void prepare(struct task *task, int call, const struct input *input)
     }
 }
 
-/* Makes any call: words in, a word out. */
-__attribute__((noinline)) static uint64_t make(void *function, const uint64_t *w)
-{
-    typedef uint64_t any(uint64_t, uint64_t, uint64_t, uint64_t, uint64_t, uint64_t, uint64_t, uint64_t);
-    return ((any *)function)(w[0], w[1], w[2], w[3], w[4], w[5], w[6], w[7]);
-}
+/* ---- Counting and time ------------------------------------------------------------------------------------------------------- */
 
-/* ---- Counting ---------------------------------------------------------------------------------------------------------------- */
-
-/* One instruction, the return. */
-static void nothing(void)
+/* The instructions of a call; what a copied view answers goes to the place of a record. */
+static uint64_t counted_in(struct task *task, int call, void *function)
 {
-    __asm__ volatile("");
-}
-
-/* The instructions of a call, from its first to its return. */
-static uint64_t counted(struct task *task, int call, void *function)
-{
-    static void *volatile least = (void *)nothing;
-    uint64_t word, around, all;
-    ICOUNT(around, word = make(least, task->words[0]));
-    ICOUNT(all, word = make(function, task->words[0]));
+    uint64_t word, all = counted(task, function, &word);
     if (call == VIEW_COPY) {
         task->reply[0] = word;
     }
-    return all - around + 1;
+    return all;
 }
 
 static void count(int call, const struct input *input)
@@ -167,9 +164,9 @@ static void count(int call, const struct input *input)
     size_t copied = input->no == 0 ? input->content_length : 0;
     prepare(&ours[0], call, input);
     prepare(&theirs[0], call, input);
-    proved = counted(&ours[0], call, calls[call].proved);
-    second = counted(&theirs[0], call, calls[call].second);
-    bool same = memcmp(ours[0].reply, theirs[0].reply, sizeof ours[0].reply) == 0 && memcmp(ours[0].out, theirs[0].out, BUFFER) == 0;
+    proved = counted_in(&ours[0], call, calls[call].proved);
+    second = counted_in(&theirs[0], call, calls[call].second);
+    bool same = alike(&ours[0], &theirs[0]);
     bool right = call == BYTE_SUM || ours[0].reply[0] == (call == VIEW_COPY ? copied : input->no);
     if (!same || !right) {
         dprintf(2, "calls: %s, an input made for %zu: %zu answered, %s\n", calls[call].name, input->no, (size_t)ours[0].reply[0],
@@ -179,51 +176,16 @@ static void count(int call, const struct input *input)
     printf("%s %zu %zu %zu\n", calls[call].name, input->no, (size_t)proved, (size_t)second);
 }
 
-/* ---- Time -------------------------------------------------------------------------------------------------------------------- */
-
-static uint64_t now(void)
-{
-    struct timespec time;
-    clock_gettime(CLOCK_PROCESS_CPUTIME_ID, &time);
-    return (uint64_t)time.tv_sec * 1000000000 + (uint64_t)time.tv_nsec;
-}
-
-/* The time of this many rounds through the load; corrections are made and turned back by turns. */
-static uint64_t timed(const struct task *tasks, size_t task_count, void *function, size_t rounds)
-{
-    uint64_t start = now();
-    for (size_t round = 0; round < rounds; round++) {
-        for (size_t i = 0; i < task_count; i++) {
-            make(function, tasks[i].words[round % 2]);
-        }
-    }
-    return now() - start;
-}
-
 static void time_call(int call)
 {
-    size_t task_count = 0, rounds = 2;
+    size_t task_count = 0;
     for (size_t i = 0; i < input_count; i++) {
         if (can_answer(call, inputs[i].no)) {
             prepare(&ours[task_count], call, &inputs[i]);
             prepare(&theirs[task_count++], call, &inputs[i]);
         }
     }
-    timed(theirs, task_count, calls[call].second, rounds); /* an emulator translates code when it is met first */
-    timed(ours, task_count, calls[call].proved, rounds);
-    while (timed(ours, task_count, calls[call].proved, rounds) < LEAST_SAMPLE) {
-        rounds *= 2;
-    }
-    for (int sample = 0; sample < SAMPLES; sample++) {
-        uint64_t proved = timed(ours, task_count, calls[call].proved, rounds);
-        uint64_t second = timed(theirs, task_count, calls[call].second, rounds);
-        printf("%s %zu %zu\n", calls[call].name, (size_t)proved, (size_t)second);
-    }
-}
-
-static bool is(const char *word, const char *other)
-{
-    return strcmp(word, other) == 0;
+    print_times(&calls[call], ours, theirs, task_count);
 }
 
 int main(int word_count, char **words)

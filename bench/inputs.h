@@ -1,4 +1,4 @@
-/* inputs.h: the fixed inputs of the bench: what the calls are given in each load, and for each refusal number once.
+/* inputs.h: the fixed inputs of the bench: what the calls are given, the sets that two or more loads have, and for each refusal number once.
    It assumes that a set starts with 8000, 8100, 9218 and 3000: line 2 is the sum, line 3 is fixed, line 4 can be corrected. */
 #ifndef INPUTS_H
 #define INPUTS_H
@@ -86,12 +86,18 @@ static void choose_line(struct input *input, size_t number)
     put_entry(input->sheet, &input->sheet_used, number, input->content, input->content_length);
 }
 
+static void put_sum(struct input *input)
+{
+    size_t sum_at = LINE_HEAD;
+    put_digits(line_at(input, SUM_LINE), &sum_at, input->used, SUM_DIGITS);
+}
+
 /* After the last line: the sum, the list, and a new content of the patient's line, one byte longer than the old one. */
 static void finish(struct input *input)
 {
     const uint8_t *patient = line_at(input, PATIENT_LINE);
-    size_t sum_at = LINE_HEAD, length = number_at(patient, LENGTH_DIGITS) - LINE_FRAME;
-    put_digits(line_at(input, SUM_LINE), &sum_at, input->used, SUM_DIGITS);
+    size_t length = number_at(patient, LENGTH_DIGITS) - LINE_FRAME;
+    put_sum(input);
     put_list(input);
     memcpy(input->content, patient + LINE_HEAD, length);
     input->content[length] = '7';
@@ -99,7 +105,7 @@ static void finish(struct input *input)
     choose_line(input, PATIENT_LINE);
 }
 
-/* ---- The loads --------------------------------------------------------------------------------------------------------------- */
+/* ---- Sets -------------------------------------------------------------------------------------------------------------------- */
 
 static void begin(struct input *input)
 {
@@ -110,24 +116,20 @@ static void begin(struct input *input)
     line(input, 8402, "EKG01");
 }
 
+static void group(struct input *input)
+{
+    line(input, 8410, "FEV1ab");
+    line(input, 8420, "-3.700");
+    line(input, 8421, "litres");
+    line(input, 8470, "normal");
+}
+
 static void groups(struct input *input, size_t count)
 {
     begin(input);
     for (size_t i = 0; i < count; i++) {
-        line(input, 8410, "FEV1ab");
-        line(input, 8420, "-3.700");
-        line(input, 8421, "litres");
-        line(input, 8470, "normal");
+        group(input);
     }
-}
-
-/* The paper's set P. */
-static void paper(struct input *input)
-{
-    line(input, 8000, "6300");
-    line(input, 8100, "00051");
-    line(input, 9218, "02.10");
-    line(input, 3000, "0");
 }
 
 static void short_77(struct input *input)
@@ -142,24 +144,6 @@ static void short_512(struct input *input)
 }
 
 static const char forty[] = "abcdefghijklmnopqrstuvwxyzabcdefghijklmn";
-
-static void long_512(struct input *input)
-{
-    begin(input);
-    lines(input, 507, 6220, forty);
-}
-
-static void long_groups(struct input *input)
-{
-    begin(input);
-    for (size_t i = 0; i < 126; i++) {
-        line(input, 8410, "abcdefghijklmnopqrst");
-        line(input, 8411, forty);
-        line(input, 8430, forty);
-        line(input, 8470, forty);
-    }
-    lines(input, 3, 6220, forty);
-}
 
 /* ---- Refused inputs ---------------------------------------------------------------------------------------------------------- */
 

@@ -1,4 +1,4 @@
-"""measure.py: measures the two programs: instructions and times by bench/calls.c, stack by harness/stack.c over the stored streams of cases.
+"""measure.py: measures the two programs: instructions and times by bench/calls.c and bench/days.c, stack by harness/stack.c over the stored streams of cases.
 Assumes the Rattle kit. Says on standard error what is done; if a program fails it ends with that program's message."""
 import collections
 import concurrent.futures
@@ -11,9 +11,10 @@ ROOT = os.path.dirname(os.path.dirname(os.path.abspath(__file__)))
 sys.path.insert(0, os.path.join(ROOT, "harness"))
 import stream
 
-PROGRAM = os.path.join(ROOT, "target", "bench", "calls")
-FLOOR = "byte_sum"  # it stands among the calls
-STACK = "stack"  # it stands among the loads of the bounds
+SETS, DAYS = "calls", "days"  # the programs of bench/: the calls on a set, those on a day file
+FLOOR = "byte_sum"  # it stands among the calls on a set
+EACH = "judge"  # it stands among the calls on a day file: each of its sets is judged by itself
+STACK, JUDGING, LINEAR = "stack", "judging", "linear"  # they stand among the loads of the bounds
 RUNS = 7  # for the times of a load
 
 Count = collections.namedtuple("Count", "no proved second")  # instructions for one input; no: the number of its refusal or 0
@@ -28,8 +29,12 @@ def told(words):
     return ended.stdout.splitlines()
 
 
-def run(*words):
-    return told(["sh", os.path.join(ROOT, "tools", "x86run"), PROGRAM, *words])
+def path(program):
+    return os.path.join(ROOT, "target", "bench", program)
+
+
+def run(program, *words):
+    return told(["sh", os.path.join(ROOT, "tools", "x86run"), path(program), *words])
 
 
 def progress(what, since):
@@ -37,12 +42,13 @@ def progress(what, since):
 
 
 def build():
-    """Builds bench/calls.c over both programs; the names of its loads."""
+    """Builds each program of bench/ over the proved library and the second program; for each the names of its loads."""
     since = time.monotonic()
-    os.makedirs(os.path.dirname(PROGRAM), exist_ok=True)
-    told(["sh", os.path.join(ROOT, "tools", "both"), "-o", PROGRAM, os.path.join(ROOT, "bench", "calls.c")])
+    os.makedirs(path(""), exist_ok=True)
+    for program in (SETS, DAYS):
+        told(["sh", os.path.join(ROOT, "tools", "both"), "-o", path(program), os.path.join(ROOT, "bench", program + ".c")])
     progress("both programs built", since)
-    return run()
+    return {program: run(program) for program in (SETS, DAYS)}
 
 
 def in_parallel(function, items):
@@ -51,25 +57,26 @@ def in_parallel(function, items):
         return list(workers.map(function, items))
 
 
-def rows(how, load):
-    """The numbers that `calls HOW LOAD` prints, for each call."""
+def rows(how, program, load):
+    """The numbers that `PROGRAM HOW LOAD` prints, for each call."""
     found = {}
-    for line in run(how, load):
+    for line in run(program, how, load):
         call, *numbers = line.split()
         found.setdefault(call, []).append([int(number) for number in numbers])
     return found
 
 
-def counted(load):
-    since, found = time.monotonic(), rows("count", load)
-    progress("instructions of %s" % load, since)
+def counted(place):
+    since, found = time.monotonic(), rows("count", *place)
+    progress("instructions of %s %s" % place, since)
     return {call: [Count(*numbers) for numbers in inputs] for call, inputs in found.items()}
 
 
 def counts(loads):
-    """For each load and call a Count for each input."""
-    found = in_parallel(counted, loads[::-1])  # the last ones take longest
-    return dict(zip(loads, found[::-1]))
+    """For each program, load and call a Count for each input."""
+    places = [(program, load) for program, names in loads.items() for load in names]
+    found = dict(zip(places[::-1], in_parallel(counted, places[::-1])))  # the last ones take longest
+    return {program: {load: found[program, load] for load in names} for program, names in loads.items()}
 
 
 def ratio(inputs):
@@ -77,15 +84,32 @@ def ratio(inputs):
     return sum(count.proved for count in inputs) / sum(count.second for count in inputs)
 
 
+def proved(inputs):
+    """Instructions of the proved library, all inputs together."""
+    return sum(count.proved for count in inputs)
+
+
+def judging(days):
+    """What building the index of the file of 64 sets takes over judging each of these sets by itself."""
+    return proved(days["day64"]["day_build"]) / proved(days["day64"][EACH])
+
+
+def linear(days):
+    """What a lookup takes for each of 2,048 entries over what it takes for each of 256."""
+    most, least = [proved(days["find%d" % entries]["day_find"]) / entries for entries in (2048, 256)]
+    return most / least
+
+
 def times(loads):
-    """For each load and call the ratio of the times in each sample. There are some runs, since the places of a process's code and data move a ratio."""
-    found = {load: collections.defaultdict(list) for load in loads}
-    for load in loads:
-        since = time.monotonic()
-        for _ in range(RUNS):
-            for call, samples in rows("time", load).items():
-                found[load][call] += [proved / second for proved, second in samples]
-        progress("times of %s" % load, since)
+    """For each program, load and call the ratio of the times in each sample. There are some runs, since the places of a process's code and data move a ratio."""
+    found = {program: {load: collections.defaultdict(list) for load in names} for program, names in loads.items()}
+    for program, names in loads.items():
+        for load in names:
+            since = time.monotonic()
+            for _ in range(RUNS):
+                for call, samples in rows("time", program, load).items():
+                    found[program][load][call] += [ours / theirs for ours, theirs in samples]
+            progress("times of %s %s" % (program, load), since)
     return found
 
 
@@ -119,7 +143,12 @@ def stacks():
 
 
 def bounds():
-    """For each call the bounds of bench/bounds.txt: a ratio for each load, and bytes of stack."""
+    """For each program and call the bounds of its table in bench/bounds.txt: a ratio for each load that the call is measured on, bytes of stack, and what
+    else a day call is held to."""
     with open(os.path.join(ROOT, "bench", "bounds.txt")) as file:
-        lines = [line.split() for line in file if not line.startswith("#")]
-    return {call: dict(zip(lines[0][1:], map(float, numbers))) for call, *numbers in lines[1:]}
+        tables = "".join(line for line in file if not line.startswith("#")).split("\n\n")
+    found = {}
+    for program, table in zip((SETS, DAYS), tables):
+        head, *lines = [line.split() for line in table.strip().split("\n")]
+        found[program] = {call: {load: float(most) for load, most in zip(head[1:], numbers) if most != "-"} for call, *numbers in lines}
+    return found

@@ -9,7 +9,7 @@ import measure
 
 DOCUMENT = os.path.join(measure.ROOT, "docs", "BENCH.md")
 START, END = "<!-- the tables, by bench/run --write -->\n", "<!-- the end of the tables -->\n"
-NAMES = {"view_copy": "view, copied", measure.FLOOR: "byte sum"}
+NAMES = {"view_copy": "view, copied", measure.FLOOR: "byte sum", "day_build": "day, build", "day_append": "day, append", "day_find": "day, find"}
 REFUSED = "refused"
 MACHINE = platform.machine()
 EMULATED = MACHINE != "x86_64"
@@ -57,16 +57,30 @@ def stack_table(stacks, bounds):
     return table(("Call", "Times called", "Longest case, bytes", "Stack, bytes", "At most", "One of the deepest cases, and its answer"), found)
 
 
+def day_lines(days, bounds):
+    """What a day call is held to beside the second program's instructions."""
+    building = "Building the index on day64 takes %.2f times the instructions of judging each of the 64 sets by itself (at most %.2f);"
+    finding = "a lookup takes for each of 2,048 entries %.2f times what it takes for each of 256 (at most %.2f)."
+    return [
+        building % (measure.judging(days), bounds["day_build"][measure.JUDGING]),
+        finding % (measure.linear(days), bounds["day_find"][measure.LINEAR]),
+        "",
+    ]
+
+
 def main(words):
     if words not in ([], ["--write"]):
         print(__doc__, file=sys.stderr)
         return 2
-    loads = measure.build()
+    loads, bounds = measure.build(), measure.bounds()
     counts, stacks = measure.counts(loads), measure.stacks()
     times = measure.times(loads)
-    lines = made_on() + load_table(counts, times)
-    lines += ["Ratios for each refusal number by itself:", ""] + refused_table(counts[REFUSED])
-    lines += ["Stack over the stored streams of cases:", ""] + stack_table(stacks, measure.bounds())
+    lines = made_on()
+    for program, what in ((measure.SETS, "The calls on a set:"), (measure.DAYS, "The calls on a day file:")):
+        lines += [what, ""] + load_table(counts[program], times[program])
+        lines += ["Ratios for each refusal number by itself:", ""] + refused_table(counts[program][REFUSED])
+    lines += day_lines(counts[measure.DAYS], bounds[measure.DAYS])
+    lines += ["Stack over the stored streams of cases:", ""] + stack_table(stacks, {**bounds[measure.SETS], **bounds[measure.DAYS]})
     text = "".join(line + "\n" for line in lines)
     print(text, end="")
     if words:

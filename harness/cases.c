@@ -4,10 +4,12 @@
 #include "gdt.h"
 
 enum {
-    FILL = 0xAA,         /* what output buffers and entries hold before a call */
+    FILL = 0xAA,         /* what output buffers, entries and numbers hold before a call */
     MOST_ROOM = 1 << 20, /* "rooms of at most 1 MiB" */
     CHUNK = 1 << 16,
-    SPARE = 16 /* bytes that a view is lent for its copy beyond what it shows */
+    SPARE = 16,   /* bytes that a view is lent for its copy beyond what it shows */
+    NUMBER = 8,   /* bytes that a number has in the stream */
+    DAY_ENTRY = 4 /* numbers that a set has in the index of a day file */
 };
 
 /* ---- The stream ------------------------------------------------------------------------------------------------------------ */
@@ -73,9 +75,9 @@ static const uint8_t *take(size_t length)
 
 static size_t take_number(void)
 {
-    const uint8_t *bytes = take(8);
+    const uint8_t *bytes = take(NUMBER);
     uint64_t number = 0;
-    for (int i = 7; i >= 0; i--) {
+    for (int i = NUMBER - 1; i >= 0; i--) {
         number = number << 8 | bytes[i];
     }
     return (size_t)number;
@@ -134,6 +136,57 @@ static void take_back(struct lent *lent)
 {
     free(lent->at - 1);
     free(lent->was);
+}
+
+/* Numbers that are lent to a call, and what they were before it. */
+struct numbers {
+    size_t *at, *was;
+    size_t count;
+};
+
+static struct numbers lend_numbers(size_t count)
+{
+    size_t size = count * sizeof(size_t);
+    struct numbers numbers = {memory(size), memory(size), count};
+    memset(numbers.at, FILL, size);
+    memset(numbers.was, FILL, size);
+    return numbers;
+}
+
+/* How many numbers the stream's next byte string has. */
+static size_t take_count(void)
+{
+    size_t length = take_number();
+    if (length > left) {
+        stop("the stream is cut");
+    }
+    if (length % NUMBER != 0) {
+        stop("a number of an index is cut");
+    }
+    return length / NUMBER;
+}
+
+/* Puts this many numbers of the stream in front of those that are lent. */
+static void put_numbers(struct numbers *numbers, size_t count)
+{
+    if (count > numbers->count) {
+        stop("an index of more numbers than are lent");
+    }
+    for (size_t i = 0; i < count; i++) {
+        numbers->at[i] = numbers->was[i] = take_number();
+    }
+}
+
+/* Whether every number from `first` on is what it was. */
+static bool numbers_kept(const struct numbers *numbers, size_t first)
+{
+    return memcmp(numbers->at + first, numbers->was + first, (numbers->count - first) * sizeof(size_t)) == 0;
+}
+
+static void take_numbers_back(struct numbers *numbers)
+{
+    free(numbers->at);
+    free(numbers->was);
 }
 
 /* ---- Lines ----------------------------------------------------------------------------------------------------------------- */
@@ -297,6 +350,69 @@ static void case_view(void)
     take_back(&sheet);
 }
 
+/* The line of a call that writes the index of a day file. */
+static void print_day(struct gdt_made made, const struct numbers *index, const struct lent *file)
+{
+    size_t room = index->count / DAY_ENTRY, count = made.count < room ? made.count : room;
+    if (made.no != 0) {
+        print_refused(made.no, made.place, made.label, kept(file) && numbers_kept(index, 0) && made.count == 0);
+        return;
+    }
+    expect_done(made.place, made.label);
+    printf("ok %zu", made.count);
+    for (const size_t *entry = index->at; entry < index->at + DAY_ENTRY * count; entry += DAY_ENTRY) {
+        printf(" %zu:%zu:%zu:%zu", entry[0], entry[1], entry[2], entry[3]);
+    }
+    printf(" %s\n", word(numbers_kept(index, DAY_ENTRY * count)));
+}
+
+static void case_day_build(void)
+{
+    struct numbers index = lend_numbers(take_room());
+    struct lent file = lend_string();
+    print_day(gdt_day_build(file.at, file.length, index.at, index.count), &index, &file);
+    take_numbers_back(&index);
+    take_back(&file);
+}
+
+static void case_day_append(void)
+{
+    size_t old = take_number(), count = take_number();
+    struct numbers index = lend_numbers(take_room());
+    put_numbers(&index, take_count());
+    struct lent file = lend_string();
+    print_day(gdt_day_append(file.at, file.length, old, index.at, index.count, count), &index, &file);
+    take_numbers_back(&index);
+    take_back(&file);
+}
+
+static void case_day_find(void)
+{
+    struct numbers out = lend_numbers(take_room());
+    struct lent file = lend_string();
+    size_t numbers = take_count();
+    struct numbers index = lend_numbers(numbers);
+    put_numbers(&index, numbers);
+    struct lent asked = lend_string();
+    struct gdt_made made = gdt_day_find(file.at, file.length, index.at, index.count, asked.at, asked.length, out.at, out.count);
+    if (made.no != 0) {
+        bool same = kept(&file) && numbers_kept(&index, 0) && kept(&asked) && numbers_kept(&out, 0);
+        print_refused(made.no, made.place, made.label, same && made.count == 0);
+    } else {
+        size_t count = made.count < out.count ? made.count : out.count;
+        expect_done(made.place, made.label);
+        printf("ok %zu", made.count);
+        for (size_t i = 0; i < count; i++) {
+            printf(" %zu", out.at[i]);
+        }
+        printf(" %s\n", word(numbers_kept(&out, count)));
+    }
+    take_numbers_back(&out);
+    take_back(&file);
+    take_numbers_back(&index);
+    take_back(&asked);
+}
+
 int main(void)
 {
     read_stream();
@@ -310,6 +426,9 @@ int main(void)
         case 'w': case_made(gdt_write); break;
         case 'c': case_correct(); break;
         case 'v': case_view(); break;
+        case 'd': case_day_build(); break;
+        case 'a': case_day_append(); break;
+        case 'f': case_day_find(); break;
         default: stop("unknown case");
         }
         fflush(NULL); /* the lines before a case that ends the program are seen */

@@ -7,21 +7,22 @@ import os
 import random
 import sys
 
+import days
 import sets
 from rows import FIELDS, SET_TABLES, marked
-from stream import CALLS, NUMBERS, ROOT, Case, answers, entries, packed
+from stream import CALLS, DAY_ENTRY, LISTS, NUMBERS, ROOT, Case, answers, day_sets, entries, packed
 
 SET_FAULTS = range(1, 18)
 FOUND_FIRST = range(2, 8)  # faults of lines that come before all rules
 FAR = 0.05  # how many of the sets and lists with such faults have far places
 ADDING = (2, 3, 11, 12, 13, 21)  # faults that may add a line or an entry
 MANY_LINES = 400
-STORED_CASES = 1200
+STORED_CASES, STORED_DAYS = 1200, 500  # of each call on sets, of each day call
 STORED_SEED = 21
 ROWS = "rows"  # the stored stream that goes through the tables row by row
 
-# Of a call's cases at least this many in a hundred must be accepted, meet each number, have over 400 lines.
-LEAST_ACCEPTED, LEAST_NUMBER, LEAST_LONG = 30, 0.1, 1
+# Of a call's cases at least this many in a hundred must be accepted, meet each number, have over 400 lines (of a day call: sets); of lookups find a set.
+LEAST_ACCEPTED, LEAST_NUMBER, LEAST_LONG, LEAST_FOUND = 30, 0.1, 1, 15
 
 # ---- Sets and lists with given faults: those that leave the least standing are made last ----------------------------------------------
 
@@ -218,7 +219,78 @@ def view_case(r, faults):
     return {"line": line, "set": data, "sheet": b"".join(found)}
 
 
-MAKERS = {"w": write_case, "c": correct_case, "v": view_case}
+# ---- A case of each day call that has given faults ------------------------------------------------------------------------------------
+
+
+def place_for(r, faults, count):
+    """Which of this many sets gets a fault. If it is the only one, it is a set in which it stays that fault: a line is cut only at the end of the file, and a set
+    that does not start with 8000 would belong to the one before it."""
+    if faults == (8,):
+        return 0
+    if len(faults) == 1 and faults[0] in (2, 3, 7):
+        return count - 1
+    return r.choice((0, count - 1, r.randrange(count), r.randrange(count)))
+
+
+def damaged_file(r, faults):
+    """A day file with these faults: those of sets in one of its sets, or each in another."""
+    found = days.day_file(r, days.MOST_SETS + r.choice((1, 1, 2)) if 23 in faults else days.set_count(r))
+    own = [no for no in faults if no in SET_FAULTS]
+    for made in [own] if own and r.random() < 0.5 else [[no] for no in own]:
+        found[place_for(r, faults, len(found))] = b"".join(set_with(r, made))
+    return found
+
+
+def build_case(r, faults):
+    found = damaged_file(r, faults) if faults or r.random() < 0.95 else []
+    after = follower(r) if len(faults) > 1 and r.random() < 0.1 else b""
+    return {"lent": days.lent_for(r, len(found), 22 not in faults), "file": b"".join(found) + after}
+
+
+def old_file(r, most):
+    """What stands before an appended set, at most this many sets, with their index and its count; one in four is foreign, as neither is looked at."""
+    found = days.day_file(r, min(most, days.set_count(r)) if r.random() < 0.85 else 0)
+    data, index, count = b"".join(found), days.index_of(found), len(found)
+    if r.random() < 0.25:
+        data = r.choice((data, b"x", b"0138000", data[1:], data[:-1], b"".join(set_with(r, (r.randint(2, 17),)))[:300]))
+        index = days.foreign(r, index)
+        count = r.choice((0, len(index) // DAY_ENTRY, len(index) // DAY_ENTRY + 1, r.randrange(40)))
+    elif r.random() < 0.01:
+        count = days.MOST_SETS - 1
+    return data, index, min(count, most)
+
+
+def append_case(r, faults):
+    data, index, count = old_file(r, days.MOST_SETS if 23 in faults else days.MOST_SETS - 1)
+    old = len(data)
+    data += b"".join(set_with(r, [no for no in faults if no in SET_FAULTS]))
+    if 18 in faults and r.random() < 0.5:
+        data += r.choice((b"xyz8000", b"".join(set_with(r, ())), b"".join(set_with(r, (r.randint(9, 17),)))))
+    elif 18 in faults:
+        old = len(data) + r.choice((1, 2, 1000, 2**32, days.MOST_NUMBER - len(data)))
+    if 23 in faults:
+        count = max(count, r.choice((days.MOST_SETS, days.MOST_SETS, days.MOST_SETS + 1, 2**32, 2**62 - 1, 2**62, days.MOST_NUMBER)))
+    lent = days.lent_for(r, min(count, days.MOST_SETS) + 1, 22 not in faults)
+    return {"old": old, "count": count, "lent": lent, "index": index[:lent], "file": data}
+
+
+def find_case(r, faults):
+    found = days.day_file(r, days.set_count(r))
+    data, index = b"".join(found), days.index_of(found)
+    asked = days.asked_at(r, data, r.choice(index[DAY_ENTRY - 1 :: DAY_ENTRY]))
+    if r.random() < 0.3:
+        index = days.foreign(r, index)
+    if r.random() < 0.4:
+        index = days.moved(r, data, index, asked)
+    if r.random() < 0.1:
+        data = days.bent(r, data, asked)
+    need = days.matches(data, index, asked)
+    if 22 in faults and need == 0:
+        return find_case(r, faults)
+    return {"room": room_for(r, need, 22 not in faults), "file": data, "index": index, "asked": asked}
+
+
+MAKERS = {"w": write_case, "c": correct_case, "v": view_case, "d": build_case, "a": append_case, "f": find_case}
 
 
 def case_with(r, call, faults):
@@ -231,11 +303,30 @@ def case_with(r, call, faults):
 
 
 def some_faults(r, numbers, turn):
-    """In turn each two neighbours, whose order is easy to mistake, and any two or three of the numbers a call can give."""
+    """In turn each two neighbours, whose order is easy to mistake, and any two or three of the numbers a call can give; if it can give one, that one or none."""
+    if len(numbers) == 1:
+        return numbers[: turn % 2]
     if turn % 2:
         at = turn // 2 % (len(numbers) - 1)
         return numbers[at : at + 2]
     return sorted(set(r.choices(numbers, k=r.choice((2, 3)))))
+
+
+def damage(r, case):
+    """Changes one of the things that a call is given, blindly."""
+    name = r.choice(CALLS[case.call][1])
+    value = case.args[name]
+    if name in NUMBERS:
+        case.args[name] = max(0, value + r.choice((-20, -2, -1, 1, 2, 20)))
+    else:
+        case.args[name] = days.scrambled(r, value) if name in LISTS else sets.scrambled(r, value)
+    if "lent" in case.args and "index" in case.args:
+        del case.args["index"][case.args["lent"] :]
+
+
+def rare(call, no):
+    """Whether a number takes so long an input that it is made less often than others."""
+    return no == 7 or (call, no) == ("d", 23)
 
 
 def cases(seed, count, calls):
@@ -244,7 +335,7 @@ def cases(seed, count, calls):
     turns = collections.Counter()
     for _ in range(count):
         for call in calls:
-            numbers = [no for no in CALLS[call][2] if no != 7 or r.random() < 0.3]
+            numbers = [no for no in CALLS[call][2] if not rare(call, no) or r.random() < 0.3]
             way = r.random()
             if way < 0.42:
                 yield case_with(r, call, ()), 0
@@ -256,11 +347,7 @@ def cases(seed, count, calls):
                 yield case_with(r, call, some_faults(r, numbers, turns[call])), None
             else:
                 case = case_with(r, call, ())
-                name = r.choice(CALLS[call][1])
-                if name in NUMBERS:
-                    case.args[name] = max(0, case.args[name] + r.choice((-20, -2, -1, 1, 2, 20)))
-                else:
-                    case.args[name] = sets.scrambled(r, case.args[name])
+                damage(r, case)
                 yield case, None
 
 
@@ -300,22 +387,68 @@ def again_cases():
             yield Case("w", {"room": 200, "list": b"".join(sets.entries_of(plain_fields(set_type, None) + [again]))})
 
 
+def build_edges():
+    """For day_build: every room around what no, one and two sets need; just as many sets as there may be, and more, with a bad set after them or none."""
+    r = random.Random(STORED_SEED)
+    for count in range(3):
+        for lent in range(DAY_ENTRY * (count + 1)):
+            yield Case("d", {"lent": lent, "file": b"".join(days.day_file(r, count))})
+    for count in range(days.MOST_SETS - 1, days.MOST_SETS + 3):
+        for after in (b"", b"xyz8000", b"0138000", b"".join(set_with(r, (17,)))):
+            for lent in (DAY_ENTRY * count, DAY_ENTRY * count - 1):
+                yield Case("d", {"lent": lent, "file": b"".join(days.day_file(r, count)) + after})
+
+
+def append_edges():
+    """For day_append: every room around what few sets need; counts around the most sets and where four times the count is too large a number; old lengths
+    around each set and where their sum with a place is too large a number."""
+    found = [days.small_set(b"7", False), days.small_set(b"\xff", True), days.small_set(b"10027", False)]
+    index, data, old = days.index_of(found[:2]), b"".join(found), len(found[0] + found[1])
+    for count in range(4):
+        for lent in range(DAY_ENTRY * (count + 2)):
+            yield Case("a", {"old": old, "count": count, "lent": lent, "index": index[:lent], "file": data})
+    for count in (days.MOST_SETS - 2, days.MOST_SETS - 1, days.MOST_SETS, days.MOST_SETS + 1, 2**62 - 1, 2**62, 2**63 - 1, days.MOST_NUMBER):
+        for lent in (len(index), DAY_ENTRY * days.MOST_SETS - 1, DAY_ENTRY * days.MOST_SETS):
+            yield Case("a", {"old": old, "count": count, "lent": lent, "index": index, "file": data})
+    near = [place + step for place in (0, len(found[0]), old, len(data)) for step in (-1, 0, 1) if place + step >= 0]
+    for place in near + [old + 2**32, 2**63, days.MOST_NUMBER]:
+        yield Case("a", {"old": place, "count": 2, "lent": DAY_ENTRY * 3, "index": index, "file": data})
+
+
+def find_edges():
+    """For day_find: an index with every place of a file, some after it and the last numbers; asked for what stands there, parts of it, more than it, nothing.
+    The file is whole, has other line ends, or is cut in its last line."""
+    whole = days.small_set(b"77", True) + days.small_set(b"7\xff", False) + days.small_set(b"77", False)
+    places = [*range(len(whole) + 3), *range(2**32 + 30, 2**32 + 40), *range(days.MOST_NUMBER - 5, days.MOST_NUMBER + 1)]
+    index = [number for place in places for number in (0, 51, 6300, place)]
+    bent = [whole.replace(b"77\r\n", b"77" + end) for end in (b"\r\r", b"\n\n", b"\n\r")]
+    for data in (whole, *bent, whole[:-1], whole[:-2], whole[-4:], b"\r\n", b"\n", b""):
+        for asked in (b"77", b"7", b"", b"777", b"\xff", b"\xff7", b" 7", b"\x1f", b"\r\n", b"77\r\n", b"77\r\n014921802.10"):
+            need = days.matches(data, index, asked)
+            for room in sorted({0, max(need - 1, 0), need, need + 1}):
+                yield Case("f", {"room": room, "file": data, "index": index, "asked": asked})
+
+
 # ---- What a stream meets ----------------------------------------------------------------------------------------------------------------
 
 
-def line_count(case):
+def is_long(case):
+    """Whether a set or list has over 400 lines, a day file or its index over 400 sets."""
+    if "file" in case.args:
+        return max(len(day_sets(case.args["file"])), len(case.args.get("index", [])) // DAY_ENTRY) > days.MANY_SETS
     if case.call == "w":
-        return len(entries(case.args["list"])) + 1
-    return case.args["buffer" if case.call == "c" else "set"].count(b"\r\n")
+        return len(entries(case.args["list"])) + 1 > MANY_LINES
+    return case.args["buffer" if case.call == "c" else "set"].count(b"\r\n") > MANY_LINES
 
 
 def met(found, lines):
-    """For each call how many cases had each answer (0: accepted, "long": over 400 lines, "all")."""
+    """For each call how many cases had each answer (0: accepted, "long": over 400 lines or sets, "found": a lookup that found a set, "all")."""
     counts = collections.defaultdict(collections.Counter)
     for case, line in zip(found, lines):
         words = line.split(" ", 2)
         counts[case.call]["all"] += 1
-        counts[case.call]["long"] += line_count(case) > MANY_LINES
+        counts[case.call]["long"] += is_long(case)
+        counts[case.call]["found"] += case.call == "f" and words[0] == "ok" and words[1] != "0"
         counts[case.call][int(words[1]) if words[0] == "refused" else 0] += 1
     return counts
 
@@ -324,8 +457,11 @@ def shortfalls(counts):
     """What is met too seldom, as sentences."""
     out = []
     for call, count in counts.items():
-        name, _, numbers = CALLS[call]
-        least = {0: ("accepted", LEAST_ACCEPTED), "long": ("over 400 lines", LEAST_LONG), **{no: ("refused by %d" % no, LEAST_NUMBER) for no in numbers}}
+        name, form, numbers = CALLS[call]
+        least = {0: ("accepted", LEAST_ACCEPTED), **{no: ("refused by %d" % no, LEAST_NUMBER) for no in numbers}}
+        least["long"] = ("over 400 sets" if "file" in form else "over 400 lines", LEAST_LONG)
+        if call == "f":
+            least["found"] = ("that find a set", LEAST_FOUND)
         for key, (what, percent) in least.items():
             if 100 * count[key] < percent * count["all"]:
                 out.append("%s: %d of %d cases %s, at least %s %% are wanted" % (name, count[key], count["all"], what, percent))
@@ -335,12 +471,12 @@ def shortfalls(counts):
 def histogram(counts):
     """A table in percent: a row for each answer, a column for each call."""
     calls = list(counts)
-    rows = [("cases", "all"), ("> 400", "long"), ("ok", 0)] + [(str(no), no) for no in range(1, 23)]
-    out = ["%7s" % "" + "".join("%9s" % CALLS[call][0] for call in calls)]
+    rows = [("cases", "all"), ("> 400", "long"), ("found", "found"), ("ok", 0)] + [(str(no), no) for no in range(1, 24)]
+    out = ["%7s" % "" + "".join("%11s" % CALLS[call][0] for call in calls)]
     for name, key in rows:
         cells = [str(counts[call][key]) if key == "all" else "%.2f" % (100 * counts[call][key] / counts[call]["all"]) for call in calls]
-        cells = ["-" if isinstance(key, int) and key > 0 and key not in CALLS[call][2] else cell for call, cell in zip(calls, cells)]
-        out.append("%7s" % name + "".join("%9s" % cell for cell in cells))
+        none = [call != "f" if key == "found" else key not in (*CALLS[call][2], "all", "long", 0) for call in calls]
+        out.append("%7s" % name + "".join("%11s" % ("-" if no else cell) for no, cell in zip(none, cells)))
     return out
 
 
@@ -360,8 +496,13 @@ def check(found, aims):
 
 def store():
     """Writes the stored streams: one for each call, and one for the rows."""
-    streams = {CALLS[call][0]: [case for case, _ in cases(STORED_SEED, STORED_CASES, call)] for call in CALLS}
+    streams = {}
+    for call, (name, form, _) in CALLS.items():
+        streams[name] = [case for case, _ in cases(STORED_SEED, STORED_DAYS if "file" in form else STORED_CASES, call)]
     streams["write"] += again_cases()
+    streams["day_build"] += build_edges()
+    streams["day_append"] += append_edges()
+    streams["day_find"] += find_edges()
     streams[ROWS] = row_cases()
     for name, found in streams.items():
         with open(os.path.join(ROOT, "harness", "streams", name + ".xz"), "wb") as file:

@@ -67,6 +67,47 @@ static size_t stacked_view_copy(const uint8_t *set, size_t set_length, const uin
     return gdt_view_copy(set, set_length, sheet, sheet_length, line, out, room);
 }
 
+static struct gdt_made stacked_day_build(const uint8_t *file, size_t file_length, size_t *index, size_t numbers)
+{
+    struct gdt_made reply;
+    measure("day_build", (void *)gdt_day_build, WORDS(W(&reply), W(file), file_length, W(index), numbers));
+    return gdt_day_build(file, file_length, index, numbers);
+}
+
+static struct gdt_made stacked_day_append(const uint8_t *file, size_t file_length, size_t old, size_t *index, size_t numbers, size_t count)
+{
+    struct gdt_made reply;
+    measure("day_append", (void *)gdt_day_append, WORDS(W(&reply), W(file), file_length, old, W(index), numbers, count));
+    return gdt_day_append(file, file_length, old, index, numbers, count);
+}
+
+/* A lookup takes one word more than a painted stack passes: it is made by a function that is given them in a record. What that function
+   takes, 80 bytes, is counted too. */
+struct find {
+    const uint8_t *file;
+    size_t file_length;
+    const size_t *index;
+    size_t numbers;
+    const uint8_t *asked;
+    size_t asked_length;
+    size_t *out;
+    size_t room;
+};
+
+static void make_find(struct gdt_made *reply, const struct find *f)
+{
+    *reply = gdt_day_find(f->file, f->file_length, f->index, f->numbers, f->asked, f->asked_length, f->out, f->room);
+}
+
+static struct gdt_made stacked_day_find(const uint8_t *file, size_t file_length, const size_t *index, size_t numbers, const uint8_t *asked,
+                                        size_t asked_length, size_t *out, size_t room)
+{
+    struct gdt_made reply;
+    const struct find given = {file, file_length, index, numbers, asked, asked_length, out, room};
+    measure("day_find", (void *)make_find, WORDS(W(&reply), W(&given)));
+    return gdt_day_find(file, file_length, index, numbers, asked, asked_length, out, room);
+}
+
 #define gdt_judge stacked_judge
 #define gdt_index stacked_index
 #define gdt_list stacked_list
@@ -74,4 +115,7 @@ static size_t stacked_view_copy(const uint8_t *set, size_t set_length, const uin
 #define gdt_correct stacked_correct
 #define gdt_view stacked_view
 #define gdt_view_copy stacked_view_copy
+#define gdt_day_build stacked_day_build
+#define gdt_day_append stacked_day_append
+#define gdt_day_find stacked_day_find
 #include "cases.c"

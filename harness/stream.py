@@ -18,15 +18,21 @@ CALLS = {
     "w": ("write", ("room", "list"), [1, *range(6, 10), *range(11, 17), 21, 22]),
     "c": ("correct", ("used", "line", "content", "buffer"), [*range(1, 21), 22]),
     "v": ("view", ("line", "set", "sheet"), [*range(1, 22)]),
+    "d": ("day_build", ("lent", "file"), [*range(2, 18), 22, 23]),
+    "a": ("day_append", ("old", "count", "lent", "index", "file"), [*range(1, 19), 22, 23]),
+    "f": ("day_find", ("room", "file", "index", "asked"), [22]),
 }
-NUMBERS = ("room", "used", "line")
-STORED = ("correct", "index", "judge", "list", "rows", "view", "write")  # the streams of harness/streams/
+NUMBERS = ("room", "used", "line", "lent", "old", "count")
+LISTS = ("index",)  # of numbers; all others are bytes
+DAY_ENTRY = 4  # numbers that a set has in the index of a day file
+STORED = ("correct", "day_append", "day_build", "day_find", "index", "judge", "list", "rows", "view", "write")  # the streams of harness/streams/
+MOST_ROWS = 600  # of a set, a day file or its index that are shown
 NOTHING = b"j" + bytes(8)  # the shortest stream of one case: judge is given no bytes
 
 
 class Case(NamedTuple):
     call: str
-    args: Dict[str, Union[int, bytes]]
+    args: Dict[str, Union[int, bytes, List[int]]]
 
 
 class Answers(NamedTuple):
@@ -41,8 +47,9 @@ def packed(case):
         value = case.args[name]
         if name in NUMBERS:
             out.append(struct.pack("<Q", value))
-        else:
-            out += [struct.pack("<Q", len(value)), value]
+            continue
+        data = struct.pack("<%dQ" % len(value), *value) if name in LISTS else value
+        out += [struct.pack("<Q", len(data)), data]
     return b"".join(out)
 
 
@@ -58,6 +65,8 @@ def unpacked(stream):
             if name not in NUMBERS:
                 value = stream[at : at + value]
                 at += len(value)
+            if name in LISTS:
+                value = list(struct.unpack("<%dQ" % (len(value) // 8), value))
             args[name] = value
         cases.append(Case(call, args))
     return cases
@@ -110,14 +119,36 @@ def lines(data):
     return re.findall(rb"[^\n]*\n|[^\n]+", data)
 
 
+def day_sets(data):
+    """Bytes cut before each line that starts a set."""
+    found = [b""]
+    for piece in lines(data):
+        if piece[3:7] == b"8000" and found[-1]:
+            found.append(b"")
+        found[-1] += piece
+    return found if data else []
+
+
+def fours(index):
+    """The entries of an index; the last one may have fewer numbers."""
+    return [index[at : at + DAY_ENTRY] for at in range(0, len(index), DAY_ENTRY)]
+
+
 def text(data):
     """Bytes as text, those that are not plain letters as in C."""
     names = {13: "\\r", 10: "\\n", 92: "\\\\"}
     return "".join(names.get(byte) or (chr(byte) if 32 <= byte < 127 else "\\x%02x" % byte) for byte in data)
 
 
+def few(rows):
+    """The first and the last of very many rows; else all of them."""
+    if len(rows) <= MOST_ROWS:
+        return rows
+    return rows[: MOST_ROWS // 2] + ["         .. %d more .." % (len(rows) - MOST_ROWS)] + rows[-(MOST_ROWS // 2) :]
+
+
 def told(case):
-    """A case in lines of text: its call, its numbers, sets line by line and lists entry by entry with their places."""
+    """A case in lines of text: its call, its numbers, sets line by line, lists entry by entry with their places, an index set by set."""
     name, form, _ = CALLS[case.call]
     out = ["call    " + name]
     for arg in form:
@@ -125,14 +156,17 @@ def told(case):
         if arg in NUMBERS:
             out.append("%-7s %d" % (arg, value))
             continue
-        out.append("%-7s %d bytes" % (arg, len(value)))
-        if arg in ("list", "sheet"):
+        out.append("%-7s %d %s" % (arg, len(value), "numbers" if arg in LISTS else "bytes"))
+        if arg in LISTS:
+            out += few(["%7d  %s" % (number, ":".join(map(str, row))) for number, row in enumerate(fours(value), 1)])
+        elif arg in ("list", "sheet"):
             out += ["%7d  %5d %s" % (at, label, text(content)) for at, label, content in entries(value)]
-        elif arg == "content":
+        elif arg in ("content", "asked"):
             out.append("         " + text(value))
         else:
-            at = 0
+            at, rows = 0, []
             for piece in lines(value):
-                out.append("%7d  %s" % (at, text(piece)))
+                rows.append("%7d  %s" % (at, text(piece)))
                 at += len(piece)
+            out += few(rows)
     return out

@@ -1,8 +1,9 @@
-/* gdt.c: reading, writing and correcting GDT 2.1 sets, all functions of gdt.h.
+/* gdt.c: reading, writing and correcting GDT 2.1 sets, and the index of a day file, all functions of gdt.h.
 
    Order of the file: limits and records; the rows; contents; the line syntax and the entries of a list; groups; the rules of a
-   line; a whole set and a whole list; the public functions. Words in quotes are the rules paper's, and a bare number such as 14 is
-   one of its numbered replies. "B12" and the like are points of docs/DECISIONS.md. */
+   line; a whole set and a whole list; the public functions; the day file (request E1) with its public functions. Words in quotes
+   are the rules paper's, for the day file the request's, and a bare number such as 14 is one of the numbered replies. "B12", "E1a"
+   and the like are points of docs/DECISIONS.md. */
 #include "gdt.h"
 
 #include <string.h>
@@ -16,13 +17,19 @@ enum {
     LINE_LEAST = 10,              /* "lengths run 010 to 999" */
     LINE_HEAD = 7,                /* length and label stand before the content */
     LINE_FRAME = 9,               /* "Length = content + 9" */
+    LINE_END = 2,                 /* 0Dh 0Ah stand after the content */
     SET_BYTES = 99999,            /* 8100 has five digits */
     SUM_LINE = 14,                /* the length of line 2 */
     SUM_DIGITS = 20,              /* the place of the digits of 8100: line 1 has 13 bytes */
     SUM_WIDTH = 5,
+    THIRD_LINE = 27,              /* the place of line 3: lines 1 and 2 have 13 and 14 bytes */
     ENTRY_HEAD = 4,               /* content length and label of a list entry */
-    ENTRY_BYTES = ENTRY_HEAD + 65535
+    ENTRY_BYTES = ENTRY_HEAD + 65535,
+    DAY_SETS = 2048               /* "at most 2,048 sets" in a day file */
 };
+
+/* An entry of a day file's index: "for each set its offset, length, type and place of the 3000 content". Four numbers (E1i). */
+enum { DAY_OFFSET, DAY_LENGTH, DAY_TYPE, DAY_PLACE, DAY_NUMBERS };
 
 /* A line of a set or an entry of a list: the place of its first byte, its label, the length of its content, the number of its
    header's line (0 outside groups and pairs), and its row. */
@@ -947,4 +954,133 @@ size_t gdt_view_copy(const uint8_t *set, size_t set_length, const uint8_t *sheet
         memcpy(out, (viewed.flag == 1 ? sheet : set) + viewed.at, viewed.length);
     }
     return viewed.length;
+}
+
+/* ---- The day file ---------------------------------------------------------------------------------------------------------- */
+
+/* A refusal of the set at offset `at`: "the set's own, placed in the file". 18 is not the set's own, so its place stays (E1c). */
+static struct refusal in_file(struct refusal refusal, size_t at)
+{
+    if (refusal.no != 0 && refusal.no != GDT_BAD_USE) {
+        refusal.place += at;
+    }
+    return refusal;
+}
+
+/* How many entries stand in a slice of numbers: only whole fours count (E1i). */
+static size_t entries_of(size_t numbers)
+{
+    return numbers / DAY_NUMBERS;
+}
+
+/* Writes the entry of the set at offset `at`, and answers the set's length. The set is accepted, so 8100 is its length, and line 3
+   or a later one is 3000; the lines before that one are skipped by their lengths alone. */
+static size_t put_day_entry(size_t *entry, const uint8_t *file, size_t at)
+{
+    const uint8_t *set = file + at;
+    size_t length = sum_of(set + SUM_DIGITS), line = THIRD_LINE;
+    while (memcmp(set + line + 3, "3000", 4) != 0) {
+        line += digit(set[line]) * 100 + two_digits(set + line + 1);
+    }
+    entry[DAY_OFFSET] = at;
+    entry[DAY_LENGTH] = length;
+    entry[DAY_TYPE] = two_digits(set + LINE_HEAD) * 100 + two_digits(set + LINE_HEAD + 2);
+    entry[DAY_PLACE] = at + line + LINE_HEAD;
+    return length;
+}
+
+/* Each set by its own refusals, then by 23 (E1a); then 22. "A file of no bytes has none" (E1e). A set after the 2,049th is never
+   judged. The entries are written in a second walk, since a refusal must leave the index as it was. */
+struct gdt_made gdt_day_build(const uint8_t *file, size_t file_length, size_t *index, size_t numbers)
+{
+    struct lines set;
+    size_t at = 0, count = 0;
+    while (at < file_length) {
+        struct refusal refusal = in_file(read_set(&set, file + at, file_length - at), at);
+        if (refusal.no == 0 && count == DAY_SETS) {
+            refusal = refuse(GDT_TOO_MANY_SETS, at, 0);
+        }
+        if (refusal.no != 0) {
+            return refused(refusal);
+        }
+        at += set.length;
+        count++;
+    }
+    if (count > entries_of(numbers)) {
+        return refused(refuse(GDT_NO_ROOM, count, 0));
+    }
+    at = 0;
+    for (size_t i = 0; i < count; i++) {
+        at += put_day_entry(index + i * DAY_NUMBERS, file, at);
+    }
+    return made_of(count);
+}
+
+/* "18 in appending, as in corrections; the set's own, placed in the file", 18 (second set), 23, 22 (E1b). Nothing after the old
+   length is 1 there (E1e). The old entries are not looked at; any count is taken (E1d). */
+struct gdt_made gdt_day_append(const uint8_t *file, size_t file_length, size_t old, size_t *index, size_t numbers, size_t count)
+{
+    struct lines set;
+    struct refusal refusal;
+    if (old > file_length) {
+        return refused(refuse(GDT_BAD_USE, file_length, 0));
+    }
+    refusal = in_file(read_lone_set(&set, file + old, file_length - old), old);
+    if (refusal.no != 0) {
+        return refused(refusal);
+    }
+    if (count >= DAY_SETS) {
+        return refused(refuse(GDT_TOO_MANY_SETS, old, 0));
+    }
+    if (count >= entries_of(numbers)) {
+        return refused(refuse(GDT_NO_ROOM, count + 1, 0));
+    }
+    put_day_entry(index + count * DAY_NUMBERS, file, old);
+    return made_of(count + 1);
+}
+
+/* What a lookup asks for: the asked bytes, and the last place in the file from which they and 0Dh 0Ah have room. */
+struct asked {
+    const uint8_t *bytes;
+    size_t length, last;
+};
+
+/* Whether "the asked bytes, none under 20h, and 0Dh 0Ah stand at its place": that of the entry, "also of a foreign index". Its
+   other numbers are not looked at (E1g). The end is tested first: contents of another length fail there. */
+static int matches(const struct asked *asked, const uint8_t *file, const size_t *entry)
+{
+    const uint8_t *content, *end;
+    if (entry[DAY_PLACE] > asked->last) {
+        return 0;
+    }
+    content = file + entry[DAY_PLACE];
+    end = content + asked->length;
+    return end[0] == '\r' && end[1] == '\n' && memcmp(content, asked->bytes, asked->length) == 0;
+}
+
+/* "Lookup answers all sets whose 3000 content has the same bytes, each once, in file order", by their numbers from 1 (E1h). Asked
+   bytes that have one under 20h, or that do not fit into the file with 0Dh 0Ah, match nothing (E1g). 22 is the only refusal. The
+   first pass counts; the second writes, and ends with the last match. */
+struct gdt_made gdt_day_find(const uint8_t *file, size_t file_length, const size_t *index, size_t numbers, const uint8_t *asked,
+                             size_t asked_length, size_t *out, size_t room)
+{
+    struct asked want = {asked, asked_length, 0};
+    size_t entries = entries_of(numbers), found = 0, written = 0;
+    if (file_length < LINE_END || asked_length > file_length - LINE_END || first_low_byte(asked, asked_length) < asked_length) {
+        return made_of(0);
+    }
+    want.last = file_length - LINE_END - asked_length;
+    for (size_t i = 0; i < entries; i++) {
+        found += matches(&want, file, index + i * DAY_NUMBERS) ? 1 : 0;
+    }
+    if (found > room) {
+        return refused(refuse(GDT_NO_ROOM, found, 0));
+    }
+    for (size_t i = 0; written < found; i++) {
+        if (matches(&want, file, index + i * DAY_NUMBERS)) {
+            out[written] = i + 1;
+            written++;
+        }
+    }
+    return made_of(found);
 }

@@ -1,5 +1,6 @@
 /* test.c: tests of gdt.c: the ten examples of the rules paper, the index that its gdtlist example prints, and cases from
-   the points B1 to B44 of docs/DECISIONS.md. Each checks the reply and every byte of the lent buffers, which stand between guard bytes.
+   the points B1 to B44 and E1a to E1i of docs/DECISIONS.md. Each checks the reply and every byte of the lent buffers, which stand
+   between guard bytes.
    Prints `ok - NAME` or `FAILED - NAME` for each, and answers 1 if any failed.
 
    Sets, lists and sheets are given as text: lines or entries parted by `|`, each four digits (label, or line number in a sheet)
@@ -24,6 +25,9 @@
 #define MANY 600
 
 enum { GUARD = 64, CAP = 120000 };
+
+/* The most sets of a day file, and the most numbers that a test lends: an entry more, and a rest of three. */
+enum { SETS = 2048, NUMBERS = 4 * (SETS + 1) + 3 };
 
 static int failures;
 
@@ -264,6 +268,75 @@ static int views(const struct bytes *set, const struct bytes *sheet, size_t line
     return holds(&lent_in, set->of) & holds(&lent_also, sheet->of) & equal(have, want)
         & copies(set, sheet, line, want, 0) & copies(set, sheet, line, want, want.c > 0 ? want.c - 1 : 0)
         & copies(set, sheet, line, want, want.c) & copies(set, sheet, line, want, want.c + 9);
+}
+
+/* What lent numbers should hold. The first of them stands before the slice that a call is given. */
+static size_t kept[1 + NUMBERS];
+
+/* Lends numbers, with a guard more before them: so the slice is aligned as a number is, and no better. */
+static size_t *lend_numbers(struct lent *lent, const size_t *numbers, size_t n)
+{
+    uint8_t *at = lend(lent, numbers, (1 + n) * sizeof *numbers);
+    ASAN_POISON_MEMORY_REGION(at, sizeof *numbers);
+    return (size_t *)(void *)at + 1;
+}
+
+/* Lends that many numbers of noise; `kept` holds them, too. */
+static size_t *lend_noise(struct lent *lent, size_t n)
+{
+    memcpy(kept, noise((1 + n) * sizeof *kept), (1 + n) * sizeof *kept);
+    return lend_numbers(lent, kept, n);
+}
+
+/* The numbers that a call should have written: n of them, from `at` on. */
+static void keep(size_t at, const size_t *numbers, size_t n)
+{
+    for (size_t i = 0; i < n; i++) {
+        kept[1 + at + i] = numbers[i];
+    }
+}
+
+/* The index of a day file in a slice of `numbers`; `made` are the numbers wanted, four for each set. */
+static int builds(const struct bytes *file, size_t numbers, struct reply want, const size_t *made)
+{
+    const uint8_t *bytes = lend(&lent_in, file->of, file->n);
+    struct gdt_made got = gdt_day_build(bytes, file->n, lend_noise(&lent_out, numbers), numbers);
+    struct reply have = {got.no, got.place, got.label, got.count, 0, 0};
+    keep(0, made, 4 * want.a);
+    return holds(&lent_in, file->of) & holds(&lent_out, kept) & equal(have, want);
+}
+
+/* The set after the first `old` bytes, added to an index of `count` entries of noise; `made` is the entry wanted. */
+static int appends(const struct bytes *file, size_t old, size_t numbers, size_t count, struct reply want, const size_t *made)
+{
+    const uint8_t *bytes = lend(&lent_in, file->of, file->n);
+    struct gdt_made got = gdt_day_append(bytes, file->n, old, lend_noise(&lent_out, numbers), numbers, count);
+    struct reply have = {got.no, got.place, got.label, got.count, 0, 0};
+    if (want.no == 0) {
+        keep(4 * count, made, 4);
+    }
+    return holds(&lent_in, file->of) & holds(&lent_out, kept) & equal(have, want);
+}
+
+/* A lookup of n asked bytes in an index, with room for `room` numbers; `made` are the numbers wanted. */
+static int finds(const struct bytes *file, const size_t *index, size_t numbers, const void *asked, size_t n, size_t room,
+                 struct reply want, const size_t *made)
+{
+    static struct lent lent_index;
+    static size_t numbers_in[1 + NUMBERS];
+    const uint8_t *bytes = lend(&lent_in, file->of, file->n), *also = lend(&lent_also, asked, n);
+    const size_t *entries;
+    struct gdt_made got;
+    struct reply have;
+    for (size_t i = 0; i < numbers; i++) {
+        numbers_in[1 + i] = index[i];
+    }
+    entries = lend_numbers(&lent_index, numbers_in, numbers);
+    got = gdt_day_find(bytes, file->n, entries, numbers, also, n, lend_noise(&lent_out, room), room);
+    have = (struct reply){got.no, got.place, got.label, got.count, 0, 0};
+    keep(0, made, want.a);
+    return holds(&lent_in, file->of) & holds(&lent_also, asked) & holds(&lent_index, numbers_in) & holds(&lent_out, kept)
+        & equal(have, want);
 }
 
 /* ---- Sets ------------------------------------------------------------------------------------------------------------------ */
@@ -648,6 +721,382 @@ static void test_views(void)
     report("B38 a set after the viewed set", views(&two, &sheet, 9, (struct reply){18, 51, 0, 0, 0, 0}));
 }
 
+/* ---- The day file ---------------------------------------------------------------------------------------------------------- */
+
+/* Adds a set to a day file, as text. */
+static void add_set(struct bytes *file, const char *lines)
+{
+    static struct bytes set;
+    make_set(&set, lines);
+    add(file, set.of, set.n);
+}
+
+/* A day of five types. The 3000 line stands at other lines, also after a content that looks like one, and `0` comes back. */
+static const char *const day_sets[] = {
+    P,
+    B,
+    "80006301|8100?????|310301101945|3102John|3101Samplesmith|30002345|921802.10",
+    "80006300|8100?????|831501030000|921802.10|300000",
+    "80006302|8100?????|3000A 7|921802.10|31013000|31023000|310301101945|8410A",
+    "80006311|8100?????|921802.10|30000",
+    "80006310|8100?????|8402EKG01|8410A|84201|8421x|8410A|30000|6330n|63313000|921802.10",
+};
+
+enum { DAY = sizeof day_sets / sizeof *day_sets };
+
+static const size_t day_index[4 * DAY] = {
+    0,   51,  6300, 48,
+    51,  65,  6310, 99,
+    116, 104, 6301, 200,
+    220, 69,  6300, 285,
+    289, 106, 6302, 323,
+    395, 51,  6311, 443,
+    446, 128, 6310, 534,
+};
+
+static void make_day(struct bytes *file)
+{
+    file->n = 0;
+    for (size_t i = 0; i < DAY; i++) {
+        add_set(file, day_sets[i]);
+    }
+}
+
+/* Whether appending each set of a day gives just what building afresh gives. */
+static int grows(const struct bytes *file)
+{
+    int passed = 1;
+    for (size_t i = 0; i < DAY; i++) {
+        struct bytes *part = &scratch;
+        size_t old = day_index[4 * i], count = i + 1;
+        size_t afresh[4 * DAY] = {0}, grown[4 * DAY] = {0};
+        struct gdt_made made;
+        part->n = 0;
+        add(part, file->of, old + day_index[4 * i + 1]);
+        gdt_day_build(part->of, old, grown, 4 * i);
+        made = gdt_day_append(part->of, part->n, old, grown, 4 * count, i);
+        passed &= made.no == 0 && made.count == count;
+        made = gdt_day_build(part->of, part->n, afresh, 4 * count);
+        passed &= made.no == 0 && made.count == count;
+        passed &= memcmp(afresh, grown, sizeof grown) == 0 && memcmp(grown, day_index, 4 * count * sizeof *grown) == 0;
+    }
+    return passed;
+}
+
+static void test_build(void)
+{
+    static struct bytes file;
+    static const size_t long_last[] = {0, 5135, 6310, 5132, 5135, 51, 6300, 5183};
+    const struct reply all = {0, 0, 0, DAY, 0, 0}, need = {22, DAY, 0, 0, 0, 0};
+    make_day(&file);
+    report("E1 the index of a day", builds(&file, 4 * DAY, all, day_index));
+    report("E1 numbers after the last entry stay", builds(&file, 4 * DAY + 8, all, day_index));
+    report("E1i a rest of one to three numbers is no entry", builds(&file, 4 * DAY + 1, all, day_index)
+           & builds(&file, 4 * DAY + 2, all, day_index) & builds(&file, 4 * DAY + 3, all, day_index)
+           & builds(&file, 4 * DAY - 1, need, NULL) & builds(&file, 4 * DAY - 2, need, NULL)
+           & builds(&file, 4 * DAY - 3, need, NULL) & builds(&file, 4 * DAY - 4, need, NULL) & builds(&file, 3, need, NULL)
+           & builds(&file, 1, need, NULL) & builds(&file, 0, need, NULL));
+    file.n = 0;
+    report("E1e a file of no bytes has no sets", builds(&file, 0, (struct reply){0, 0, 0, 0, 0, 0}, NULL)
+           & builds(&file, 7, (struct reply){0, 0, 0, 0, 0, 0}, NULL));
+    add_all(&file, "80006310|8100?????|921802.10|8402EKG01", add_line);
+    for (size_t i = 0; i < 507; i++) {
+        add_line(&file, "6220x", 5);
+    }
+    add_line(&file, "30007", 5);
+    add_sum(&file);
+    add_set(&file, P);
+    report("E1 3000 as the last of 512 lines", builds(&file, 8, (struct reply){0, 0, 0, 2, 0, 0}, long_last));
+    file.n = 0;
+    add_set(&file, P);
+    for (size_t i = 0; i < 2; i++) {
+        add_all(&file, "80006300|810000052|921802.10|30000", add_line);
+    }
+    report("E1 the first bad set is the one refused, before NoRoom", builds(&file, 16, (struct reply){17, 64, 0, 0, 0, 0}, NULL)
+           & builds(&file, 0, (struct reply){17, 64, 0, 0, 0, 0}, NULL));
+    file.n = 51;
+    add_text(&file, "x");
+    report("E1 a last set that is no set", builds(&file, 16, (struct reply){2, 51, 0, 0, 0, 0}, NULL));
+}
+
+/* Every set of the set cases stands after P: refused as by itself, with its place in the file. Appended, another set after it is
+   18; an accepted one has an entry. For a fresh build its line 1 must not belong to P (E1f); P stands after it, too, if it has no
+   tail. */
+static void test_sets_in_files(void)
+{
+    static struct bytes file, set;
+    int appended = 1, built = 1;
+    for (size_t i = 0; i < sizeof set_cases / sizeof *set_cases; i++) {
+        const struct set_case *c = &set_cases[i];
+        struct reply want = c->want;
+        size_t entry[4] = {51, want.a, want.c, 0};
+        make_set(&set, c->lines);
+        add_text(&set, c->tail);
+        make_set(&file, P);
+        add(&file, set.of, set.n);
+        if (want.no != 0) {
+            want.place += 51;
+        } else if (c->tail[0] != 0) {
+            want = (struct reply){18, want.a, 0, 0, 0, 0};
+        } else {
+            struct gdt_entry lines[MANY];
+            gdt_index(set.of, set.n, lines, MANY);
+            for (size_t k = 0; k < want.b; k++) {
+                entry[3] = lines[k].label == 3000 ? 51 + lines[k].place : entry[3];
+            }
+            want = (struct reply){0, 0, 0, 3, 0, 0};
+        }
+        appended &= appends(&file, 51, 14, 2, want, entry);
+        if (want.no != 0 && want.no != 18 && set.n >= 7 && memcmp(set.of + 3, "8000", 4) == 0) {
+            built &= builds(&file, 8, want, NULL);
+            if (c->tail[0] == 0) {
+                add_set(&file, P);
+                built &= builds(&file, 12, want, NULL);
+            }
+        }
+    }
+    report("E1b every set of the cases, appended to P", appended);
+    report("E1 every bad set of the cases, in the middle of a file", built);
+    make_long(&set, 512);
+    add_text(&set, "x");
+    make_set(&file, P);
+    add(&file, set.of, set.n);
+    report("E1 a 513th line starts, in a file", builds(&file, 8, (struct reply){7, 51 + 5135, 0, 0, 0, 0}, NULL)
+           & appends(&file, 51, 8, 1, (struct reply){7, 51 + 5135, 0, 0, 0, 0}, NULL));
+}
+
+static void test_append(void)
+{
+    static struct bytes file, day;
+    static const size_t of_b[] = {51, 65, 6310, 99}, of_p[] = {0, 51, 6300, 48};
+    const size_t most = (size_t)-1;
+    make_day(&day);
+    report("E1 appending gives what building afresh gives", grows(&day));
+    make_set(&file, P);
+    add_set(&file, B);
+    report("E1 an appended set", appends(&file, 51, 8, 1, (struct reply){0, 0, 0, 2, 0, 0}, of_b));
+    report("E1d the old entries are not looked at", appends(&file, 51, 40, 0, (struct reply){0, 0, 0, 1, 0, 0}, of_b)
+           & appends(&file, 51, 40, 9, (struct reply){0, 0, 0, 10, 0, 0}, of_b));
+    report("E1i a rest of one to three numbers, appending", appends(&file, 51, 9, 1, (struct reply){0, 0, 0, 2, 0, 0}, of_b)
+           & appends(&file, 51, 11, 1, (struct reply){0, 0, 0, 2, 0, 0}, of_b)
+           & appends(&file, 51, 11, 2, (struct reply){22, 3, 0, 0, 0, 0}, NULL)
+           & appends(&file, 51, 7, 1, (struct reply){22, 2, 0, 0, 0, 0}, NULL)
+           & appends(&file, 51, 3, 0, (struct reply){22, 1, 0, 0, 0, 0}, NULL)
+           & appends(&file, 51, 0, 0, (struct reply){22, 1, 0, 0, 0, 0}, NULL));
+    report("E1d a count over the room", appends(&file, 51, 8, 3, (struct reply){22, 4, 0, 0, 0, 0}, NULL)
+           & appends(&file, 51, 8, 2047, (struct reply){22, 2048, 0, 0, 0, 0}, NULL));
+    report("E1d the count 2,047 has room", appends(&file, 51, 4 * SETS, SETS - 1, (struct reply){0, 0, 0, SETS, 0, 0}, of_b));
+    report("E1d a count of 2,048 or more, whatever is lent",
+           appends(&file, 51, 4 * SETS + 4, SETS, (struct reply){23, 51, 0, 0, 0, 0}, NULL)
+           & appends(&file, 51, 0, SETS, (struct reply){23, 51, 0, 0, 0, 0}, NULL)
+           & appends(&file, 51, 8, SETS + 1, (struct reply){23, 51, 0, 0, 0, 0}, NULL)
+           & appends(&file, 51, 8, most / 4 + 1, (struct reply){23, 51, 0, 0, 0, 0}, NULL)
+           & appends(&file, 51, 8, most - 1, (struct reply){23, 51, 0, 0, 0, 0}, NULL)
+           & appends(&file, 51, 8, most, (struct reply){23, 51, 0, 0, 0, 0}, NULL));
+    report("E1e nothing after the old length", appends(&file, 116, 8, 1, (struct reply){1, 116, 0, 0, 0, 0}, NULL)
+           & appends(&file, 116, 0, most, (struct reply){1, 116, 0, 0, 0, 0}, NULL));
+    report("E1b an old length over the file, before all", appends(&file, 117, 8, 1, (struct reply){18, 116, 0, 0, 0, 0}, NULL)
+           & appends(&file, most, 8, 1, (struct reply){18, 116, 0, 0, 0, 0}, NULL)
+           & appends(&file, most, 0, most, (struct reply){18, 116, 0, 0, 0, 0}, NULL));
+    report("E1 an old length inside a set", appends(&file, 13, 8, 1, (struct reply){8, 13, 0, 0, 0, 0}, NULL)
+           & appends(&file, 52, 8, 1, (struct reply){3, 52, 0, 0, 0, 0}, NULL));
+    report("E1c a second set: the first one's length", appends(&file, 0, 8, 0, (struct reply){18, 51, 0, 0, 0, 0}, NULL));
+    add_text(&file, "xyz8000");
+    report("E1c a second set, after an old file", appends(&file, 51, 8, 1, (struct reply){18, 65, 0, 0, 0, 0}, NULL));
+    report("E1b a second set, before 23 and NoRoom", appends(&file, 51, 8, SETS, (struct reply){18, 65, 0, 0, 0, 0}, NULL)
+           & appends(&file, 51, 0, 1, (struct reply){18, 65, 0, 0, 0, 0}, NULL)
+           & appends(&file, 51, 0, most, (struct reply){18, 65, 0, 0, 0, 0}, NULL));
+    file.of[51 + 24]++;
+    report("E1b the set's own, before a second set", appends(&file, 51, 8, 1, (struct reply){17, 64, 0, 0, 0, 0}, NULL)
+           & appends(&file, 51, 0, most, (struct reply){17, 64, 0, 0, 0, 0}, NULL));
+    make_set(&file, P);
+    report("E1 appending to a file of no bytes", appends(&file, 0, 4, 0, (struct reply){0, 0, 0, 1, 0, 0}, of_p));
+    add_set(&file, "80006300|8100?????|921802.10");
+    report("E1b 16 at set level stands at the old length", appends(&file, 51, 8, 1, (struct reply){16, 51, 3000, 0, 0, 0}, NULL));
+    make_set(&file, P);
+    add_all(&file, "80006300", add_line);
+    report("E1b 10 stands at the old length and the set's length",
+           appends(&file, 51, 8, 1, (struct reply){10, 64, 0, 0, 0, 0}, NULL));
+    make_set(&file, P);
+    add_all(&file, "3100a", add_line);
+    report("E1f a line that belongs to the set before it", appends(&file, 51, 8, 1, (struct reply){8, 51, 0, 0, 0, 0}, NULL)
+           & builds(&file, 8, (struct reply){11, 51, 3100, 0, 0, 0}, NULL));
+    file.n = 0;
+    report("E1e no file at all", appends(&file, 0, 4, 0, (struct reply){1, 0, 0, 0, 0, 0}, NULL)
+           & appends(&file, 1, 4, 0, (struct reply){18, 0, 0, 0, 0, 0}, NULL));
+}
+
+/* What stands after 2,048 sets is refused alike by building and by appending, whatever is lent. */
+static int refused_as_last(const struct bytes *file, struct reply want)
+{
+    const size_t old = (size_t)SETS * 51;
+    return builds(file, NUMBERS, want, NULL) & builds(file, 0, want, NULL) & appends(file, old, NUMBERS, SETS, want, NULL)
+        & appends(file, old, 0, SETS, want, NULL);
+}
+
+static void test_many_sets(void)
+{
+    static struct bytes file;
+    static size_t made[4 * SETS], every[SETS];
+    const size_t end = (size_t)SETS * 51;
+    const struct reply all = {0, 0, 0, SETS, 0, 0};
+    file.n = 0;
+    for (size_t i = 0; i < SETS; i++) {
+        const size_t entry[] = {51 * i, 51, 6300, 51 * i + 48};
+        memcpy(made + 4 * i, entry, sizeof entry);
+        every[i] = i + 1;
+        add_set(&file, P);
+    }
+    report("E1 2,048 sets", builds(&file, 4 * SETS, all, made) & builds(&file, NUMBERS, all, made));
+    report("E1 2,048 sets have no room", builds(&file, 4 * SETS - 1, (struct reply){22, SETS, 0, 0, 0, 0}, NULL)
+           & builds(&file, 0, (struct reply){22, SETS, 0, 0, 0, 0}, NULL));
+    report("E1 the last of 2,048 sets is appended", appends(&file, end - 51, NUMBERS, SETS - 1, all, made + 4 * (SETS - 1)));
+    report("E1 2,048 sets are found", finds(&file, made, 4 * SETS, "0", 1, SETS, all, every)
+           & finds(&file, made, 4 * SETS, "0", 1, SETS - 1, (struct reply){22, SETS, 0, 0, 0, 0}, NULL));
+    add_text(&file, "xyz8000");
+    report("E1a a 2,049th set's own refusal comes first", refused_as_last(&file, (struct reply){2, end, 0, 0, 0, 0}));
+    file.n = end;
+    add_all(&file, "80006300|810000052|921802.10|30000", add_line);
+    report("E1a a 2,049th set with a bad sum", refused_as_last(&file, (struct reply){17, end + 13, 0, 0, 0, 0}));
+    file.n = end;
+    add_set(&file, "80006300|8100?????|921802.10");
+    report("E1a a 2,049th set without 3000", refused_as_last(&file, (struct reply){16, end, 3000, 0, 0, 0}));
+    file.n = end;
+    add_set(&file, P);
+    report("E1a a 2,049th set", refused_as_last(&file, (struct reply){23, end, 0, 0, 0, 0}));
+    add_text(&file, "xyz8000");
+    report("E1a a set after the 2,049th is not judged", builds(&file, NUMBERS, (struct reply){23, end, 0, 0, 0, 0}, NULL)
+           & appends(&file, end, NUMBERS, SETS, (struct reply){18, 51, 0, 0, 0, 0}, NULL));
+    file.of[13 + 7]++;
+    report("E1 a bad first set of 2,049", builds(&file, 0, (struct reply){17, 13, 0, 0, 0, 0}, NULL));
+}
+
+static void test_find(void)
+{
+    static struct bytes day;
+    static const size_t three[] = {1, 6, 7}, one[] = {1}, two[] = {2}, third[] = {3}, fourth[] = {4}, fifth[] = {5};
+    const struct reply nothing = {0, 0, 0, 0, 0, 0}, single = {0, 0, 0, 1, 0, 0};
+    static const char *const others[] = {"1", "234", "345", "23456", "000", "A", "A 7 ", "a 7", "3000", "02.10"};
+    int passed = 1;
+    make_day(&day);
+    report("E1h all sets of a patient, in file order",
+           finds(&day, day_index, 4 * DAY, "0", 1, 3, (struct reply){0, 0, 0, 3, 0, 0}, three)
+           & finds(&day, day_index, 4 * DAY, "0", 1, 9, (struct reply){0, 0, 0, 3, 0, 0}, three));
+    report("E1h the matches are the need of 22", finds(&day, day_index, 4 * DAY, "0", 1, 2, (struct reply){22, 3, 0, 0, 0, 0}, NULL)
+           & finds(&day, day_index, 4 * DAY, "0", 1, 0, (struct reply){22, 3, 0, 0, 0, 0}, NULL));
+    report("E1 one set of a patient", finds(&day, day_index, 4 * DAY, "7", 1, 1, single, two)
+           & finds(&day, day_index, 4 * DAY, "2345", 4, 1, single, third)
+           & finds(&day, day_index, 4 * DAY, "00", 2, 1, single, fourth)
+           & finds(&day, day_index, 4 * DAY, "A 7", 3, 4, single, fifth));
+    for (size_t i = 0; i < sizeof others / sizeof *others; i++) {
+        passed &= finds(&day, day_index, 4 * DAY, others[i], strlen(others[i]), 9, nothing, NULL)
+            & finds(&day, day_index, 4 * DAY, others[i], strlen(others[i]), 0, nothing, NULL);
+    }
+    report("E1 a part of a content, and more than it, do not match", passed);
+    report("E1g no asked bytes match no built entry", finds(&day, day_index, 4 * DAY, "", 0, 9, nothing, NULL));
+    report("E1g a byte under 20h matches nothing", finds(&day, day_index, 4 * DAY, "0\r\n01380006310", 14, 9, nothing, NULL)
+           & finds(&day, day_index, 4 * DAY, "0\r\n01380006310", 14, 0, nothing, NULL)
+           & finds(&day, day_index, 4 * DAY, "0\0", 2, 9, nothing, NULL)
+           & finds(&day, day_index, 4 * DAY, "\0", 1, 9, nothing, NULL));
+    report("E1i a rest of one to three numbers is not looked at", finds(&day, day_index, 7, "7", 1, 9, nothing, NULL)
+           & finds(&day, day_index, 27, "0", 1, 2, (struct reply){0, 0, 0, 2, 0, 0}, three)
+           & finds(&day, day_index, 5, "0", 1, 1, single, one) & finds(&day, day_index, 3, "0", 1, 9, nothing, NULL)
+           & finds(&day, day_index, 1, "0", 1, 9, nothing, NULL) & finds(&day, day_index, 0, "0", 1, 0, nothing, NULL));
+}
+
+/* A lookup of a text in a file of text, by an index of one entry with that place; `found` says whether it matches. */
+static const struct find_case {
+    const char *name, *file;
+    size_t place;
+    const char *asked;
+    size_t found;
+} find_cases[] = {
+    {"E1g a foreign file", "ab\r\n", 0, "ab", 1},
+    {"E1g a foreign place inside a content", "ab\r\n", 1, "b", 1},
+    {"E1g an asked text that is longer", "ab\r\n", 0, "abc", 0},
+    {"E1g an asked text that is shorter", "ab\r\n", 0, "a", 0},
+    {"E1g another byte", "ab\r\n", 0, "ac", 0},
+    {"E1g another place", "ab\r\n", 1, "ab", 0},
+    {"E1g the asked bytes end at the file's end", "abab", 2, "ab", 0},
+    {"E1g the asked bytes and 0Dh end at the file's end", "abab\r", 2, "ab", 0},
+    {"E1g the asked bytes, 0Dh and 0Ah end at the file's end", "abab\r\n", 2, "ab", 1},
+    {"E1g 0Ah without 0Dh", "ab \nab\r\n", 0, "ab", 0},
+    {"E1g 0Dh without 0Ah", "ab\r ab\r\n", 0, "ab", 0},
+    {"E1g 0Ah 0Dh", "ab\n\rab\r\n", 0, "ab", 0},
+    {"E1g the whole file, without its end", "ab", 0, "ab", 0},
+    {"E1g asked bytes that are longer than the file", "ab", 0, "abc", 0},
+    {"E1g a file of no bytes", "", 0, "ab", 0},
+    {"E1g a file of no bytes, no asked bytes", "", 0, "", 0},
+    {"E1g a file of one byte, no asked bytes", "\r", 0, "", 0},
+    {"E1g no asked bytes match on 0Dh 0Ah", "ab\r\n", 2, "", 1},
+    {"E1g no asked bytes match on 0Dh 0Ah alone", "\r\n", 0, "", 1},
+    {"E1g no asked bytes on a content", "ab\r\n", 1, "", 0},
+    {"E1g no asked bytes on 0Ah", "ab\r\n", 3, "", 0},
+    {"E1g a place at the file's end, no asked bytes", "ab\r\n", 4, "", 0},
+    {"E1g a place at the file's end", "ab\r\n", 4, "ab", 0},
+    {"E1g a place after the file's end", "ab\r\n", 5, "ab", 0},
+    {"E1g the greatest place", "ab\r\n", (size_t)-1, "ab", 0},
+    {"E1g the greatest place, no asked bytes", "\r\n", (size_t)-1, "", 0},
+    {"E1g a place that wraps onto the file's end", "ab\r\n", (size_t)-4, "ab", 0},
+    {"E1g a place that wraps, no asked bytes", "\r\n\r\n", (size_t)-2, "", 0},
+    {"E1g the asked byte 20h", " \r\n", 0, " ", 1},
+    {"E1g the asked byte FFh", "\xFF\r\n", 0, "\xFF", 1},
+    {"E1g the asked byte 1Fh", "\x1F\r\n", 0, "\x1F", 0},
+    {"E1g a byte under 20h, the last of nine", "abcdefgh\x1F\r\n", 0, "abcdefgh\x1F", 0},
+    {"E1g a byte under 20h, among the first eight", "abc\tefgh\r\n", 0, "abc\tefgh", 0},
+    {"E1g 0Dh 0Ah as asked bytes", "\r\n\r\n", 0, "\r\n", 0},
+};
+
+static void test_foreign_find(void)
+{
+    static struct bytes file;
+    static const size_t one[] = {1}, found[] = {2, 3, 5};
+    const size_t most = (size_t)-1;
+    const size_t foreign[] = {
+        0,    0,    0,    4,  /* another content */
+        most, most, most, 0,  /* only the place is looked at */
+        0,    0,    0,    0,  /* the same place again is another entry */
+        0,    0,    0,    most,
+        9,    9,    9,    8,  /* a place before that of the entry after it */
+        0,    0,    0,    4,
+        0,    0,    0,        /* a rest */
+    };
+    for (size_t i = 0; i < sizeof find_cases / sizeof *find_cases; i++) {
+        const struct find_case *c = &find_cases[i];
+        const size_t index[] = {most, 0, 1, c->place}, n = strlen(c->asked);
+        const struct reply want = {0, 0, 0, c->found, 0, 0}, none = {0, 0, 0, 0, 0, 0}, need = {22, 1, 0, 0, 0, 0};
+        file.n = 0;
+        add_text(&file, c->file);
+        report(c->name, finds(&file, index, 4, c->asked, n, 1, want, one) & finds(&file, index, 4, c->asked, n, 3, want, one)
+               & finds(&file, index, 4, c->asked, n, 0, c->found != 0 ? need : none, NULL));
+    }
+    file.n = 0;
+    add_text(&file, "ab\r\nac\r\nab\r\n");
+    report("E1h each entry of a foreign index by its own number",
+           finds(&file, foreign, 27, "ab", 2, 3, (struct reply){0, 0, 0, 3, 0, 0}, found)
+           & finds(&file, foreign, 27, "ab", 2, 7, (struct reply){0, 0, 0, 3, 0, 0}, found)
+           & finds(&file, foreign, 27, "ab", 2, 2, (struct reply){22, 3, 0, 0, 0, 0}, NULL));
+}
+
+/* A foreign index has any number of entries, and a lookup no limit of its own. */
+static void test_long_find(void)
+{
+    static size_t index[4 * 70000], out[70001];
+    const size_t entries = 70000;
+    struct gdt_made made;
+    int passed;
+    for (size_t i = 0; i < entries; i++) {
+        index[4 * i + 3] = i % 2 * 3;
+    }
+    out[entries / 2] = 77;
+    made = gdt_day_find((const uint8_t *)"x\r\ny\r\n", 6, index, 4 * entries, (const uint8_t *)"y", 1, out, entries);
+    passed = made.no == 0 && made.count == entries / 2 && out[entries / 2] == 77;
+    for (size_t i = 0; i < entries / 2; i++) {
+        passed &= out[i] == 2 * i + 2;
+    }
+    report("E1h more than 65,535 entries", passed);
+}
+
 int main(void)
 {
     test_sets();
@@ -659,5 +1108,12 @@ int main(void)
     test_writer();
     test_corrections();
     test_views();
+    test_build();
+    test_sets_in_files();
+    test_append();
+    test_many_sets();
+    test_find();
+    test_foreign_find();
+    test_long_find();
     return failures != 0;
 }

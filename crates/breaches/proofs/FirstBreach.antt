@@ -33,7 +33,8 @@ use Rattle.keeps.specs.Keeps.{StartsWith, GroupHas, KeepsRules, Keeps}
 use Rattle.keeps.proofs.TableFacts.{no-absurd}
 use Rattle.keeps.proofs.StateLaws.{stateAt}
 use Rattle.keeps.proofs.LackLaws.{after-all}
-use Rattle.keeps.proofs.RulesExact.{of-same, type-digits, type-named, known-type, typed, profile-typed, label-is, faultsAt, rules-each, typed-rules, labels-fine-at, faults-none}
+use Rattle.meaning.proofs.TypeLaws.{known-type, of-same, type-digits, type-named}
+use Rattle.keeps.proofs.RulesExact.{typed, profile-typed, label-is, faultsAt, rules-each, typed-rules, labels-fine-at, faults-none}
 use Rattle.keeps.proofs.Exact.{over-cases, over-of, none-earlier, alone-of, accepted-exactly}
 use Rattle.breaches.specs.Breaches.{lineRank, SetLines, StartBreach, no-start, unknown-set, no-sum, RuleBreach, ruleNumber, always, with-value}
 use Rattle.breaches.specs.Breaches.{with-8438, MissingBreach, of-set, of-group, of-name, TypedLines, Breach, no-bytes, in-line, in-start}

@@ -336,7 +336,7 @@ numbers-not-other h = true≢false (sym (h .0 []))
 abbrev SaysKeeps : {A : Type 0} → (Reply (List A) → List A → List A) → Type 0
 SaysKeeps {A} left = (r : Refusal) (b : List A) → left (refused r) b ≡ b
 
-keeps-says : SaysKeeps bytesLeft × SaysKeeps entriesLeft
+keeps-says : SaysKeeps bytesLeft × SaysKeeps {A = Entry} entriesLeft
 keeps-says = (refused-keeps-bytes, refused-keeps-entries)
 
 keeps-not-same : {A : Type 0} (x : A) (a : List A) → SaysKeeps (λ r b. a) → ⊥

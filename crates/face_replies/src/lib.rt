@@ -20,7 +20,7 @@ pub struct JudgedReply {
     pub settype: usize,
 }
 
-// What index, list, writer and correction answer: number 0 and how much was made, or the refusal.
+// What index, list, writer, correction and the calls of a day file answer: number 0 and how much was made, or the refusal.
 #[repr(C)]
 pub struct MadeReply {
     pub no: usize,
@@ -70,7 +70,7 @@ pub fn judged_reply(judged: Judged) -> JudgedReply
     }
 }
 
-// The numbers of what index, list, writer or correction answers.
+// The numbers of what index, list, writer, correction or a call of a day file answers.
 pub fn made_reply(made: Made) -> MadeReply
     ensures { λ r. ⌜ r ≡ madeReply made ⌝ }
 {

@@ -1,6 +1,6 @@
 -- 8 to 16 find no fault in the lines of a set exactly when the lines keep the rules for sets of some type.
 use mathlib.Core.Path.{_≡_, refl, sym, ap, _∙_, subst}
-use mathlib.Core.Bool.{Bool, true, false, cond, not, _&&_, _||_, true≢false}
+use mathlib.Core.Bool.{Bool, true, false, cond, not, _||_}
 use mathlib.Core.List.{List, [], _∷_, _++_, cons≢nil}
 use mathlib.Core.Logic.{_⊎_, inl, inr}
 use Prim.Native.Nat.{ℕ, zero, suc, _+_, _≤_, _<_}
@@ -11,21 +11,20 @@ use lib.ListN.{length, drop, getD, List·getD-map, drop-of-length-le}
 use lib.Seq.{drop-cons}
 use borrow.Author.Tests.{eqb-true, eq-eqb}
 use Rattle.meaning.specs.declared.SetType.{SetType}
-use Rattle.meaning.specs.declared.SetType.the-variants.{T6300, T6301, T6302, T6310, T6311}
 use Rattle.meaning.specs.declared.Known.{Known}
-use Rattle.meaning.specs.declared.Known.the-variants.{Of, Nothing}
-use Rattle.meaning.specs.Limits.{typeOf, typeNumber}
-use Rattle.meaning.specs.Digits.{digits, number, allDigits}
+use Rattle.meaning.specs.declared.Known.the-variants.{Of}
+use Rattle.meaning.specs.Limits.{typeNumber}
+use Rattle.meaning.specs.Digits.{digits}
 use Rattle.meaning.specs.Field.{Field, labels, noField, labelAtLine, contentAtLine}
 use Rattle.meaning.specs.Refusals.{Fault, atLine, ask, otherVersion, badContent}
 use Rattle.meaning.specs.Kinds.{point, sameBytes, is0210}
 use Rattle.meaning.specs.Tables.{setLevel, table}
 use Rattle.meaning.specs.Groups.{State, first, Role, unknown, strayed, atSetLevel, member, labelFaults}
 use Rattle.meaning.specs.Missing.{among, lacking, groupsLacking, missingFaults}
-use Rattle.meaning.specs.Rules.{typeNamed, Profile, profile, rowsOf, labelIs, isKnown, startFaults, fits, current, contentFaults, contentRules, lineRules, roleIn, rulesFrom}
-use Rattle.meaning.proofs.Bools.{and-left, and-right}
-use Rattle.meaning.proofs.DigitLaws.{digits-number}
+use Rattle.meaning.specs.Rules.{typeNamed, Profile, profile, rowsOf, labelIs, startFaults, fits, current, contentFaults, contentRules, lineRules, roleIn, rulesFrom}
 use Rattle.meaning.proofs.FaultLaws.{append-none, none-both, ask-last}
+use Rattle.meaning.proofs.SameLaws.{same-bytes, bytes-same}
+use Rattle.meaning.proofs.TypeLaws.{known-type, type-digits, type-named}
 use Rattle.meaning.proofs.RuleLaws.{line-fits, Ruled, begins-of}
 use Rattle.keeps.specs.Keeps.{StartsWith, ContentsFit, VersionIs0210, GroupHas, KeepsRules}
 use Rattle.keeps.proofs.TableFacts.{le-cases}
@@ -35,47 +34,6 @@ use Rattle.keeps.proofs.LackLaws.{ClearTo, clear-all, no-lack, lack-non
 use Rattle.keeps.proofs.LackLaws.{has-8437-with-8438, names-have-odds, set-lacks-none, groups-lack-none}
 
 -- ---- the type that line 1 names
-
-pub of-same : {a b : SetType} → _≡_ {A = Known} (Of a) (Of b) → a ≡ b
-of-same e = cc
-
-nothing-of {ℓ} : {X : Type ℓ} {a : SetType} → _≡_ {A = Known} Nothing (Of a) → X
-nothing-of e = let z : _≡_ {A = ℕ} 0 1 = cc in absurd (omega arith)
-
-type-number : (n : ℕ) (t : SetType) → typeOf n ≡ Of t → n ≡ typeNumber t
-unfolding typeOf
-type-number n t e = go (eqb n 6300) (eqb n 6301) (eqb n 6302) (eqb n 6310) (eqb n 6311) refl refl refl refl refl e
-  where
-    go : (a b c d f : Bool) → eqb n 6300 ≡ a → eqb n 6301 ≡ b → eqb n 6302 ≡ c → eqb n 6310 ≡ d → eqb n 6311 ≡ f
-        → cond a (Of T6300) (cond b (Of T6301) (cond c (Of T6302) (cond d (Of T6310) (cond f (Of T6311) Nothing)))) ≡ Of t → n ≡ typeNumber t
-    go true b c d f p q r s u x = eqb-true n 6300 p ∙ ap typeNumber (of-same x)
-    go false true c d f p q r s u x = eqb-true n 6301 q ∙ ap typeNumber (of-same x)
-    go false false true d f p q r s u x = eqb-true n 6302 r ∙ ap typeNumber (of-same x)
-    go false false false true f p q r s u x = eqb-true n 6310 s ∙ ap typeNumber (of-same x)
-    go false false false false true p q r s u x = eqb-true n 6311 u ∙ ap typeNumber (of-same x)
-    go false false false false false p q r s u x = nothing-of x
-
-pub type-digits : (c : List ℕ) (t : SetType) → typeNamed c ≡ Of t → c ≡ digits 4 (typeNumber t)
-unfolding typeNamed
-type-digits c t e = go (eqb (length c) 4 && allDigits c) refl e
-  where
-    go : (b : Bool) → eqb (length c) 4 && allDigits c ≡ b → cond b (typeOf (number c)) Nothing ≡ Of t → c ≡ digits 4 (typeNumber t)
-    go true p q =
-        let l : length c ≡ 4 = eqb-true _ _ (and-left (eqb (length c) 4) _ p) in
-        sym (rw l at (digits-number c (and-right (eqb (length c) 4) _ p))) ∙ ap (digits 4) (type-number (number c) t q)
-    go false p q = nothing-of q
-
-pub type-named : (t : SetType) → typeNamed (digits 4 (typeNumber t)) ≡ Of t
-unfolding typeNamed typeOf
-type-named T6300 = refl
-type-named T6301 = refl
-type-named T6302 = refl
-type-named T6310 = refl
-type-named T6311 = refl
-
-pub known-type : (k : Known) → isKnown k ≡ true → (t : SetType) × (k ≡ Of t)
-known-type (Of t) e = (t, refl)
-known-type Nothing e = absurd (true≢false (sym e))
 
 -- the profile of sets of a type
 abbrev pub typed : SetType → Profile
@@ -117,20 +75,6 @@ content-none unknown p k f a b = refl
 content-none strayed p k f a b = rw (a, b) refl
 content-none (atSetLevel r) p k f a b = rw (a, b) refl
 content-none (member r) p k f a b = rw (a, b) refl
-
-same-bytes : (c d : List ℕ) → sameBytes c d ≡ true → c ≡ d
-unfolding sameBytes
-same-bytes [] [] e = refl
-same-bytes [] (y ∷ d) e = absurd (true≢false (sym e))
-same-bytes (x ∷ c) [] e = absurd (true≢false (sym e))
-same-bytes (x ∷ c) (y ∷ d) e =
-    let p : x ≡ y = eqb-true x y (and-left (eqb x y) _ e) in
-    rw (p, same-bytes c d (and-right (eqb x y) _ e)) refl
-
-bytes-same : (c : List ℕ) → sameBytes c c ≡ true
-unfolding sameBytes
-bytes-same [] = refl
-bytes-same (x ∷ c) = rw (eq-eqb x x refl) (bytes-same c)
 
 pub version-current : (p : Profile) (f : Field) → (f .label ≡ 9218 → f .content ≡ digits 2 2 ++ (point ∷ digits 2 10)) → current p f ≡ true
 unfolding current is0210

@@ -1,6 +1,7 @@
 -- The laws that the proofs of this crate and of later ones cite.
 pub mod Bools
 pub mod LeftLaws
+pub mod SameLaws
 pub mod DigitLaws
 pub mod FaultLaws
 pub mod FirstLaws
@@ -10,8 +11,10 @@ pub mod LineLaws
 pub mod EntryLaws
 pub mod FieldLaws
 pub mod RowLaws
+pub mod TypeLaws
 pub mod RuleLaws
 pub mod SetLaws
+pub mod WithinLaws
 pub mod SizeLaws
 pub mod CorrectionLaws
 pub mod WriterLaws

@@ -327,9 +327,9 @@ pub enum Judged {
     Refused(Refusal),
 }
 
-// What index, list, writer and correction answer.
+// What index, list, writer, correction and the calls of a day file answer.
 pub enum Made {
-    // What was asked for stands in the lent buffer: this many entries, or this many bytes.
+    // What was asked for stands in the lent buffer: this many entries, bytes or numbers.
     Done(usize),
     // Nothing was changed.
     Refused(Refusal),

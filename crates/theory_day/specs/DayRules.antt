@@ -1,5 +1,5 @@
 -- What the index of a day file is, what a set appended to it adds, and which sets a lookup finds: the sentences of request E1, each by itself. Nothing here has an order, a count that
--- goes on, or a number of a refusal. Stated by what a set is in Keeps (crate `keeps`). proofs/BuildExact, AppendExact and LookupExact: exactly these are made.
+-- goes on, or a number of a refusal. Stated by what a set is in Keeps (crate `keeps`). proofs/BuildExact, AppendExact, LookupExact and MatchExact: exactly these are made.
 -- An entry is named by how many stand before it: entry 0 is the first.
 use mathlib.Core.Path.{_≡_}
 use mathlib.Core.List.{List, _∷_, _++_}
@@ -8,7 +8,7 @@ use Prim.Native.Nat.{ℕ, zero, suc, _+_, _≤_, _<_}
 use lib.ListN.{length, drop, getD}
 use Rattle.meaning.specs.declared.SetType.{SetType}
 use Rattle.meaning.specs.Limits.{typeNumber}
-use Rattle.meaning.specs.Field.{Field, labelAtLine}
+use Rattle.meaning.specs.Field.{Field, labelAtLine, contentAtLine}
 use Rattle.meaning.specs.Lines.{lineLead, cr, lf, size, offset}
 use Rattle.keeps.specs.Keeps.{Keeps}
 use Rattle.keeps.specs.Makes.{NoLowByte}
@@ -95,4 +95,17 @@ MatchNumber f c es n = (k : ℕ) × (n ≡ suc k) × (k < length es) × Matches 
 -- "Lookup answers all sets .., each once, in file order": ns are the numbers of the entries that match, and of no others, ascending
 pub record Finds (f : List ℕ) (es : List DayEntry) (c ns : List ℕ) : Type 0 where
   pub all-and-only : (n : ℕ) → Among n ns ↔ MatchNumber f c es n
+  pub ascending : (i j : ℕ) → i < j → j < length ns → getD ns i 0 < getD ns j 0
+
+-- the entry is that of a set whose line with label 3000 has the content c
+pub record PatientIs (f : List ℕ) (e : DayEntry) (c : List ℕ) : Type 0 where
+  pub its-set : SetOf f e
+  pub content-is : c ≡ contentAtLine (its-set .lines) (its-set .patient-line)
+
+abbrev pub PatientNumber : List ℕ → List ℕ → List DayEntry → ℕ → Type 0
+PatientNumber f c es n = (k : ℕ) × (n ≡ suc k) × (k < length es) × PatientIs f (entryAt es k) c
+
+-- "Lookup answers all sets whose 3000 content has the same bytes, each once, in file order", of an index that was built: ns are the numbers of these sets, and of no others, ascending
+pub record FindsPatient (f : List ℕ) (es : List DayEntry) (c ns : List ℕ) : Type 0 where
+  pub all-and-only : (n : ℕ) → Among n ns ↔ PatientNumber f c es n
   pub ascending : (i j : ℕ) → i < j → j < length ns → getD ns i 0 < getD ns j 0

@@ -1,0 +1,593 @@
+/* day.c: a day file, set after set, and beside it the index by which a patient's sets are found without judging the file again.
+     day add FILE SET        adds the one set in the file SET (-: standard input) to the end of FILE; the first add makes FILE
+     day find FILE PATIENT   prints the sets whose 3000 content has the bytes of PATIENT
+     day check FILE          judges every set of FILE, builds the index anew and compares the kept one with it
+   Status 0: done. 1: a set is refused, a file cannot be used, or the kept index named other sets than FILE has; standard error says
+   what is wrong and what to do. 2: wrong usage.
+
+   FILE.idx keeps the index: the mark GDTDAY01, the length of FILE that it belongs to, how many sets, four numbers for each of them as
+   in gdt.h, and last a check value, the FNV-1a sum of all bytes before it. A number has eight bytes, little-endian. An index that
+   cannot be used is built anew and kept, and standard error says why. If another program changes FILE and leaves its length as it
+   was, only `check` sees that; a set that `find` prints is judged again.
+
+   `add` makes everything in memory first, so that a refused add writes nothing. Then it appends the set, brings it to the disk,
+   writes FILE.idx.new, brings that to the disk, and gives it the name FILE.idx. If it is stopped
+     before the set's first byte is written: both files are as before;
+     then, before its last byte: FILE ends in a part of a set. That is never accepted, since 8100 has the length of the whole set.
+       Every call then refuses FILE, changes nothing, and says up to which byte it is whole and how to go on with that;
+     then, before the new name: the set is in FILE, and the kept index belongs to another length, so it is built anew.
+   Each call locks FILE: an add waits until no other call uses it. */
+#define _POSIX_C_SOURCE 200809L
+#include <errno.h>
+#include <fcntl.h>
+#include <stdbool.h>
+#include <stdio.h>
+#include <stdlib.h>
+#include <string.h>
+#include <unistd.h>
+#include "gdt.h"
+
+enum { DONE = 0, REFUSED = 1, WRONG_USAGE = 2 };
+
+enum {
+    MOST_SETS = 2048, /* of a day file: the room for an index, so that no call is refused by GDT_NO_ROOM */
+    MOST_LINES = 512, /* of a set */
+    ANY_USER = 0666,  /* who may use a new file; the umask takes from that */
+    STEP = 65536      /* bytes that are read at once, at least */
+};
+
+enum { LABEL_PATIENT = 3000, LABEL_TYPE = 8000, LABEL_SUM = 8100, LABEL_VERSION = 9218 };
+
+/* The numbers of an index entry. */
+enum { OFFSET, LENGTH, TYPE, PLACE, NUMBERS };
+
+/* FILE.idx: the bytes of a number, and of its three parts. */
+enum { WIDTH = 8, HEAD = 3 * WIDTH, ENTRY = NUMBERS * WIDTH, CHECK = WIDTH };
+
+static const char mark[WIDTH + 1] = "GDTDAY01";
+static const uint64_t sum_start = 0xCBF29CE484222325, sum_factor = 0x100000001B3; /* of FNV-1a in 64 bits */
+
+/* Bytes that grow as they are read or made. */
+struct bytes {
+    uint8_t *at;
+    size_t used, room;
+};
+
+struct index {
+    size_t numbers[MOST_SETS * NUMBERS];
+    size_t count;
+};
+
+struct day {
+    const char *path;
+    char *index_path;
+    int opened;
+    struct bytes file;
+    struct index index;
+    bool anew; /* the index is not the kept one */
+};
+
+static struct day day;
+static const char missing[] = "is missing";
+
+/* Why a set or a file is refused: the numbers that the calls below can give. */
+static const char *const reasons[GDT_TOO_MANY_SETS + 1] = {
+    [GDT_EMPTY] = "there is no set",
+    [GDT_BAD_LENGTH] = "a line's length is not three digits, or under 010",
+    [GDT_CUT_LINE] = "a line runs past the end of the bytes",
+    [GDT_BAD_END] = "a line does not end in 0Dh 0Ah",
+    [GDT_BAD_LABEL] = "a label is not four digits",
+    [GDT_BAD_BYTE] = "a content byte is under 20h",
+    [GDT_TOO_MANY_LINES] = "the set has more than 512 lines",
+    [GDT_NO_START] = "line 1 is not 8000",
+    [GDT_UNKNOWN_SET] = "8000 names none of the five types of set",
+    [GDT_NO_SUM] = "line 2 is not 8100",
+    [GDT_NOT_IN_SET] = "the label is not in the table of this type of set",
+    [GDT_STRAY] = "the line stands outside its group, or not right after its name",
+    [GDT_REPEATED] = "the label stands there again, and may not",
+    [GDT_BAD_CONTENT] = "the content breaks the length, kind or rule of its label",
+    [GDT_OTHER_VERSION] = "9218 is not 02.10",
+    [GDT_MISSING] = "the label is required and missing",
+    [GDT_BAD_SUM] = "8100 is not the length of the set",
+    [GDT_BAD_USE] = "another set follows",
+    [GDT_TOO_MANY_SETS] = "a day file has at most 2,048 sets",
+};
+
+/* Says that the set or file with this name is refused, and why. */
+static void tell_refusal(const char *name, struct gdt_made made)
+{
+    dprintf(2, "day: %s: refused by %zu at place %zu, label %zu: %s\n", name, made.no, made.place, made.label, reasons[made.no]);
+}
+
+/* Says what cannot be done with a file, and why. */
+static void tell_failure(const char *path, const char *what)
+{
+    dprintf(2, "day: %s cannot be %s: %s\n", path, what, strerror(errno));
+}
+
+/* ---- Bytes and files --------------------------------------------------------------------------------------------------------- */
+
+/* Memory of this size that holds what the old piece held, if there is one. It is given back when the program ends. */
+static void *memory(void *old, size_t size)
+{
+    void *made = realloc(old, size);
+    if (made == NULL) {
+        dprintf(2, "day: no memory for %zu bytes\n", size);
+        exit(REFUSED);
+    }
+    return made;
+}
+
+/* Sees to room for over this many bytes more, so that `at` is not null even if that is 0. */
+static void make_room(struct bytes *bytes, size_t more)
+{
+    if (bytes->room - bytes->used <= more) {
+        bytes->room = 2 * bytes->room + more + 1;
+        bytes->at = memory(bytes->at, bytes->room);
+    }
+}
+
+static void join(struct bytes *bytes, const void *more, size_t length)
+{
+    make_room(bytes, length);
+    memcpy(bytes->at + bytes->used, more, length);
+    bytes->used += length;
+}
+
+static bool read_all(int from, struct bytes *bytes)
+{
+    long got = 1;
+    while (got > 0) {
+        make_room(bytes, STEP);
+        got = read(from, bytes->at + bytes->used, bytes->room - bytes->used);
+        bytes->used += got > 0 ? (size_t)got : 0;
+    }
+    return got == 0;
+}
+
+/* Reads a whole file, or standard input for the name `-`. */
+static bool read_file(const char *path, struct bytes *bytes)
+{
+    int from = strcmp(path, "-") == 0 ? 0 : open(path, O_RDONLY);
+    if (from < 0) {
+        return false;
+    }
+    bool done = read_all(from, bytes);
+    close(from);
+    return done;
+}
+
+static bool write_all(int to, const uint8_t *bytes, size_t length)
+{
+    while (length > 0) {
+        long put = write(to, bytes, length);
+        if (put <= 0) {
+            return false;
+        }
+        bytes += put;
+        length -= (size_t)put;
+    }
+    return true;
+}
+
+/* The path with an end joined to it. */
+static char *path_with(const char *path, const char *end)
+{
+    struct bytes joined = {NULL, 0, 0};
+    join(&joined, path, strlen(path));
+    join(&joined, end, strlen(end) + 1);
+    return (char *)joined.at;
+}
+
+/* ---- The kept index ---------------------------------------------------------------------------------------------------------- */
+
+static void join_number(struct bytes *bytes, uint64_t number)
+{
+    for (size_t i = 0; i < WIDTH; i++) {
+        uint8_t byte = (uint8_t)(number >> (8 * i));
+        join(bytes, &byte, 1);
+    }
+}
+
+static uint64_t number_at(const uint8_t *at)
+{
+    uint64_t number = 0;
+    for (size_t i = WIDTH; i > 0; i--) {
+        number = number << 8 | at[i - 1];
+    }
+    return number;
+}
+
+static uint64_t check_value(const uint8_t *bytes, size_t length)
+{
+    uint64_t sum = sum_start;
+    for (size_t i = 0; i < length; i++) {
+        sum = (sum ^ bytes[i]) * sum_factor;
+    }
+    return sum;
+}
+
+/* The bytes of FILE.idx. */
+static struct bytes packed_index(void)
+{
+    struct bytes out = {NULL, 0, 0};
+    join(&out, mark, WIDTH);
+    join_number(&out, day.file.used);
+    join_number(&out, day.index.count);
+    for (size_t i = 0; i < day.index.count * NUMBERS; i++) {
+        join_number(&out, day.index.numbers[i]);
+    }
+    join_number(&out, check_value(out.at, out.used));
+    return out;
+}
+
+/* Whether the sets of the index stand one after the other and fill the file: nothing outside the file is then looked at. */
+static bool fills_file(const struct index *index)
+{
+    size_t at = 0;
+    for (size_t i = 0; i < index->count; i++) {
+        const size_t *entry = index->numbers + i * NUMBERS;
+        if (entry[OFFSET] != at || entry[LENGTH] > day.file.used - at) {
+            return false;
+        }
+        at += entry[LENGTH];
+    }
+    return at == day.file.used;
+}
+
+/* Takes the index out of the bytes of FILE.idx; answers what is wrong with it, or NULL. */
+static const char *unpack(const struct bytes *kept, struct index *index)
+{
+    if (kept->used < HEAD + CHECK) {
+        return "is cut";
+    }
+    if (memcmp(kept->at, mark, WIDTH) != 0) {
+        return "is no index of this version";
+    }
+    size_t sets = (kept->used - HEAD - CHECK) / ENTRY, last = kept->used - CHECK;
+    if (number_at(kept->at + 2 * WIDTH) != sets || HEAD + sets * ENTRY != last || sets > MOST_SETS) {
+        return "is cut or damaged";
+    }
+    if (number_at(kept->at + last) != check_value(kept->at, last)) {
+        return "is damaged";
+    }
+    if (number_at(kept->at + WIDTH) != day.file.used) {
+        return "belongs to another length of the file";
+    }
+    index->count = sets;
+    for (size_t i = 0; i < sets * NUMBERS; i++) {
+        index->numbers[i] = (size_t)number_at(kept->at + HEAD + i * WIDTH);
+    }
+    return fills_file(index) ? NULL : "is damaged";
+}
+
+/* Reads FILE.idx; answers what is wrong with it, or NULL. */
+static const char *load_index(struct index *index)
+{
+    struct bytes kept = {NULL, 0, 0};
+    if (read_file(day.index_path, &kept)) {
+        return unpack(&kept, index);
+    }
+    return errno == ENOENT ? missing : "cannot be read";
+}
+
+/* Puts FILE.idx.new in the place of FILE.idx, so that this is always a whole index, the old one or the new one. Two calls that build
+   the index of one file at once write the same bytes. */
+static bool keep_index(const struct bytes *bytes)
+{
+    char *fresh = path_with(day.index_path, ".new");
+    int to = open(fresh, O_WRONLY | O_CREAT | O_TRUNC, ANY_USER);
+    bool done = to >= 0 && write_all(to, bytes->at, bytes->used) && fsync(to) == 0 && close(to) == 0;
+    done = done && rename(fresh, day.index_path) == 0;
+    if (!done) {
+        tell_failure(fresh, "written and renamed");
+    }
+    return done;
+}
+
+/* Keeps an index that was built anew. If that cannot be done, the answer is still right. */
+static void keep_anew(void)
+{
+    struct bytes bytes = packed_index();
+    if (!keep_index(&bytes)) {
+        dprintf(2, "day: the index is not kept: the next call builds it anew\n");
+    }
+}
+
+/* ---- The day file ------------------------------------------------------------------------------------------------------------ */
+
+/* Opens the file, waits for its lock and reads it. The lock ends with the program. */
+static bool open_day(const char *path, int how, short lock)
+{
+    struct flock whole = {.l_type = lock, .l_whence = SEEK_SET};
+    day.path = path;
+    day.index_path = path_with(path, ".idx");
+    day.opened = open(path, how, ANY_USER);
+    if (day.opened < 0) {
+        tell_failure(path, "opened");
+        return false;
+    }
+    if (fcntl(day.opened, F_SETLKW, &whole) != 0 || !read_all(day.opened, &day.file)) {
+        tell_failure(path, "locked and read");
+        return false;
+    }
+    return true;
+}
+
+/* Says which set of the file is refused, how many bytes before it are whole sets, and how to go on with these. */
+static void tell_damage(struct gdt_made made)
+{
+    const uint8_t *file = day.file.at;
+    size_t sets = 0, whole = 0, length = day.file.used;
+    struct gdt_judged judged = gdt_judge(file, length);
+    while (judged.no == 0 && sets < MOST_SETS) {
+        sets++;
+        whole += judged.length;
+        judged = gdt_judge(file + whole, length - whole);
+    }
+    /* Under seven bytes of a new set are taken for a line of the set before it, which is then refused at that line. */
+    if (made.place > whole && gdt_judge(file + whole, made.place - whole).no == 0) {
+        sets++;
+        whole = made.place;
+    }
+    dprintf(2, "day: %s cannot be used: set %zu, from byte %zu on, is refused by %zu at place %zu, label %zu: %s\n", day.path, sets + 1,
+            whole, made.no, made.place, made.label, reasons[made.no]);
+    dprintf(2, "day: nothing was changed, and what stands before that set is whole. If an add was stopped, the last %zu bytes are a part\n"
+               "day: of its set. To go on without them, move them to %s.rest, then add the set again:\n", length - whole, day.path);
+    dprintf(2, "    tail -c +%zu '%s' >>'%s.rest' && truncate -s %zu '%s'\n", whole + 1, day.path, day.path, whole, day.path);
+}
+
+static bool build_index(void)
+{
+    struct gdt_made made = gdt_day_build(day.file.at, day.file.used, day.index.numbers, MOST_SETS * NUMBERS);
+    if (made.no != 0) {
+        tell_damage(made);
+        return false;
+    }
+    day.index.count = made.count;
+    day.anew = true;
+    return true;
+}
+
+/* Says that the kept index was not used, and why. */
+static void tell_anew(const char *fault)
+{
+    dprintf(2, "day: %s %s: built anew. If an add was stopped, its set may be in %s already.\n", day.index_path, fault, day.path);
+}
+
+/* Takes the kept index, or builds it anew if that cannot be used. It is not missed beside a file that has no set yet. */
+static bool take_index(void)
+{
+    const char *fault = load_index(&day.index);
+    if (fault == NULL) {
+        return true;
+    }
+    if (!build_index()) {
+        return false;
+    }
+    if (fault != missing || day.file.used > 0) {
+        tell_anew(fault);
+    }
+    return true;
+}
+
+/* ---- add --------------------------------------------------------------------------------------------------------------------- */
+
+/* The set must be accepted by itself: else neither file is touched, and the place is that in SET. */
+static bool read_set(const char *path, struct bytes *set)
+{
+    const char *name = strcmp(path, "-") == 0 ? "standard input" : path;
+    size_t entry[NUMBERS];
+    if (!read_file(path, set)) {
+        tell_failure(name, "read");
+        return false;
+    }
+    struct gdt_made made = gdt_day_append(set->at, set->used, 0, entry, NUMBERS, 0);
+    if (made.no != 0) {
+        const char *next = made.no == GDT_BAD_USE ? "give one set at a time" : "have the set sent again, or correct it";
+        tell_refusal(name, made);
+        dprintf(2, "day: nothing was added: %s\n", next);
+        return false;
+    }
+    return true;
+}
+
+/* Brings the name of a new file to the disk. Some file systems cannot do that; the bytes are there in any case. */
+static void sync_name(void)
+{
+    char *folder = path_with(day.path, "");
+    char *slash = strrchr(folder, '/');
+    if (slash != NULL) {
+        slash[1] = 0;
+    }
+    int opened = open(slash != NULL ? folder : ".", O_RDONLY);
+    if (opened >= 0) {
+        fsync(opened);
+        close(opened);
+    }
+}
+
+/* Writes the bytes after the old length. If that cannot be done, what was written of them is taken back. */
+static bool append(size_t old)
+{
+    if (write_all(day.opened, day.file.at + old, day.file.used - old) && fsync(day.opened) == 0) {
+        if (old == 0) {
+            sync_name();
+        }
+        return true;
+    }
+    tell_failure(day.path, "written");
+    if (ftruncate(day.opened, (long)old) == 0) {
+        dprintf(2, "day: nothing was added: it has its %zu bytes as before\n", old);
+    } else {
+        dprintf(2, "day: it may end in a part of the set now: `day check` says what is whole\n");
+    }
+    return false;
+}
+
+static const char *type_name(size_t type)
+{
+    switch (type) {
+    case 6300:
+        return "root data request";
+    case 6301:
+        return "root data transfer";
+    case 6302:
+        return "new test request";
+    case 6310:
+        return "test data transfer";
+    default: /* 6311: there are five */
+        return "test data display";
+    }
+}
+
+/* The entry of the set with this number, from 1. */
+static const size_t *entry_of(size_t number)
+{
+    return day.index.numbers + (number - 1) * NUMBERS;
+}
+
+static void print_entry(size_t number)
+{
+    const size_t *entry = entry_of(number);
+    printf("set %zu: type %zu (%s), %zu bytes from byte %zu on\n", number, entry[TYPE], type_name(entry[TYPE]), entry[LENGTH],
+           entry[OFFSET]);
+}
+
+static int add(const char *path, const char *set_path)
+{
+    struct bytes set = {NULL, 0, 0};
+    if (!read_set(set_path, &set) || !open_day(path, O_RDWR | O_CREAT | O_APPEND, F_WRLCK) || !take_index()) {
+        return REFUSED;
+    }
+    size_t old = day.file.used;
+    join(&day.file, set.at, set.used);
+    struct gdt_made made = gdt_day_append(day.file.at, day.file.used, old, day.index.numbers, MOST_SETS * NUMBERS, day.index.count);
+    if (made.no != 0) {
+        tell_refusal(path, made);
+        dprintf(2, "day: nothing was added: start a new day file\n");
+        return REFUSED;
+    }
+    day.index.count = made.count;
+    struct bytes index = packed_index();
+    if (!append(old)) {
+        return REFUSED;
+    }
+    printf("added ");
+    print_entry(made.count);
+    if (!keep_index(&index)) {
+        dprintf(2, "day: the set is in %s, do not add it again; the next call builds the index anew\n", path);
+        return REFUSED;
+    }
+    return DONE;
+}
+
+/* ---- find -------------------------------------------------------------------------------------------------------------------- */
+
+/* Lines that are not printed: the patient and the type are said already, the sum and the version say nothing to a reader. */
+static bool is_hidden(size_t label)
+{
+    return label == LABEL_PATIENT || label == LABEL_TYPE || label == LABEL_SUM || label == LABEL_VERSION;
+}
+
+/* Prints a set as a reader wants it, the members of a group deeper. The bytes of a content are in the code that 9206 names. */
+static void print_set(size_t number)
+{
+    static struct gdt_entry lines[MOST_LINES];
+    const size_t *entry = entry_of(number);
+    const char *set = (const char *)day.file.at + entry[OFFSET];
+    size_t count = gdt_index(day.file.at + entry[OFFSET], entry[LENGTH], lines, MOST_LINES).count;
+    print_entry(number);
+    for (size_t i = 0; i < count; i++) {
+        if (!is_hidden(lines[i].label)) {
+            printf("%s%04zu %.*s\n", lines[i].header == 0 ? "  " : "    ", lines[i].label, (int)lines[i].length, set + lines[i].place);
+        }
+    }
+}
+
+/* Whether the entry of a set is what its bytes give: if not, another program has changed the file. */
+static bool is_right(size_t number)
+{
+    const size_t *entry = entry_of(number);
+    size_t again[NUMBERS];
+    struct gdt_made made = gdt_day_append(day.file.at, entry[OFFSET] + entry[LENGTH], entry[OFFSET], again, NUMBERS, 0);
+    return made.no == 0 && memcmp(again, entry, sizeof again) == 0;
+}
+
+static int find(const char *path, const char *patient)
+{
+    static size_t found[MOST_SETS];
+    if (!open_day(path, O_RDONLY, F_RDLCK) || !take_index()) {
+        return REFUSED;
+    }
+    if (day.anew) {
+        keep_anew();
+    }
+    size_t count = gdt_day_find(day.file.at, day.file.used, day.index.numbers, day.index.count * NUMBERS, (const uint8_t *)patient,
+                                strlen(patient), found, MOST_SETS).count;
+    for (size_t i = 0; i < count; i++) {
+        if (!is_right(found[i])) {
+            dprintf(2, "day: set %zu of %s is not what %s says: type `day check '%s'`, then ask again\n", found[i], path,
+                    day.index_path, path);
+            return REFUSED;
+        }
+    }
+    if (count == 0) {
+        printf("sets of patient %s in %s: none\n", patient, path);
+        return DONE;
+    }
+    printf("sets of patient %s in %s: %zu\n", patient, path, count);
+    for (size_t i = 0; i < count; i++) {
+        print_set(found[i]);
+    }
+    return DONE;
+}
+
+/* ---- check ------------------------------------------------------------------------------------------------------------------- */
+
+static int check(const char *path)
+{
+    static struct index kept;
+    if (!open_day(path, O_RDONLY, F_RDLCK)) {
+        return REFUSED;
+    }
+    const char *fault = load_index(&kept);
+    if (!build_index()) {
+        return REFUSED;
+    }
+    printf("sets in %s: %zu, all accepted, %zu bytes\n", path, day.index.count, day.file.used);
+    bool same = kept.count == day.index.count && memcmp(kept.numbers, day.index.numbers, kept.count * NUMBERS * sizeof(size_t)) == 0;
+    if (fault == NULL && same) {
+        printf("%s agrees\n", day.index_path);
+        return DONE;
+    }
+    if (fault != NULL) {
+        tell_anew(fault);
+    } else {
+        dprintf(2, "day: %s did not agree, `day find` may have missed a set: built anew\n", day.index_path);
+    }
+    keep_anew();
+    return fault != NULL ? DONE : REFUSED;
+}
+
+int main(int count, char **words)
+{
+    const char *call = count > 1 ? words[1] : "";
+    int status = WRONG_USAGE;
+    if (count == 4 && strcmp(call, "add") == 0) {
+        status = add(words[2], words[3]);
+    } else if (count == 4 && strcmp(call, "find") == 0) {
+        status = find(words[2], words[3]);
+    } else if (count == 3 && strcmp(call, "check") == 0) {
+        status = check(words[2]);
+    } else {
+        dprintf(2, "usage: day add FILE SET        adds the one set in SET (-: standard input) to the day file FILE\n"
+                   "       day find FILE PATIENT   prints the sets of the patient with this number\n"
+                   "       day check FILE          judges all sets and builds the index, FILE.idx, anew\n");
+    }
+    if (fflush(NULL) != 0) {
+        tell_failure("standard output", "written");
+        status = REFUSED;
+    }
+    return status;
+}
