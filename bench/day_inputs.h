@@ -164,6 +164,13 @@ static void small_day(struct day *day, size_t sets)
     day->no = sets > MOST_SETS ? GDT_TOO_MANY_SETS : 0;
 }
 
+/* A file in which one set more is found than there is room for. */
+static void full_day(struct day *day, size_t sets)
+{
+    small_day(day, sets);
+    day->no = GDT_NO_ROOM;
+}
+
 /* After some good sets a set that is refused by this number; a good one if it is the room or the count that is wrong. A set that does not
    start with 8000 is the first one, since it would belong to the set before it. */
 static void refused_day(struct day *day, size_t no)

@@ -28,13 +28,12 @@ static const struct call calls[CALLS] = {
     [FIND] = {"day_find", (void *)gdt_day_find, (void *)second_day_find},
 };
 
-/* Whether a call is made on a refused input: if it can answer the number. That a build answers 23 is a load of its own. */
+/* Whether a call is made on a refused input: if it can answer the number. That a build answers 23, and a lookup 22, are loads of their own. */
 static bool can_answer(int call, size_t no)
 {
     switch (call) {
     case BUILD: return (no > GDT_EMPTY && no <= GDT_BAD_SUM) || no == GDT_NO_ROOM;
     case APPEND: return no <= GDT_BAD_USE || no >= GDT_NO_ROOM;
-    case FIND: return no == GDT_NO_ROOM;
     default: return false;
     }
 }
@@ -52,7 +51,8 @@ static const struct load {
     {"find512", small_day, 512, {[FIND] = true}},
     {"find1024", small_day, 1024, {[FIND] = true}},
     {"find2048", small_day, 2048, {[FIND] = true}},
-    {"refused", NULL, 0, {[BUILD] = true, [APPEND] = true, [FIND] = true}},
+    {"full2048", full_day, 2048, {[FIND] = true}},
+    {"refused", NULL, 0, {[BUILD] = true, [APPEND] = true}},
     {"day2049", small_day, MOST_SETS + 1, {[BUILD] = true}},
 };
 

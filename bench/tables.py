@@ -1,5 +1,6 @@
 """tables.py [--write]: prints what bench/measure.py measures as the tables of docs/BENCH.md; --write puts them there, between its two marks.
-Assumes that the document has the two marks once each."""
+Assumes that the document has the two marks once each. Where the programs are emulated no time is measured: a row whose two counts are nearly those
+of the document keeps the time that it has there, and another one has none."""
 import os
 import platform
 import statistics
@@ -13,6 +14,8 @@ NAMES = {"view_copy": "view, copied", measure.FLOOR: "byte sum", "day_build": "d
 REFUSED = "refused"
 MACHINE = platform.machine()
 EMULATED = MACHINE != "x86_64"
+NO_TIME = "-"
+NEAR = 0.01  # of a count
 
 
 def table(head, found):
@@ -20,8 +23,29 @@ def table(head, found):
 
 
 def made_on():
-    how = "**emulated**: the counts are exact all the same, the times are the emulator's" if EMULATED else "not emulated"
+    how = "emulated. The counts are exact all the same. A time was measured on an x86-64 machine, by programs whose counts were within 1 % of these; -: not measured" if EMULATED else "not emulated"
     return ["Made on a machine of the kind %s; the programs are x86-64 code and were %s." % (MACHINE, how), ""]
+
+
+def document():
+    """The document before its tables, the tables, and what stands after them."""
+    with open(DOCUMENT) as file:
+        before, rest = file.read().split(START)
+    tables, after = rest.split(END)
+    return before, tables, after
+
+
+def told_times():
+    """The rows of the document that have a time: by load and call the two counts, and the time."""
+    rows = [[cell.strip() for cell in line.strip("| ").split("|")] for line in document()[1].split("\n") if line.startswith("|")]
+    return {(row[0], row[1]): (int(row[2]), int(row[3]), row[5]) for row in rows if len(row) == 6 and row[2].isdigit()}
+
+
+def told_time(told, row, proved, second):
+    """The time that the document has for a row, if its counts are nearly these: the C library copies by other code on other processors."""
+    was_proved, was_second, time = told.get(row, (0, 0, NO_TIME))
+    near = abs(proved - was_proved) <= NEAR * was_proved and abs(second - was_second) <= NEAR * was_second
+    return time if near else NO_TIME
 
 
 def spread(ratios):
@@ -30,13 +54,14 @@ def spread(ratios):
 
 
 def load_table(counts, times):
-    found = []
+    found, told = [], told_times()
     for load, calls in counts.items():
         for call, inputs in calls.items():
             total = [sum(numbers) for numbers in zip(*inputs)]
-            found.append((load, NAMES.get(call, call), total[1], total[2], "%.2f" % measure.ratio(inputs), spread(times[load][call])))
-    timed = "Ratio of times%s: median (quartiles)" % (", emulated" if EMULATED else "")
-    return table(("Load", "Call", "Proved, instructions", "Second, instructions", "Ratio", timed), found)
+            row = (load, NAMES.get(call, call))
+            time = told_time(told, row, total[1], total[2]) if EMULATED else spread(times[load][call])
+            found.append((*row, total[1], total[2], "%.2f" % measure.ratio(inputs), time))
+    return table(("Load", "Call", "Proved, instructions", "Second, instructions", "Ratio", "Ratio of times: median (quartiles)"), found)
 
 
 def refused_table(refused):
@@ -74,7 +99,7 @@ def main(words):
         return 2
     loads, bounds = measure.build(), measure.bounds()
     counts, stacks = measure.counts(loads), measure.stacks()
-    times = measure.times(loads)
+    times = {program: {} for program in loads} if EMULATED else measure.times(loads)
     lines = made_on()
     for program, what in ((measure.SETS, "The calls on a set:"), (measure.DAYS, "The calls on a day file:")):
         lines += [what, ""] + load_table(counts[program], times[program])
@@ -84,10 +109,9 @@ def main(words):
     text = "".join(line + "\n" for line in lines)
     print(text, end="")
     if words:
-        with open(DOCUMENT) as file:
-            before, rest = file.read().split(START)
+        before, _, after = document()
         with open(DOCUMENT, "w") as file:
-            file.write(before + START + text + END + rest.split(END)[1])
+            file.write(before + START + text + END + after)
     return 0
 
 

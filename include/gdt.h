@@ -22,8 +22,8 @@
    A pointer must not be null, also if its length is 0. What is lent to be written overlaps nothing else that is lent.
    No call keeps a pointer, allocates, or uses more than 8 KiB of stack.
 
-   Two programs stand behind this header: the proved library, in two archives (`rt staticlib gdt` has every call but gdt_write,
-   `rt staticlib gdtwrite` that one), and the second, independent program in second/. */
+   Two programs stand behind this header: the proved library, in three archives (`rt staticlib gdt`; `rt staticlib gdtwrite` for
+   gdt_write; `rt staticlib gdtday` for the three day calls), and the second, independent program in second/. */
 #ifndef GDT_H
 #define GDT_H
 

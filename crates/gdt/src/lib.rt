@@ -5,7 +5,6 @@ ghost use lib.ListN.{length};
 ghost use Rattle.meaning.specs.Reading as Reading;
 ghost use Rattle.meaning.specs.Views as Views;
 ghost use Rattle.meaning.specs.Answers.{indexCall, listCall, correctCall};
-ghost use Rattle.meaning_day.specs.DayCalls.{buildCall, appendCall, lookupCall};
 ghost use Rattle.face_replies.specs.Replies.{judgedReply, madeReply, viewedReply, copied};
 ghost use Rattle.face_replies.specs.IndexPlans.{planIndex};
 use face_replies::IndexPlan;
@@ -88,35 +87,4 @@ pub extern "C" fn gdt_view_copy<'a>(
     }
     byte_put::copy_front(out, part);
     need
-}
-
-#[no_mangle]
-pub extern "C" fn gdt_day_build(file: &[u8], index: &mut [usize]) -> MadeReply
-    ensures { λ r. ⌜ (r ≡ madeReply (buildCall (now (file .entry)) (now (index .entry)) .answer)) × (now (index .exit) ≡ buildCall (now (file .entry)) (now (index .entry)) .buffer) ⌝ }
-{
-    face_replies::made_reply(day_index::build(file, index))
-}
-
-#[no_mangle]
-pub extern "C" fn gdt_day_append(
-    file: &[u8],
-    old: usize,
-    index: &mut [usize],
-    count: usize,
-) -> MadeReply
-    ensures { λ r. ⌜ (r ≡ madeReply (appendCall (now (file .entry)) old (now (index .entry)) count .answer)) × (now (index .exit) ≡ appendCall (now (file .entry)) old (now (index .entry)) count .buffer) ⌝ }
-{
-    face_replies::made_reply(day_index::append(file, old, index, count))
-}
-
-#[no_mangle]
-pub extern "C" fn gdt_day_find(
-    file: &[u8],
-    index: &[usize],
-    asked: &[u8],
-    out: &mut [usize],
-) -> MadeReply
-    ensures { λ r. ⌜ (r ≡ madeReply (lookupCall (now (file .entry)) (now (index .entry)) (now (asked .entry)) (now (out .entry)) .answer)) × (now (out .exit) ≡ lookupCall (now (file .entry)) (now (index .entry)) (now (asked .entry)) (now (out .entry)) .buffer) ⌝ }
-{
-    face_replies::made_reply(day_lookup::lookup(file, index, asked, out))
 }

@@ -2,8 +2,8 @@
 use mathlib.Core.Path.{ap, _∙_}
 use borrow.Author.Needs.{needs}
 use Rattle.face_replies.specs.Replies.{madeReply}
-use Rattle.gdt.proofs.gdt_day_append.Statement.{statement}
-use Rattle.gdt.proofs.gdt_day_append.Tie as tie
+use Rattle.gdtday.proofs.gdt_day_append.Statement.{statement}
+use Rattle.gdtday.proofs.gdt_day_append.Tie as tie
 
 append-requires : tie.Need-append-requires
 append-requires c κs = search needs

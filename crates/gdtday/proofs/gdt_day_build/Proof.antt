@@ -2,8 +2,8 @@
 use mathlib.Core.Path.{ap, _∙_}
 use borrow.Author.Needs.{needs}
 use Rattle.face_replies.specs.Replies.{madeReply}
-use Rattle.gdt.proofs.gdt_day_build.Statement.{statement}
-use Rattle.gdt.proofs.gdt_day_build.Tie as tie
+use Rattle.gdtday.proofs.gdt_day_build.Statement.{statement}
+use Rattle.gdtday.proofs.gdt_day_build.Tie as tie
 
 build-requires : tie.Need-build-requires
 build-requires c κs = search needs
