@@ -9,8 +9,9 @@ use Rattle.meaning.specs.declared.Entry.{Entry}
 use Rattle.meaning.specs.Field.{Field, noField, contentAtLine}
 use Rattle.meaning.specs.Lines.{lineSize, lineLead, lineThen, offset, render}
 use Rattle.meaning.specs.Groups.{State, next}
-use Rattle.meaning.specs.Rules.{Profile, roleIn}
+use Rattle.meaning.specs.Rules.{typeDigits, Profile, roleIn}
 use Rattle.meaning.specs.Index.{entriesFrom}
+use Rattle.meaning.specs.Lists.{sumPlace}
 use Rattle.meaning.proofs.LineLaws.{length-line, render-split}
 
 -- after a line
@@ -43,6 +44,13 @@ content-at fs k t h =
     ap (take (length (contentAtLine fs k)))
     (sym (drop-drop lineLead (offset fs k) (render fs t)) ∙ ap (drop lineLead) (drop-render fs k t (omega arith)))
     ∙ head-of-drop fs k t h
+
+-- the content of line 2 stands at the place of the sum, if line 1 has the digits of a type
+pub sum-at : (f g : Field) (fs : List Field) (t : List ℕ) → length (f .content) ≡ typeDigits
+    → take (length (g .content)) (drop sumPlace (render (f ∷ g ∷ fs) t)) ≡ g .content
+sum-at f g fs t l =
+    let e : sumPlace ≡ offset (f ∷ g ∷ fs) 1 + lineLead = omega arith in
+    ap (λ (n : ℕ). take (length (g .content)) (drop n (render (f ∷ g ∷ fs) t))) e ∙ content-at (f ∷ g ∷ fs) 1 t (omega arith)
 
 -- ---- the index: as many entries as lines, and each says its line's label and where its content stands
 
