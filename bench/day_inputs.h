@@ -75,26 +75,28 @@ static void small_set(struct input *set, size_t number)
     put_sum(set);
 }
 
-/* The five types by turns, with 5 to 78 lines. */
+/* All types but 6300 by turns, 6310 twice, with groups and with long contents; 5 to 78 lines. */
 static void varied_set(struct input *set, size_t number)
 {
-    static const char *const types[] = {"6310", "6301", "6302", "6311", "6310"};
-    start(set, types[number % 5], number % 2 == 0);
-    if (number % 5 == 1 || number % 5 == 2) {
+    enum { GROUPS, NEW_PATIENT, TEST_WANTED, TEST_SHOWN, LONG_LINES, KINDS };
+    static const char *const types[] = {[GROUPS] = "6310", [NEW_PATIENT] = "6301", [TEST_WANTED] = "6302", [TEST_SHOWN] = "6311", [LONG_LINES] = "6310"};
+    size_t kind = number % KINDS;
+    start(set, types[kind], number % 2 == 0);
+    if (kind == NEW_PATIENT || kind == TEST_WANTED) {
         person(set, number);
     }
     line(set, PATIENT, patient_of(number));
     if (number % 2 != 0) {
         line(set, 9218, "02.10");
     }
-    line(set, number % 5 == 1 ? 3107 : 8402, "EKG01");
-    for (size_t i = 0; number % 5 == 0 && i < 1 + number % 18; i++) {
+    line(set, kind == NEW_PATIENT ? 3107 : 8402, "EKG01");
+    for (size_t i = 0; kind == GROUPS && i < 1 + number % 18; i++) {
         group(set);
     }
-    for (size_t i = 0; number % 5 == 4 && i < number % 40; i++) {
+    for (size_t i = 0; kind == LONG_LINES && i < number % 40; i++) {
         line(set, 6228, forty + i % 30);
     }
-    if (number % 5 == 3) {
+    if (kind == TEST_SHOWN) {
         line(set, 8432, "01022024");
         line(set, 8439, "235959");
     }

@@ -11,12 +11,14 @@
    was, only `check` sees that; a set that `find` prints is judged again.
 
    `add` makes everything in memory first, so that a refused add writes nothing. Then it appends the set, brings it to the disk,
-   writes FILE.idx.new, brings that to the disk, and gives it the name FILE.idx. If it is stopped
+   writes the new index to FILE.idx.new.N, brings that to the disk, and gives it the name FILE.idx. If it is stopped
      before the set's first byte is written: both files are as before;
      then, before its last byte: FILE ends in a part of a set. That is never accepted, since 8100 has the length of the whole set.
        Every call then refuses FILE, changes nothing, and says up to which byte it is whole and how to go on with that;
-     then, before the new name: the set is in FILE, and the kept index belongs to another length, so it is built anew.
-   Each call locks FILE: an add waits until no other call uses it. */
+     then, before the new name: the set is in FILE, and the kept index belongs to a shorter length, so it is built anew. The same add,
+       if it is the next call, then adds nothing and says so.
+   Each call locks FILE: an add waits until no other call uses it. Other calls may build the index at once, and each of them writes a
+   file of its own, with N from 1 on. If one is killed there, its file stays: no call reads it, and it may be removed. */
 #define _POSIX_C_SOURCE 200809L
 #include <errno.h>
 #include <fcntl.h>
@@ -33,7 +35,8 @@ enum {
     MOST_SETS = 2048, /* of a day file: the room for an index, so that no call is refused by GDT_NO_ROOM */
     MOST_LINES = 512, /* of a set */
     ANY_USER = 0666,  /* who may use a new file; the umask takes from that */
-    STEP = 65536      /* bytes that are read at once, at least */
+    STEP = 65536,     /* bytes that are read at once, at least */
+    START = 7         /* bytes of a line before its content: its length in three, its label in four */
 };
 
 enum { LABEL_PATIENT = 3000, LABEL_TYPE = 8000, LABEL_SUM = 8100, LABEL_VERSION = 9218 };
@@ -64,11 +67,12 @@ struct day {
     int opened;
     struct bytes file;
     struct index index;
-    bool anew; /* the index is not the kept one */
+    const char *fault; /* why the kept index is not used, or NULL */
+    bool has_set;      /* the set of an add is in the file */
 };
 
 static struct day day;
-static const char missing[] = "is missing";
+static const char missing[] = "is missing", shorter[] = "belongs to a shorter length of the file";
 
 /* Why a set or a file is refused: the numbers that the calls below can give. */
 static const char *const reasons[GDT_TOO_MANY_SETS + 1] = {
@@ -252,7 +256,7 @@ static const char *unpack(const struct bytes *kept, struct index *index)
         return "is damaged";
     }
     if (number_at(kept->at + WIDTH) != day.file.used) {
-        return "belongs to another length of the file";
+        return number_at(kept->at + WIDTH) < day.file.used ? shorter : "belongs to a greater length of the file";
     }
     index->count = sets;
     for (size_t i = 0; i < sets * NUMBERS; i++) {
@@ -271,16 +275,34 @@ static const char *load_index(struct index *index)
     return errno == ENOENT ? missing : "cannot be read";
 }
 
-/* Puts FILE.idx.new in the place of FILE.idx, so that this is always a whole index, the old one or the new one. Two calls that build
-   the index of one file at once write the same bytes. */
+/* Makes the file FILE.idx.new.N, with the first N that is free: no two calls ever write to one file. */
+static int open_fresh(char **path)
+{
+    char end[32];
+    unsigned number = 0;
+    int opened = -1;
+    do {
+        number++;
+        snprintf(end, sizeof end, ".new.%u", number);
+        *path = path_with(day.index_path, end);
+        opened = open(*path, O_WRONLY | O_CREAT | O_EXCL, ANY_USER);
+    } while (opened < 0 && errno == EEXIST);
+    return opened;
+}
+
+/* Puts a file of its own in the place of FILE.idx, so that this is always a whole index, the old one or the new one. Calls that build
+   the index at once put the same bytes there, one after the other. */
 static bool keep_index(const struct bytes *bytes)
 {
-    char *fresh = path_with(day.index_path, ".new");
-    int to = open(fresh, O_WRONLY | O_CREAT | O_TRUNC, ANY_USER);
+    char *fresh = NULL;
+    int to = open_fresh(&fresh);
     bool done = to >= 0 && write_all(to, bytes->at, bytes->used) && fsync(to) == 0 && close(to) == 0;
     done = done && rename(fresh, day.index_path) == 0;
     if (!done) {
-        tell_failure(fresh, "written and renamed");
+        tell_failure(day.index_path, "written");
+    }
+    if (!done && to >= 0) {
+        unlink(fresh);
     }
     return done;
 }
@@ -314,27 +336,71 @@ static bool open_day(const char *path, int how, short lock)
     return true;
 }
 
+/* The length of the set that starts at this byte of the file, or 0 if it is refused. Under seven bytes of a next set are taken for a
+   line of this one, which is then refused at that line: so what stands before that is asked too. */
+static size_t set_length(size_t at)
+{
+    struct gdt_judged judged = gdt_judge(day.file.at + at, day.file.used - at);
+    if (judged.no != 0) {
+        judged = gdt_judge(day.file.at + at, judged.place);
+    }
+    return judged.length;
+}
+
+/* Where the first whole set after this byte starts: at line 8000. The file's length if there is none. */
+static size_t next_set(size_t from)
+{
+    for (size_t at = from + 1; at + START <= day.file.used; at++) {
+        if (memcmp(day.file.at + at + START - 4, "8000", 4) == 0 && set_length(at) > 0) {
+            return at;
+        }
+    }
+    return day.file.used;
+}
+
+/* Says how the bytes after the whole sets are moved away. A path with a quote or a first minus would break the command. */
+static void tell_move(size_t whole, const char *then)
+{
+    if (day.path[0] == '-' || strrchr(day.path, '\'') != NULL) {
+        dprintf(2, "day: to move them, copy all bytes after the first %zu to another file and cut this one to %zu bytes%s\n", whole, whole,
+                then);
+        return;
+    }
+    dprintf(2, "day: this moves them to %s.rest%s:\n", day.path, then);
+    dprintf(2, "    tail -c +%zu '%s' >>'%s.rest' && truncate -s %zu '%s'\n", whole + 1, day.path, day.path, whole, day.path);
+}
+
+/* Says what is known of the bytes after the whole sets. In a part of one set no other set starts. */
+static void tell_rest(size_t whole)
+{
+    size_t length = day.file.used, later = next_set(whole);
+    dprintf(2, "day: nothing was changed, and what stands before that set is whole. From byte %zu on the file is not used: %zu of its %zu"
+               " bytes.\n", whole, length - whole, length);
+    if (later < length) {
+        dprintf(2, "day: a whole set starts there at byte %zu, and more may follow: look at them before you move them\n", later);
+        tell_move(whole, "");
+    } else {
+        dprintf(2, "day: if an add was stopped, they are a part of its set; else look at them before you move them\n");
+        tell_move(whole, "; then add the set again");
+    }
+}
+
 /* Says which set of the file is refused, how many bytes before it are whole sets, and how to go on with these. */
 static void tell_damage(struct gdt_made made)
 {
-    const uint8_t *file = day.file.at;
-    size_t sets = 0, whole = 0, length = day.file.used;
-    struct gdt_judged judged = gdt_judge(file, length);
-    while (judged.no == 0 && sets < MOST_SETS) {
+    size_t sets = 0, whole = 0;
+    for (size_t length = set_length(0); length > 0 && sets < MOST_SETS; length = set_length(whole)) {
         sets++;
-        whole += judged.length;
-        judged = gdt_judge(file + whole, length - whole);
-    }
-    /* Under seven bytes of a new set are taken for a line of the set before it, which is then refused at that line. */
-    if (made.place > whole && gdt_judge(file + whole, made.place - whole).no == 0) {
-        sets++;
-        whole = made.place;
+        whole += length;
     }
     dprintf(2, "day: %s cannot be used: set %zu, from byte %zu on, is refused by %zu at place %zu, label %zu: %s\n", day.path, sets + 1,
             whole, made.no, made.place, made.label, reasons[made.no]);
-    dprintf(2, "day: nothing was changed, and what stands before that set is whole. If an add was stopped, the last %zu bytes are a part\n"
-               "day: of its set. To go on without them, move them to %s.rest, then add the set again:\n", length - whole, day.path);
-    dprintf(2, "    tail -c +%zu '%s' >>'%s.rest' && truncate -s %zu '%s'\n", whole + 1, day.path, day.path, whole, day.path);
+    if (made.no == GDT_TOO_MANY_SETS) {
+        dprintf(2, "day: nothing was changed: the sets from byte %zu on belong into another day file\n", whole);
+        tell_move(whole, "");
+    } else {
+        tell_rest(whole);
+    }
 }
 
 static bool build_index(void)
@@ -345,7 +411,6 @@ static bool build_index(void)
         return false;
     }
     day.index.count = made.count;
-    day.anew = true;
     return true;
 }
 
@@ -358,15 +423,15 @@ static void tell_anew(const char *fault)
 /* Takes the kept index, or builds it anew if that cannot be used. It is not missed beside a file that has no set yet. */
 static bool take_index(void)
 {
-    const char *fault = load_index(&day.index);
-    if (fault == NULL) {
+    day.fault = load_index(&day.index);
+    if (day.fault == NULL) {
         return true;
     }
     if (!build_index()) {
         return false;
     }
-    if (fault != missing || day.file.used > 0) {
-        tell_anew(fault);
+    if (day.fault != missing || day.file.used > 0) {
+        tell_anew(day.fault);
     }
     return true;
 }
@@ -454,11 +519,36 @@ static void print_entry(size_t number)
            entry[OFFSET]);
 }
 
+/* Whether an add that was stopped has brought this set into the file already: the last set has these bytes, and was added after the
+   index was kept, or is the first set and no index was kept yet. If the kept index is right, the same bytes are added again: two tests
+   may give the same bytes. */
+static bool is_there(const struct bytes *set)
+{
+    bool stopped = day.fault == shorter || (day.fault == missing && day.index.count == 1);
+    if (!stopped) {
+        return false;
+    }
+    const size_t *last = entry_of(day.index.count);
+    return last[LENGTH] == set->used && memcmp(day.file.at + last[OFFSET], set->at, set->used) == 0;
+}
+
+/* Says that the set is in the file, since the status is that of a refusal. */
+static void tell_added(const char *more)
+{
+    dprintf(2, "day: the set is in %s, do not add it again%s\n", day.path, more);
+}
+
 static int add(const char *path, const char *set_path)
 {
     struct bytes set = {NULL, 0, 0};
     if (!read_set(set_path, &set) || !open_day(path, O_RDWR | O_CREAT | O_APPEND, F_WRLCK) || !take_index()) {
         return REFUSED;
+    }
+    if (is_there(&set)) {
+        day.has_set = true;
+        printf("set %zu of %s has these bytes already: nothing was added\n", day.index.count, path);
+        keep_anew();
+        return DONE;
     }
     size_t old = day.file.used;
     join(&day.file, set.at, set.used);
@@ -473,10 +563,11 @@ static int add(const char *path, const char *set_path)
     if (!append(old)) {
         return REFUSED;
     }
+    day.has_set = true;
     printf("added ");
     print_entry(made.count);
     if (!keep_index(&index)) {
-        dprintf(2, "day: the set is in %s, do not add it again; the next call builds the index anew\n", path);
+        tell_added("; the next call builds the index anew");
         return REFUSED;
     }
     return DONE;
@@ -520,15 +611,15 @@ static int find(const char *path, const char *patient)
     if (!open_day(path, O_RDONLY, F_RDLCK) || !take_index()) {
         return REFUSED;
     }
-    if (day.anew) {
+    if (day.fault != NULL) {
         keep_anew();
     }
     size_t count = gdt_day_find(day.file.at, day.file.used, day.index.numbers, day.index.count * NUMBERS, (const uint8_t *)patient,
                                 strlen(patient), found, MOST_SETS).count;
     for (size_t i = 0; i < count; i++) {
         if (!is_right(found[i])) {
-            dprintf(2, "day: set %zu of %s is not what %s says: type `day check '%s'`, then ask again\n", found[i], path,
-                    day.index_path, path);
+            dprintf(2, "day: set %zu of %s is not what %s says: call `day check` for it, then ask again\n", found[i], path,
+                    day.index_path);
             return REFUSED;
         }
     }
@@ -587,6 +678,9 @@ int main(int count, char **words)
     }
     if (fflush(NULL) != 0) {
         tell_failure("standard output", "written");
+        if (day.has_set) {
+            tell_added("");
+        }
         status = REFUSED;
     }
     return status;

@@ -1,4 +1,4 @@
-/* gdt.h: reading, writing and correcting GDT 2.1 sets.
+/* gdt.h: reading, writing and correcting GDT 2.1 sets, and day files of them.
 
    Every call takes any bytes from anyone. It answers a record of numbers by value (gdt_view_copy a length). `no` is 0 if the call was
    done, else the number of the refusal (GDT_EMPTY to GDT_TOO_MANY_SETS); then `place` says where, and `label` which label is concerned.
@@ -14,7 +14,7 @@
    label (in a sheet the line number, from 1) in two bytes, both little-endian, then the content. A list has no entry for 8100: gdt_write
    adds it as line 2. In a sheet the last entry for a line counts.
 
-   A day file is set after set with nothing between, at most 2,048. Its index has four numbers a set, in file order: the set's offset in
+   A day file is set after set with nothing between, at most 2,048 sets. Its index has four numbers a set, in file order: the set's offset in
    the file, its length, the number of its type, and the place in the file of its 3000 content, the patient's number. It is kept beside
    the file by whoever calls. `numbers` says how many numbers a slice has, four for each entry; one to three numbers after the last four
    are no entry. A count, and the need of GDT_NO_ROOM, are entries, not numbers.
@@ -31,7 +31,7 @@
 #include <stdint.h>
 
 enum {
-    GDT_EMPTY = 1,           /* a set or list of no bytes */
+    GDT_EMPTY = 1,           /* a set or list of no bytes; in a day file nothing after `old` */
     GDT_BAD_LENGTH = 2,      /* a line's length is not three digits, or under 010 */
     GDT_CUT_LINE = 3,        /* a line runs past the end of the bytes */
     GDT_BAD_END = 4,         /* a line does not end in 0Dh 0Ah */
@@ -122,7 +122,8 @@ struct gdt_made gdt_day_append(const uint8_t *file, size_t file_length, size_t o
    index was built), and answers how many. Every whole entry of `index` is asked: lend four times the count that gdt_day_build or
    gdt_day_append answered, not the whole room. An entry, also of an index that is not this file's, matches if no asked byte is under
    20h, and the asked bytes and then 0Dh 0Ah stand in the file at the place that is its fourth number. Refused by GDT_NO_ROOM alone, with
-   the entries that match as the need; `room` and this need are single numbers. Numbers of `out` after the count stay as they were. */
+   the entries that match as the need; `room` and this need are single numbers. Numbers of `out` after the count stay as they were.
+   The entry with number n is index[4 * (n - 1)] to index[4 * (n - 1) + 3]: offset, length, type, place. */
 struct gdt_made gdt_day_find(const uint8_t *file, size_t file_length, const size_t *index, size_t numbers, const uint8_t *asked, size_t asked_length, size_t *out, size_t room);
 
 #endif

@@ -27,6 +27,7 @@ fn patient_place(set: &[u8]) -> usize
     let mut at: usize = 0;
     let mut lines: usize = 0;
     while lines < SetType::LINES {
+        // Two tests, since no difference may be under 0.
         if set.len() < meaning::LINE_LEAD {
             return 0;
         }

@@ -57,7 +57,7 @@ fn count_sets(file: &[u8]) -> Made
     Made::Done(count)
 }
 
-// The four numbers of an entry.
+// The four numbers of an entry, in the order of `DayEntry`.
 fn put_entry(index: &mut [usize], to: usize, entry: DayEntry)
     requires { ⌜ to + 4 ≤ length (now index) ⌝ }
     ensures { λ _. ⌜ now (index .exit) ≡ over to (columns (entry ∷ [])) (now (index .entry)) ⌝ }

@@ -43,7 +43,7 @@ fn stands_at(file: &[u8], place: usize, asked: &[u8]) -> bool
     true
 }
 
-// One if it is so.
+// How much an entry adds to the count.
 fn one_if(so: bool) -> usize
     ensures { λ r. ⌜ (r ≡ cond so 1 0) × (r ≤ 1) ⌝ }
 {

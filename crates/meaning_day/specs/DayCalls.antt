@@ -29,6 +29,7 @@ indexLeft r b = entriesLeft (thenTo r (λ es. done (columns es))) b
 abbrev pub buildCall : List ℕ → List ℕ → Call ℕ
 buildCall f index = record { answer = made (build f (length (entriesIn index))); buffer = indexLeft (build f (length (entriesIn index))) index }
 
+-- the lent numbers are the old index, and the room
 abbrev pub appendCall : List ℕ → ℕ → List ℕ → ℕ → Call ℕ
 appendCall f old index count = record { answer = made (append f old (entriesIn index) count); buffer = indexLeft (append f old (entriesIn index) count) index }
 

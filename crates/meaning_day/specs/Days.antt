@@ -42,6 +42,8 @@ abbrev pub placed : ℕ → Reply Parsed → Reply Parsed
 placed at (refused r) = refused (refusal (r .no) (at + r .place) (r .label))
 placed at (done d) = done d
 
+-- ---- a test
+
 -- refused by number n at place p if the test fails, else what comes after it
 abbrev pub must : {A : Type 0} → Bool → ℕ → ℕ → Reply A → Reply A
 must true n p k = k

@@ -1,5 +1,5 @@
--- What the index of a day file is, what a set appended to it adds, and which sets a lookup finds: the sentences of request E1, each by itself. Nothing here has an order, a count that
--- goes on, or a number of a refusal. Stated by what a set is in Keeps (crate `keeps`). proofs/BuildExact, AppendExact, LookupExact and MatchExact: exactly these are made.
+-- What the index of a day file is, what a set appended to it adds, and which sets a lookup finds: the sentences of request E1, each by itself. Nothing here has an order of
+-- tests or a count that goes on; a number in a comment says which refusal a line shuts out. Stated by what a set is in Keeps (crate `keeps`). proofs/BuildExact, AppendExact, LookupExact and MatchExact: exactly these are made.
 -- An entry is named by how many stand before it: entry 0 is the first.
 use mathlib.Core.Path.{_≡_}
 use mathlib.Core.List.{List, _∷_, _++_}
@@ -19,6 +19,7 @@ use Rattle.meaning_day.specs.Days.{maxSets}
 abbrev pub noEntry : DayEntry
 noEntry = record { offset = 0; length = 0; settype = 0; place = 0 }
 
+-- the entry that has k before it
 abbrev pub entryAt : List DayEntry → ℕ → DayEntry
 entryAt es k = getD es k noEntry
 
@@ -102,6 +103,7 @@ pub record PatientIs (f : List ℕ) (e : DayEntry) (c : List ℕ) : Type 0 where
   pub its-set : SetOf f e
   pub content-is : c ≡ contentAtLine (its-set .lines) (its-set .patient-line)
 
+-- n is the number of a set of this patient
 abbrev pub PatientNumber : List ℕ → List ℕ → List DayEntry → ℕ → Type 0
 PatientNumber f c es n = (k : ℕ) × (n ≡ suc k) × (k < length es) × PatientIs f (entryAt es k) c
 
