@@ -12,8 +12,7 @@ use lib.Seq.{take-all}
 use borrow.Author.Tests.{leb-true, leb-false, le-leb, lt-leb, eqb-true}
 use Rattle.meaning.specs.declared.Refusal.{Refusal}
 use Rattle.meaning.specs.declared.Shape.{Shape}
-use Rattle.meaning.specs.declared.Judged.{Judged}
-use Rattle.meaning.specs.declared.Judged.the-variants.{Accepted, Refused}
+use Rattle.meaning.specs.declared.Judged.the-variants.{Refused}
 use Rattle.meaning.specs.Limits.{maxSetBytes}
 use Rattle.meaning.specs.Field.{Field, labelAtLine, isNil}
 use Rattle.meaning.specs.Refusals.{Spot, byte, Fault, atLine, atByte, ask, Reply, refused, done, refusal, thenTo, verdict, withRoom}
@@ -29,6 +28,7 @@ use Rattle.meaning.specs.Lists.{withoutSum, list, setWithRoom}
 use Rattle.meaning.specs.Corrections.{fixed, changeFaults, inChange, changed, correctLines, correct}
 use Rattle.meaning.proofs.Bools.{and-left, and-right, and-both, and-no, not-true, not-false}
 use Rattle.meaning.proofs.FaultLaws.{refused-done, lows-none}
+use Rattle.meaning.proofs.AnswerLaws.{refused-accepted, refusal-same}
 use Rattle.meaning.proofs.EntryLaws.{length-entries}
 use Rattle.meaning.proofs.WriterLaws.{listOf, list-only, list-makes}
 use Rattle.meaning.proofs.RuleLaws.{ruled}
@@ -49,12 +49,6 @@ use Rattle.breaches.proofs.FirstOnly.{refused-exactly-with}
 
 pub refused-same : {A : Type 0} {r y : Refusal} → _≡_ {A = Reply A} (refused r) (refused y) → r ≡ y
 refused-same e = cc
-
-refused-accepted : {r : Refusal} {x : Shape} → _≡_ {A = Judged} (Refused r) (Accepted x) → ⊥
-refused-accepted e = let z : _≡_ {A = ℕ} 0 1 = cc in omega arith
-
-judged-same : {r y : Refusal} → _≡_ {A = Judged} (Refused r) (Refused y) → r ≡ y
-judged-same e = cc
 
 -- both make something of the lines, for which they need this much
 module _ {A : Type 0} (need : Parsed → ℕ) (made : Parsed → A) (s : List ℕ) (room : ℕ) (r : Refusal) where
@@ -83,8 +77,8 @@ module _ {A : Type 0} (need : Parsed → ℕ) (made : Parsed → A) (s : List �
   lacks-reply (set-refused e) = go (read s) refl e
     where
       go : (y : Reply Parsed) → read s ≡ y → judged y ≡ Refused r → reply ≡ refused r
-      go (refused y) q f = rw q (ap refused (judged-same f))
-      go (done d) q f = absurd (refused-accepted (sym f))
+      go (refused y) q f = rw q (ap refused (refusal-same f))
+      go (done d) q f = refused-accepted (sym f)
   lacks-reply (too-small d q l e) = rw (q, lt-leb (need d) room l) (ap refused (sym e))
 
 pub index-refused-with : (s : List ℕ) (room : ℕ) (r : Refusal) → (index s room ≡ refused r) ↔ IndexRefused s room r
@@ -355,8 +349,8 @@ unfolding judge
 read-refused s r e = go (read s) refl e
   where
     go : (y : Reply Parsed) → read s ≡ y → judged y ≡ Refused r → read s ≡ refused r
-    go (refused y) q f = q ∙ ap refused (judged-same f)
-    go (done d) q f = absurd (refused-accepted (sym f))
+    go (refused y) q f = q ∙ ap refused (refusal-same f)
+    go (done d) q f = refused-accepted (sym f)
 
 -- a correction is refused with number, place and label r exactly when they are those of the first reason in the paper's order: "18 (used length), the set's own refusals, .."
 pub correction-refused-with : (b : List ℕ) (used n : ℕ) (c : List ℕ) (r : Refusal) → (correct b used n c ≡ refused r) ↔ CorrectionRefused b used n c r

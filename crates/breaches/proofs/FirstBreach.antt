@@ -26,6 +26,7 @@ use Rattle.meaning.specs.Rules.{typeNamed, Profile, profile, rowsOf, labelIs, i
 use Rattle.meaning.specs.Reading.{scan, inSet, byRules, read, judged, judge}
 use Rattle.meaning.proofs.Bools.{Every}
 use Rattle.meaning.proofs.FaultLaws.{append-none, done-same}
+use Rattle.meaning.proofs.AnswerLaws.{refused-accepted, refusal-same}
 use Rattle.meaning.proofs.LineLaws.{Sound, NoStart, LaterLine, length-render}
 use Rattle.meaning.proofs.RuleLaws.{begins-of}
 use Rattle.meaning.proofs.SetLaws.{scan-render, Scanned, scanned, later-sound}
@@ -421,20 +422,14 @@ read-first s r e = go (scan s) refl e
     go (refused y) p q = line (scan-refused s r (p ∙ q))
     go (done d) p q = rules d p (setFaults (d .fields)) refl q
 
-accepted-refused {ℓ} : {X : Type ℓ} {r : Refusal} {x : Shape} → _≡_ {A = Judged} (Accepted x) (Refused r) → X
-accepted-refused e = let z : _≡_ {A = ℕ} 0 1 = cc in absurd (omega arith)
-
-refused-told : {r q : Refusal} → _≡_ {A = Judged} (Refused r) (Refused q) → r ≡ q
-refused-told e = cc
-
 -- "So the first fault in this order is the answer, and a refusal is given only for it."
 pub refused-first : (s : List ℕ) (r : Refusal) → judge s ≡ Refused r → FirstBreach s r
 unfolding judge
 refused-first s r e = go (read s) refl e
   where
     go : (y : Reply Parsed) → read s ≡ y → judged y ≡ Refused r → FirstBreach s r
-    go (refused y) p q = read-first s r (p ∙ ap refused (refused-told q))
-    go (done d) p q = accepted-refused q
+    go (refused y) p q = read-first s r (p ∙ ap refused (refusal-same q))
+    go (done d) p q = refused-accepted (sym q)
 
 -- ---- an accepted set has no breach
 

@@ -24,6 +24,7 @@ use Rattle.meaning.specs.Computes.{computes}
 use Rattle.meaning.proofs.Asking.{text, line}
 use Rattle.meaning.proofs.Bools.{Every}
 use Rattle.meaning.proofs.FaultLaws.{refused-done, done-same}
+use Rattle.meaning.proofs.AnswerLaws.{refused-accepted}
 use Rattle.meaning.proofs.EntryLaws.{Byte}
 use Rattle.meaning.proofs.WriterLaws.{listOf}
 use Rattle.keeps.specs.Keeps.{SetAtFront}
@@ -35,7 +36,7 @@ use Rattle.keeps.proofs.IndexExact.{indexed-exactly}
 use Rattle.keeps.proofs.ListExact.{listed-exactly}
 use Rattle.keeps.proofs.ViewExact.{viewed-exactly}
 use Rattle.breaches.specs.Breaches.{Breach, FirstBreach}
-use Rattle.breaches.specs.CallBreaches.{IndexRefused, ListRefused, CorrectionRefused, used-over}
+use Rattle.breaches.specs.CallBreaches.{IndexRefused, ListRefused, CorrectionRefused}
 use Rattle.breaches.proofs.FirstBreach.{refused-for-a-breach}
 use Rattle.breaches.proofs.FirstOnly.{refused-exactly-with}
 use Rattle.breaches.proofs.CallExact.{refused-same, index-refused-with, list-refused-with, correction-refused-with}
@@ -103,9 +104,6 @@ viewing-p = refl
 p-q : p ≡ q → ⊥
 unfolding p q
 p-q e = let z : _≡_ {A = ℕ} 51 55 = ap length e in omega arith
-
-refused-accepted : {r : Refusal} {x : Shape} → _≡_ {A = Judged} (Refused r) (Accepted x) → ⊥
-refused-accepted e = let z : _≡_ {A = ℕ} 0 1 = cc in omega arith
 
 -- ---- accepted exactly, and refused exactly
 

@@ -1,11 +1,11 @@
 -- The set at an offset of the file, and the count of the sets from there on: what each `return`, and each turn of the loop, has to show.
-use mathlib.Core.Path.{_≡_, refl, sym, ap, _∙_, subst}
+use mathlib.Core.Path.{_≡_, refl, sym, ap, ap₂, _∙_, subst}
 use mathlib.Core.Bool.{true, false}
 use mathlib.Core.List.{List, [], _∷_, cons≢nil}
 use Prim.Native.Nat.{ℕ, zero, suc, _+_, _-_, _≤_, _<_}
 use native.Mathlib.Omega.{arith}
 use lib.ListN.{length, take, drop, length-drop}
-use lib.Seq.{take-all, drop-at, drop-drop}
+use lib.Seq.{take-all, drop-drop}
 use borrow.Author.Tests.{le-leb, lt-leb}
 use Rattle.meaning.specs.declared.Refusal.{Refusal}
 use Rattle.meaning.specs.declared.Shape.{Shape}
@@ -15,28 +15,20 @@ use Rattle.meaning.specs.declared.Made.the-variants.{Done, Refused as NotMade}
 use Rattle.meaning.specs.Field.{Field, isNil}
 use Rattle.meaning.specs.Refusals.{Reply, refused, done, thenTo, refusal, tooManySets}
 use Rattle.meaning.specs.Pieces.{Parsed}
-use Rattle.meaning.specs.Lines.{size, render}
+use Rattle.meaning.specs.Lines.{size}
 use Rattle.meaning.specs.Rules.{startFaults, setFaults}
 use Rattle.meaning.specs.Reading.{shape, judged, judge, read}
 use Rattle.meaning.specs.Answers.{made}
 use Rattle.meaning.proofs.Bools.{end-is}
+use Rattle.meaning.proofs.AnswerLaws.{refused-accepted, accepted-same, refusal-same}
 use Rattle.meaning.proofs.LeftLaws.{one-more}
-use Rattle.meaning.proofs.LineLaws.{length-render, render-split}
 use Rattle.meaning.proofs.RuleLaws.{ruled}
 use Rattle.meaning.proofs.SetLaws.{accepted}
 use Rattle.meaning_day.specs.declared.DayEntry.{DayEntry}
 use Rattle.meaning_day.specs.Days.{maxSets, dayEntry, placed, setsFrom}
+use Rattle.meaning_day.proofs.DayLaws.{drop-lines, read-length}
 use Rattle.meaning.proofs.WithinLaws.{refused-within}
 use Rattle.day_index.specs.Counting.{countedAfter}
-
-pub accepted-refused {ℓ} : {X : Type ℓ} {x : Shape} {r : Refusal} → _≡_ {A = Judged} (Accepted x) (Refused r) → X
-accepted-refused e = let z : _≡_ {A = ℕ} 0 1 = cc in absurd (omega arith)
-
-accepted-same : {x y : Shape} → _≡_ {A = Judged} (Accepted x) (Accepted y) → x ≡ y
-accepted-same e = cc
-
-pub refused-same : {r q : Refusal} → _≡_ {A = Judged} (Refused r) (Refused q) → r ≡ q
-refused-same e = cc
 
 -- ---- one set, judged at an offset
 
@@ -53,7 +45,7 @@ module _ (f : List ℕ) (at : ℕ) where
   judged-accepted x e = go (read (drop at f)) (at-judge (Accepted x) e)
     where
       go : (r : Reply Parsed) → Accepted x ≡ judged r → Accepted x ≡ judged (placed at r)
-      go (refused r) q = accepted-refused q
+      go (refused r) q = refused-accepted (sym q)
       go (done d) q = q
 
   -- the place of a refusal, in the file
@@ -63,9 +55,9 @@ module _ (f : List ℕ) (at : ℕ) where
     where
       go : (q : Reply Parsed) → read (drop at f) ≡ q → Refused r ≡ judged q → (Refused (refusal (r .no) (at + r .place) (r .label)) ≡ judged (placed at q)) × (r .place ≤ length (drop at f))
       go (refused q) p h =
-          let s : r ≡ q = refused-same h in
+          let s : r ≡ q = refusal-same h in
           (ap (λ (y : Refusal). Refused (refusal (y .no) (at + y .place) (y .label))) s, subst (λ (y : Refusal). y .place ≤ length (drop at f)) (sym s) (refused-within (drop at f) q p))
-      go (done d) p h = accepted-refused (sym h)
+      go (done d) p h = refused-accepted h
 
 -- ---- the sets from an offset on, of which n may come; `count` stand before it
 
@@ -88,22 +80,18 @@ module _ (f : List ℕ) (at : ℕ) where
   set-here g x e = go (read (drop at f)) refl e
     where
       go : (q : Reply Parsed) → read (drop at f) ≡ q → judged (placed at q) ≡ Accepted x → SetHere f at x
-      go (refused r) p h = accepted-refused (sym h)
+      go (refused r) p h = refused-accepted h
       go (done d) p h =
           let s : x ≡ shape (d .fields) = sym (accepted-same h) in
           let a = accepted (drop at f) d p in
           let n : x .length ≡ size (d .fields) = ap (λ (y : Shape). y .length) s in
-          let l : length (drop at f) ≡ size (d .fields) + length (d .rest) = ap length (a .bytes) ∙ length-render (d .fields) (d .rest) in
           record {
             what = d;
             reads = p;
             long = n;
             some-bytes = omega (arith, n, some-size (d .fields) (a .standing .right));
-            within = omega (arith, l, n, length-drop at f);
-            next-there =
-                sym (drop-drop (x .length) at f)
-                ∙ ap (drop (x .length)) (a .bytes ∙ render-split (d .fields) (d .rest))
-                ∙ drop-at (render (d .fields) []) (d .rest) (x .length) (length-render (d .fields) [] ∙ omega (arith, n));
+            within = omega (arith, n, read-length (drop at f) d p, length-drop at f);
+            next-there = sym (drop-drop (x .length) at f) ∙ (ap₂ drop n (a .bytes) ∙ drop-lines (d .fields) (d .rest));
           }
 
   at-end : length f ≤ at → isNil (drop at f) ≡ true
@@ -125,14 +113,14 @@ module _ (f : List ℕ) (at : ℕ) where
   count-refused zero count r h e = rw (not-at-end h) (go (placed at (read (drop at f))) e)
     where
       go : (q : Reply Parsed) → judged q ≡ Refused r → countedAfter count (thenTo q (λ d. refused (refusal tooManySets at 0))) ≡ NotMade r
-      go (refused q) p = ap NotMade (refused-same p)
-      go (done d) p = accepted-refused p
+      go (refused q) p = ap NotMade (refusal-same p)
+      go (done d) p = refused-accepted (sym p)
   count-refused (suc n) count r h e = rw (not-at-end h) (go (placed at (read (drop at f))) e)
     where
       go : (q : Reply Parsed) → judged q ≡ Refused r
           → countedAfter count (thenTo q (λ d. thenTo (setsFrom n (at + size (d .fields)) (d .rest)) (λ es. done (dayEntry at (d .fields) ∷ es)))) ≡ NotMade r
-      go (refused q) p = ap NotMade (refused-same p)
-      go (done d) p = accepted-refused p
+      go (refused q) p = ap NotMade (refusal-same p)
+      go (done d) p = refused-accepted (sym p)
 
   module _ (x : Shape) (s : SetHere f at x) where
     here-starts : at < length f

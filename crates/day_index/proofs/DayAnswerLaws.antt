@@ -18,6 +18,7 @@ use Rattle.meaning.specs.Pieces.{Parsed}
 use Rattle.meaning.specs.Reading.{judged, read}
 use Rattle.meaning.specs.Answers.{made}
 use Rattle.meaning.proofs.Bools.{end-is}
+use Rattle.meaning.proofs.AnswerLaws.{refused-accepted, refusal-same, refused-made, made-same}
 use Rattle.byte_put.specs.Places.{over}
 use Rattle.meaning_day.specs.declared.DayEntry.{DayEntry}
 use Rattle.meaning_day.specs.Days.{maxSets, dayEntry, placed, setsFrom, build, append}
@@ -26,8 +27,7 @@ use Rattle.meaning_day.proofs.ColumnLaws.{length-columns, length-entries-in, co
 use Rattle.day_entry.specs.ToldEntry.{toldEntry}
 use Rattle.day_entry.proofs.ToldEntryLaws.{entry-told}
 use Rattle.day_index.specs.Counting.{listed}
-use Rattle.day_index.proofs.CountLaws.{SetHere, accepted-refused, refused-same}
-use Rattle.day_index.proofs.PutSetsLaws.{done-refused, count-same}
+use Rattle.day_index.proofs.CountLaws.{SetHere}
 
 -- ---- building
 
@@ -37,21 +37,21 @@ built r room = thenTo r (λ es. withRoom (leb (length es) room) (length es) es)
 
 refused-built : (r : Reply (List DayEntry)) (room : ℕ) (q : Refusal) (b : List ℕ) → Refused q ≡ made r → (Refused q ≡ made (built r room)) × (b ≡ indexLeft (built r room) b)
 refused-built (refused x) room q b e = (e, refl)
-refused-built (done es) room q b e = done-refused e
+refused-built (done es) room q b e = refused-made e
 
 full-built : (r : Reply (List DayEntry)) (room n : ℕ) (b : List ℕ) → made r ≡ Done n → room < n
     → (Refused (refusal noRoom n 0) ≡ made (built r room)) × (b ≡ indexLeft (built r room) b)
-full-built (refused x) room n b e h = done-refused e
+full-built (refused x) room n b e h = refused-made e
 full-built (done es) room n b e h =
-    let l : length es ≡ n = count-same e in
+    let l : length es ≡ n = made-same e in
     rw (l, lt-leb n room h) (refl, refl)
 
 made-built : (r : Reply (List DayEntry)) (room n : ℕ) (b : List ℕ) → made r ≡ Done n → n ≤ room
     → (Done n ≡ made (built r room)) × (over 0 (columns (listed r)) b ≡ indexLeft (built r room) b)
 unfolding over
-made-built (refused x) room n b e h = done-refused e
+made-built (refused x) room n b e h = refused-made e
 made-built (done es) room n b e h =
-    let l : length es ≡ n = count-same e in
+    let l : length es ≡ n = made-same e in
     rw (l, le-leb n room h, zero-add (length (columns es))) (sym (ap Done l), refl)
 
 module _ (f b : List ℕ) where
@@ -86,8 +86,8 @@ module _ (f : List ℕ) (old : ℕ) (b : List ℕ) (count : ℕ) where
   append-own h r e = rw (le-leb old (length f) h) (go (placed old (read (drop old f))) e _)
     where
       go : (q : Reply Parsed) → judged q ≡ RefusedSet r → (k : Parsed → Reply (List DayEntry)) → (Refused r ≡ made (thenTo q k)) × (b ≡ indexLeft (thenTo q k) b)
-      go (refused x) p k = (ap Refused (sym (refused-same p)), refl)
-      go (done d) p k = accepted-refused p
+      go (refused x) p k = (ap Refused (sym (refusal-same p)), refl)
+      go (done d) p k = refused-accepted (sym p)
 
   module _ (x : Shape) (h : old ≤ length f) (s : SetHere f old x) where
     second : isNil (s .what .rest) ≡ leb (length f) (old + x .length)

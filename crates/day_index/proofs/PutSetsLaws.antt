@@ -5,16 +5,16 @@ use mathlib.Core.List.{List, [], _∷_, _++_}
 use Prim.Native.Nat.{ℕ, zero, suc, _+_, _-_, _*_, _≤_, _<_}
 use native.Mathlib.Omega.{arith}
 use lib.ListN.{length, drop}
-use Rattle.meaning.specs.declared.Made.{Made}
-use Rattle.meaning.specs.declared.Made.the-variants.{Done, Refused}
-use Rattle.meaning.specs.declared.Refusal.{Refusal}
+use Rattle.meaning.specs.declared.Made.the-variants.{Done}
 use Rattle.meaning.specs.Field.{Field, isNil}
 use Rattle.meaning.specs.Refusals.{Reply, refused, done, thenTo, refusal, tooManySets}
 use Rattle.meaning.specs.Pieces.{Parsed}
 use Rattle.meaning.specs.Lines.{size}
 use Rattle.meaning.specs.Reading.{shape, judged, read}
 use Rattle.meaning.specs.Answers.{made}
+use Rattle.meaning.proofs.Bools.{none-of-length}
 use Rattle.meaning.proofs.FaultLaws.{done-same}
+use Rattle.meaning.proofs.AnswerLaws.{refused-made, made-same}
 use Rattle.byte_put.specs.Places.{over}
 use Rattle.byte_put.proofs.OverLaws.{over-none, turned}
 use Rattle.meaning_day.specs.declared.DayEntry.{DayEntry}
@@ -26,16 +26,10 @@ use Rattle.day_entry.proofs.ToldEntryLaws.{entry-told}
 use Rattle.day_index.specs.Counting.{listed}
 use Rattle.day_index.proofs.CountLaws.{SetHere, set-here}
 
-pub done-refused {ℓ} : {X : Type ℓ} {n : ℕ} {r : Refusal} → _≡_ {A = Made} (Refused r) (Done n) → X
-done-refused e = let z : _≡_ {A = ℕ} 0 1 = cc in absurd (omega arith)
-
-pub count-same : {m n : ℕ} → _≡_ {A = Made} (Done m) (Done n) → m ≡ n
-count-same e = cc
-
 -- as many entries are listed as were counted
 pub length-listed : (r : Reply (List DayEntry)) (n : ℕ) → made r ≡ Done n → length (listed r) ≡ n
-length-listed (refused q) n e = done-refused e
-length-listed (done es) n e = count-same e
+length-listed (refused q) n e = refused-made e
+length-listed (done es) n e = made-same e
 
 -- the set at an offset, if some are left: its entry as its bytes tell it, and the sets after it
 record NextSet (f : List ℕ) (n at left : ℕ) : Type 0 where
@@ -53,11 +47,11 @@ abbrev with : DayEntry → Reply (List DayEntry) → Reply (List DayEntry)
 with x r = thenTo r (λ es. done (x ∷ es))
 
 one-less : (x : DayEntry) (r : Reply (List DayEntry)) (left : ℕ) → made (with x r) ≡ Done left → made r ≡ Done (left - 1)
-one-less x (refused q) left e = done-refused e
-one-less x (done es) left e = ap Done (omega (arith, count-same e))
+one-less x (refused q) left e = refused-made e
+one-less x (done es) left e = ap Done (omega (arith, made-same e))
 
 listed-with : (x : DayEntry) (r : Reply (List DayEntry)) (left : ℕ) → made (with x r) ≡ Done left → listed (with x r) ≡ x ∷ listed r
-listed-with x (refused q) left e = done-refused e
+listed-with x (refused q) left e = refused-made e
 listed-with x (done es) left e = refl
 
 next-set : (f : List ℕ) (n at left : ℕ) → at ≤ length f → made (setsFrom n at (drop at f)) ≡ Done left → 0 < left → NextSet f n at left
@@ -65,9 +59,9 @@ unfolding setsFrom
 next-set f zero at left g e h = go (isNil (drop at f)) (placed at (read (drop at f))) e
   where
     go : (b : Bool) (q : Reply Parsed) → made {A = DayEntry} (cond b (done []) (thenTo q (λ d. refused (refusal tooManySets at 0)))) ≡ Done left → NextSet f zero at left
-    go true q p = let z : _≡_ {A = ℕ} 0 left = count-same p in absurd (omega arith)
-    go false (refused r) p = done-refused p
-    go false (done d) p = done-refused p
+    go true q p = let z : _≡_ {A = ℕ} 0 left = made-same p in absurd (omega arith)
+    go false (refused r) p = refused-made p
+    go false (done d) p = refused-made p
 next-set f (suc n) at left g e h = go (isNil (drop at f)) refl (read (drop at f)) refl e
   where
     after : Parsed → Reply (List DayEntry)
@@ -93,8 +87,8 @@ next-set f (suc n) at left g e h = go (isNil (drop at f)) refl (read (drop at f)
 
     go : (b : Bool) → isNil (drop at f) ≡ b → (q : Reply Parsed) → read (drop at f) ≡ q
         → made (cond b (done []) (thenTo (placed at q) after)) ≡ Done left → NextSet f (suc n) at left
-    go true x q y p = let z : _≡_ {A = ℕ} 0 left = count-same p in absurd (omega arith)
-    go false x (refused r) y p = done-refused p
+    go true x q y p = let z : _≡_ {A = ℕ} 0 left = made-same p in absurd (omega arith)
+    go false x (refused r) y p = refused-made p
     go false x (done d) y p = there d x y p
 
 -- one entry more is put, and those of the sets after it are left
@@ -135,8 +129,6 @@ set-turn f at k count e q h g p =
 
 -- none is left
 pub put-end : (f : List ℕ) (n at to : ℕ) (b : List ℕ) → made (setsFrom n at (drop at f)) ≡ Done 0 → b ≡ over to (columns (listed (setsFrom n at (drop at f)))) b
-put-end f n at to b e = over-none b to ∙ ap (λ (es : List DayEntry). over to (columns es) b) (sym (none (listed (setsFrom n at (drop at f))) (length-listed (setsFrom n at (drop at f)) 0 e)))
-  where
-    none : (es : List DayEntry) → length es ≡ 0 → es ≡ []
-    none [] q = refl
-    none (x ∷ es) q = absurd (omega arith)
+put-end f n at to b e =
+    over-none b to
+    ∙ ap (λ (es : List DayEntry). over to (columns es) b) (sym (none-of-length (listed (setsFrom n at (drop at f))) (length-listed (setsFrom n at (drop at f)) 0 e)))

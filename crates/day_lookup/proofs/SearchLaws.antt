@@ -2,23 +2,24 @@
 use mathlib.Core.Path.{_≡_, refl, sym, ap, ap₂, _∙_, subst}
 use mathlib.Core.Bool.{Bool, true, false, cond, _&&_, true≢false}
 use mathlib.Core.List.{List, [], _∷_, _++_}
-use Prim.Native.Nat.{ℕ, zero, suc, _+_, _-_, _≤_, _<_}
+use Prim.Native.Nat.{ℕ, zero, suc, _+_, _*_, _≤_, _<_}
 use native.Mathlib.Nat.{zero-add}
 use native.Mathlib.Omega.{arith}
 use lib.Dec.{leb}
 use lib.ListN.{length, drop, getD, set, length-append, length-drop, drop-of-length-le}
 use lib.Seq.{set-split}
-use borrow.Author.Tests.{le-leb, lt-leb, leb-true, leb-false}
+use borrow.Author.Tests.{le-leb, lt-leb}
 use Rattle.meaning.specs.declared.Made.the-variants.{Done, Refused}
 use Rattle.meaning.specs.Refusals.{refusal, noRoom}
 use Rattle.meaning.specs.Lines.{leastByte}
-use Rattle.meaning.proofs.Bools.{and-left, and-right, byte-then}
+use Rattle.meaning.proofs.Bools.{and-left, and-right, none-of-length, byte-then}
 use Rattle.byte_low.specs.Low.{firstLow}
 use Rattle.byte_put.specs.Places.{over}
 use Rattle.byte_put.proofs.OverLaws.{Turned, here-fits, turned, over-none}
 use Rattle.meaning_day.specs.declared.DayEntry.{DayEntry}
 use Rattle.meaning_day.specs.Days.{noLow, matches, found, lookup}
 use Rattle.meaning_day.specs.DayCalls.{entriesIn, lookupCall}
+use Rattle.meaning_day.proofs.ColumnLaws.{entries-within}
 use Rattle.day_lookup.specs.Searching.{standsAt, numberIf, standing}
 
 -- ---- one number
@@ -71,6 +72,16 @@ no-entry ns at h = few (drop at ns) (omega (arith, length-drop at ns))
 
 -- ---- the search over the entries from an offset on
 
+-- at most as many are found as there are entries
+few-found : (f c : List ℕ) (k : ℕ) (es : List DayEntry) → length (standing f c k es) ≤ length es
+unfolding standing
+few-found f c k [] = omega arith
+few-found f c k (e ∷ es) = go (standsAt f (e .place) c) (few-found f c (suc k) es)
+  where
+    go : (b : Bool) → length (standing f c (suc k) es) ≤ length es → length (numberIf b k ++ standing f c (suc k) es) ≤ length (e ∷ es)
+    go true h = omega arith
+    go false h = omega arith
+
 module _ (f c ns : List ℕ) (at : ℕ) where
   -- the numbers found there; the first entry has number k
   abbrev left : ℕ → List ℕ
@@ -87,13 +98,9 @@ module _ (f c ns : List ℕ) (at : ℕ) where
   unfolding standing
   none-left h k = rw (no-entry ns at h)
 
-  -- if some are found there, an entry stands there
-  pub some-left : (k : ℕ) → 0 < length (left k) → at + 4 ≤ length ns
-  some-left k h = go (leb (at + 4) (length ns)) refl
-    where
-      go : (b : Bool) → leb (at + 4) (length ns) ≡ b → at + 4 ≤ length ns
-      go true e = leb-true (at + 4) (length ns) e
-      go false e = absurd (omega (arith, ap length (none-left (leb-false (at + 4) (length ns) e) k)))
+  -- the four numbers of each that is found there stand there
+  pub left-within : at ≤ length ns → (k : ℕ) → at + length (left k) * 4 ≤ length ns
+  left-within h k = omega (arith, few-found f c k (entriesIn (drop at ns)), entries-within (drop at ns), length-drop at ns)
 
 -- how many are found does not depend on the first number
 any-number : (f c : List ℕ) (j k : ℕ) (es : List DayEntry) → length (standing f c j es) ≡ length (standing f c k es)
@@ -153,11 +160,7 @@ module _ (f c ns : List ℕ) (at : ℕ) where
 
   -- all are put
   pub put-end : (number to : ℕ) (b : List ℕ) → length (standing f c number (entriesIn (drop at ns))) ≡ 0 → b ≡ over to (standing f c number (entriesIn (drop at ns))) b
-  put-end number to b e = over-none b to ∙ ap (λ (xs : List ℕ). over to xs b) (sym (none (standing f c number (entriesIn (drop at ns))) e))
-    where
-      none : (xs : List ℕ) → length xs ≡ 0 → xs ≡ []
-      none [] z = refl
-      none (x ∷ xs) z = absurd (omega arith)
+  put-end number to b e = over-none b to ∙ ap (λ (xs : List ℕ). over to xs b) (sym (none-of-length (standing f c number (entriesIn (drop at ns))) e))
 
 -- ---- no asked byte under 20h
 

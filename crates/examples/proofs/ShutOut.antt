@@ -39,6 +39,7 @@ use Rattle.meaning.specs.Computes.{computes}
 use Rattle.meaning.proofs.Asking.{text, line}
 use Rattle.meaning.proofs.Bools.{Every}
 use Rattle.meaning.proofs.FaultLaws.{refused-done, done-same}
+use Rattle.meaning.proofs.AnswerLaws.{refused-accepted, accepted-same, refused-made, made-same}
 use Rattle.meaning.proofs.EntryLaws.{Byte}
 use Rattle.meaning.proofs.SetLaws.{Standing, accepted, read-render, sum-back, Accepted as AcceptedSet}
 use Rattle.meaning.proofs.WriterLaws.{listOf, ListMade, list-only}
@@ -147,18 +148,6 @@ bytes-q = omega arith
 
 not-p-and-q : {a : Reply (List ℕ)} → a ≡ done p → a ≡ done q → ⊥
 not-p-and-q e f = omega (arith, ap length (done-same (sym e ∙ f)), length-p, length-q)
-
-refused-made : {r : Refusal} {n : ℕ} → _≡_ {A = Made} (Refused r) (Done n) → ⊥
-refused-made e = let z : _≡_ {A = ℕ} 0 1 = cc in omega arith
-
-made-same : {m n : ℕ} → _≡_ {A = Made} (Done m) (Done n) → m ≡ n
-made-same e = cc
-
-refused-accepted : {r : Refusal} {x : Shape} → _≡_ {A = Judged} (RefusedSet r) (Accepted x) → ⊥
-refused-accepted e = let z : _≡_ {A = ℕ} 0 1 = cc in omega arith
-
-accepted-same : {x y : Shape} → _≡_ {A = Judged} (Accepted x) (Accepted y) → x ≡ y
-accepted-same e = cc
 
 -- an answer and a buffer
 abbrev call : {A : Type 0} → Made → List A → Call A

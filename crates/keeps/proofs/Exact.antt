@@ -25,6 +25,7 @@ use Rattle.meaning.specs.Reading.{read, knownNumber, shape, judged, judge}
 use Rattle.meaning.proofs.Bools.{and-left, and-right, and-both, or-right, nil-is, Every, every-at}
 use Rattle.meaning.proofs.DigitLaws.{number-digits, digits-number, digits-all}
 use Rattle.meaning.proofs.FaultLaws.{ask-last, done-same}
+use Rattle.meaning.proofs.AnswerLaws.{refused-accepted, accepted-same}
 use Rattle.meaning.proofs.LineLaws.{Sound, NoStart}
 use Rattle.meaning.proofs.PlaceLaws.{drop-render}
 use Rattle.meaning.proofs.RuleLaws.{ruled, unruled}
@@ -166,12 +167,6 @@ pub keeps-accepted : (s : List ℕ) (t : SetType) (fs : List Field) (rest : List
 keeps-accepted s t fs rest k = ap read (k .its-bytes) ∙ read-render fs rest (keeps-standing s t fs rest k) (over-of rest (k .ends .there))
 
 -- ---- judging is exact
-
-refused-accepted {ℓ} : {X : Type ℓ} {r : Refusal} {x : Shape} → _≡_ {A = Judged} (Refused r) (Accepted x) → X
-refused-accepted e = let z : _≡_ {A = ℕ} 0 1 = cc in absurd (omega arith)
-
-accepted-same : {x y : Shape} → _≡_ {A = Judged} (Accepted x) (Accepted y) → x ≡ y
-accepted-same e = cc
 
 -- the shape of a set of type t
 abbrev shapeOf : SetType → List Field → Shape

@@ -40,11 +40,15 @@ pub not-false : (b : Bool) → not b ≡ false → b ≡ true
 not-false true e = refl
 not-false false e = sym e
 
--- ---- lists of no bytes
+-- ---- lists of nothing
 
 pub nil-is : (t : List ℕ) → isNil t ≡ true → t ≡ []
 nil-is [] e = refl
 nil-is (b ∷ bs) e = absurd (true≢false (sym e))
+
+pub none-of-length : {A : Type 0} (xs : List A) → length xs ≡ 0 → xs ≡ []
+none-of-length [] e = refl
+none-of-length (x ∷ xs) e = absurd (omega arith)
 
 -- ---- the bytes from an offset on
 

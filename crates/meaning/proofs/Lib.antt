@@ -4,6 +4,7 @@ pub mod LeftLaws
 pub mod SameLaws
 pub mod DigitLaws
 pub mod FaultLaws
+pub mod AnswerLaws
 pub mod FirstLaws
 pub mod RealLaws
 pub mod PieceLaws

@@ -22,6 +22,7 @@ use Rattle.meaning.specs.Pieces.{Parsed, parsed}
 use Rattle.meaning.specs.Lines.{size, startsSet, setOver}
 use Rattle.meaning.specs.Reading.{shape, read, judge}
 use Rattle.meaning.specs.Answers.{Call, made}
+use Rattle.meaning.proofs.Bools.{none-of-length}
 use Rattle.meaning.proofs.FaultLaws.{refused-done, done-same, thenTo-done}
 use Rattle.meaning.proofs.Demands.{judge-read, read-judge}
 use Rattle.meaning_day.specs.declared.DayEntry.{DayEntry}
@@ -35,10 +36,6 @@ use Rattle.meaning_day.proofs.DayDemands.{front-columns, done-build, do
 
 -- ---- one accepted set, to its last byte
 
-no-bytes : (t : List ℕ) → length t ≡ 0 → t ≡ []
-no-bytes [] e = refl
-no-bytes (b ∷ t) e = absurd (omega arith)
-
 -- s is one accepted set: judged by itself, and its length is that of s
 pub record OneSet (s : List ℕ) : Type 0 where
   pub shape-of : Shape
@@ -51,7 +48,7 @@ one-set-read s o =
     let y = judge-read s (o .shape-of) (o .is-accepted) in
     let fs : List Field = y .0 .fields in
     let n : size fs ≡ length s = ap (λ (x : Shape). x .length) (sym (y .2)) ∙ o .whole-length in
-    let t : y .0 .rest ≡ [] = no-bytes (y .0 .rest) (omega (arith, read-length s (y .0) (y .1))) in
+    let t : y .0 .rest ≡ [] = none-of-length (y .0 .rest) (omega (arith, read-length s (y .0) (y .1))) in
     (fs, y .1 ∙ ap (λ (u : List ℕ). done (parsed fs u)) t)
 
 -- and the other way
@@ -175,16 +172,16 @@ pub record Built (f index : List ℕ) (n : ℕ) : Type 0 where
 pub built-by-call : (f b : List ℕ) (n : ℕ) → buildCall f b .answer ≡ Done n → Built f (buildCall f b .buffer) n
 built-by-call f b n e = record { lent = b; answered = e; front = refl }
 
--- then the entries are there
-built-entries : (f index : List ℕ) (n : ℕ) → Built f index n
-    → (room : ℕ) × (es : List DayEntry) × (build f room ≡ done es) × (length es ≡ n) × (take (length es) (entriesIn index) ≡ es)
+-- then the entries are there, and the numbers at the front are theirs
+pub built-entries : (f index : List ℕ) (n : ℕ) → Built f index n
+    → (room : ℕ) × (es : List DayEntry) × (build f room ≡ done es) × (length es ≡ n) × (take (length es) (entriesIn index) ≡ es) × (take (n * 4) index ≡ columns es)
 built-entries f index n b =
     let m = done-build f (b .lent) n (b .answered) in
     let es : List DayEntry = m .entries in
     let l : length (columns es) ≡ n * 4 = length-columns es ∙ ap (λ (k : ℕ). k * 4) (m .so-many) in
     let t : take (n * 4) index ≡ columns es = b .front ∙ (ap (take (n * 4)) (m .left) ∙ take-at (columns es) (drop (n * 4) (b .lent)) (n * 4) l) in
     let w : index ≡ columns es ++ drop (n * 4) index = sym (take-append-drop (n * 4) index) ∙ ap (λ (ns : List ℕ). ns ++ drop (n * 4) index) t in
-    (length (entriesIn (b .lent)), es, m .is-done, m .so-many, ap (λ (ns : List ℕ). take (length es) (entriesIn ns)) w ∙ front-columns es (drop (n * 4) index))
+    (length (entriesIn (b .lent)), es, m .is-done, m .so-many, ap (λ (ns : List ℕ). take (length es) (entriesIn ns)) w ∙ front-columns es (drop (n * 4) index), t)
 
 -- a call that makes an index: its answer and every number
 callOf : List ℕ → Reply (List DayEntry) → Call ℕ
@@ -199,27 +196,6 @@ append-call-as-built f s index n b o =
     append-as-built f s (y .0) (y .1) (entriesIn index) (y .2) (λ h. y .4) o in
     ap (λ (k : ℕ). appendCall (f ++ s) (length f) index k) (sym (y .3)) ∙ ap (callOf index) e
 
--- in the simplest case: in the very numbers that building left
-pub append-next-as-built : (f s b index : List ℕ) (n : ℕ) → buildCall f b .answer ≡ Done n → index ≡ buildCall f b .buffer → OneSet s
-    → appendCall (f ++ s) (length f) index n ≡ buildCall (f ++ s) index
-append-next-as-built f s b index n e i o =
-    append-call-as-built f s index n (record { lent = b; answered = e; front = ap (take (n * 4)) i }) o
-
--- with the entries of the old index, made for any room, instead of a call; whatever stands after them
-pub append-entries-as-built : (f s index : List ℕ) (room : ℕ) (es : List DayEntry) → build f room ≡ done es → take (length es) (entriesIn index) ≡ es → OneSet s
-    → appendCall (f ++ s) (length f) index (length es) ≡ buildCall (f ++ s) index
-unfolding callOf
-append-entries-as-built f s index room es h front o = ap (callOf index) (append-as-built f s room es (entriesIn index) h (λ l. front) o)
-
--- the answers to bytes that start a set and are refused by themselves, and the lent numbers, which both leave as they were
-pub refused-call-alike : (f s index : List ℕ) (n : ℕ) (r : Refusal) → Built f index n → startsSet s ≡ true → read s ≡ refused r
-    → appendCall (f ++ s) (length f) index n ≡ buildCall (f ++ s) index
-unfolding callOf
-refused-call-alike f s index n r b st e =
-    let y = built-entries f index n b in
-    let z = refused-alike f s (y .0) (length (entriesIn index)) (y .1) (entriesIn index) n r (y .2) st e in
-    ap (callOf index) (z .0 ∙ sym (z .1))
-
 -- ---- the other way: only one accepted set is ever appended
 
 pub append-takes-one-set : (f : List ℕ) (old : ℕ) (lent : List DayEntry) (count : ℕ) (xs : List DayEntry) → append f old lent count ≡ done xs → OneSet (drop old f)
@@ -228,19 +204,7 @@ append-takes-one-set f old lent count xs e = let a = append-only f old lent coun
 pub append-takes-joined : (f s : List ℕ) (lent : List DayEntry) (count : ℕ) (xs : List DayEntry) → append (f ++ s) (length f) lent count ≡ done xs → OneSet s
 append-takes-joined f s lent count xs e = rw (drop-append-seam f s) at (append-takes-one-set (f ++ s) (length f) lent count xs e)
 
--- So an append that is done is always what building gives, if the old index was built: here for a file f of which the first `old` bytes are the old file.
-pub append-done-as-built : (f : List ℕ) (old room : ℕ) (es lent xs : List DayEntry) → build (take old f) room ≡ done es → take (length es) lent ≡ es
-    → append f old lent (length es) ≡ done xs → build f (length lent) ≡ done xs
-append-done-as-built f old room es lent xs h front e =
-    let a = append-only f old lent (length es) xs e in
-    let w : take old f ++ drop old f ≡ f = take-append-drop old f in
-    let l : length (take old f) ≡ old = length-take-le old f (a .within) in
-    let o : OneSet (drop old f) = append-takes-one-set f old lent (length es) xs e in
-    let same : append (take old f ++ drop old f) (length (take old f)) lent (length es) ≡ build (take old f ++ drop old f) (length lent) =
-    append-as-built (take old f) (drop old f) room es lent h (λ m. front) o in
-    sym (ap (λ (g : List ℕ). build g (length lent)) w) ∙ (sym same ∙ (ap₂ (λ (g : List ℕ) (k : ℕ). append g k lent (length es)) w l ∙ e))
-
--- the same on calls, for the whole of the answer and the numbers
+-- So an append that is done is always what building gives, answer and every number, if the old index was built: here for a file f of which the first `old` bytes are the old file.
 pub append-call-done-as-built : (f : List ℕ) (old : ℕ) (index : List ℕ) (n m : ℕ) → Built (take old f) index n → appendCall f old index n .answer ≡ Done m
     → appendCall f old index n ≡ buildCall f index
 append-call-done-as-built f old index n m b e =
@@ -269,10 +233,6 @@ no-entries n at [] h = refl
 no-entries zero at (b ∷ t) h = no-more at b t [] h
 no-entries (suc n) at (b ∷ t) h = absurd (cons≢nil (sym (first-set n at b t [] h .all)))
 
-no-others : (es : List DayEntry) → length es ≡ 0 → es ≡ []
-no-others [] e = refl
-no-others (x ∷ es) e = absurd (omega arith)
-
 -- bytes of which one entry is made are one accepted set
 one-entry : (n at : ℕ) (s : List ℕ) (es : List DayEntry) → setsFrom n at s ≡ done es → length es ≡ 1 → OneSet s
 one-entry zero at [] es h l = let e : [] ≡ es = done-same (sym (no-sets zero at) ∙ h) in absurd (omega (arith, ap length e))
@@ -281,7 +241,7 @@ one-entry (suc n) at [] es h l = let e : [] ≡ es = done-same (sym (no-sets (su
 one-entry (suc n) at (b ∷ s) es h l =
     let r = first-set n at b s es h in
     let fs : List Field = r .what .fields in
-    let o : r .others ≡ [] = no-others (r .others) (omega (arith, ap length (r .all))) in
+    let o : r .others ≡ [] = none-of-length (r .others) (omega (arith, ap length (r .all))) in
     let t : r .what .rest ≡ [] = no-entries n (at + size fs) (r .what .rest) (r .after-it ∙ ap done o) in
     read-one-set (b ∷ s) fs (r .was-read ∙ ap (λ (u : List ℕ). done (parsed fs u)) t)
 

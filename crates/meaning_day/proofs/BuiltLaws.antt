@@ -15,7 +15,7 @@ use Rattle.meaning.specs.Pieces.{Parsed, parsed}
 use Rattle.meaning.specs.Lines.{size, render}
 use Rattle.meaning.specs.Reading.{shape, read, judge}
 use Rattle.meaning.specs.Answers.{listCall, writeCall}
-use Rattle.meaning.proofs.Bools.{Every, every-at}
+use Rattle.meaning.proofs.Bools.{none-of-length, Every, every-at}
 use Rattle.meaning.proofs.FaultLaws.{done-same}
 use Rattle.meaning.proofs.LineLaws.{length-render, take-render}
 use Rattle.meaning.proofs.SetLaws.{Standing, Accepted as AcceptedSet, accepted, read-render}
@@ -74,10 +74,6 @@ pub record Filled (f : List ℕ) (es : List DayEntry) : Type 0 where
   pub no-set : f ≡ [] → es ≡ []
   pub no-byte : es ≡ [] → f ≡ []
 
-no-bytes : (f : List ℕ) → 0 ≡ 0 + length f → f ≡ []
-no-bytes [] e = refl
-no-bytes (b ∷ f) e = absurd (omega arith)
-
 -- so is each file of which an index was built
 pub sets-tile : (f : List ℕ) (room : ℕ) (es : List DayEntry) → build f room ≡ done es → Filled f es
 sets-tile f room es h =
@@ -88,7 +84,9 @@ sets-tile f room es h =
       next-offset = λ k e l. rw (add-one k) (tiles-next 0 es (0 + length f) k e t (omega arith));
       last-end = λ k e l. tiles-last 0 es (0 + length f) k e t (omega arith) ∙ omega arith;
       no-set = λ p. sym (done-same (sym (no-sets maxSets 0) ∙ rw p at q));
-      no-byte = λ p. no-bytes f (rw p at t);
+      no-byte = λ p.
+          let z : 0 ≡ 0 + length f = rw p at t in
+          none-of-length f (omega arith);
     }
 
 -- ---- each entry is that of an accepted set

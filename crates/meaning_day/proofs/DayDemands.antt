@@ -1,12 +1,10 @@
--- The calls of the day file: "All lent buffers then keep every byte and entry" after a refusal, and what a call that is done answers and holds.
+-- The calls of the day file: "All lent buffers then keep every byte and entry" after a refusal, and what building and appending answer and hold if they are done.
 use mathlib.Core.Path.{_≡_, refl, sym, ap, ap₂, _∙_}
 use mathlib.Core.List.{List, [], _∷_, _++_, append-assoc}
 use Prim.Native.Nat.{ℕ, _+_, _*_, _≤_}
 use native.Mathlib.Omega.{arith}
-use lib.Dec.{leb}
 use lib.ListN.{length, take, drop, length-append, length-take, length-drop}
 use lib.Seq.{take-append-seam}
-use borrow.Author.Tests.{leb-true}
 use Rattle.meaning.specs.declared.Refusal.{Refusal}
 use Rattle.meaning.specs.declared.Made.the-variants.{Done, Refused}
 use Rattle.meaning.specs.Field.{Field}
@@ -14,9 +12,9 @@ use Rattle.meaning.specs.Refusals.{Reply, refused, done}
 use Rattle.meaning.specs.Pieces.{parsed}
 use Rattle.meaning.specs.Reading.{read}
 use Rattle.meaning.specs.Answers.{made, madeCount, entriesLeft}
-use Rattle.meaning.proofs.FaultLaws.{withRoom-done}
+use Rattle.meaning.proofs.AnswerLaws.{refused-made, made-same}
 use Rattle.meaning_day.specs.declared.DayEntry.{DayEntry}
-use Rattle.meaning_day.specs.Days.{dayEntry, build, append, found, lookup}
+use Rattle.meaning_day.specs.Days.{dayEntry, build, append, lookup}
 use Rattle.meaning_day.specs.DayCalls.{columns, entriesIn, indexLeft, buildCall, appendCall, lookupCall}
 use Rattle.meaning_day.proofs.ColumnLaws.{length-columns, entries-within, columns-append, entries-columns, take-columns}
 use Rattle.meaning_day.proofs.DayLaws.{built-sets, append-only}
@@ -25,7 +23,7 @@ use Rattle.meaning_day.proofs.DayLaws.{built-sets, append-only}
 
 kept-index : (x : Reply (List DayEntry)) (index : List ℕ) (r : Refusal) → made x ≡ Refused r → (madeCount (made x) ≡ 0) × (indexLeft x index ≡ index)
 kept-index (refused q) index r e = (refl, refl)
-kept-index (done es) index r e = let z : _≡_ {A = ℕ} 0 1 = cc in absurd (omega arith)
+kept-index (done es) index r e = refused-made (sym e)
 
 pub refused-build : (f index : List ℕ) (r : Refusal) → buildCall f index .answer ≡ Refused r
     → (madeCount (buildCall f index .answer) ≡ 0) × (buildCall f index .buffer ≡ index)
@@ -41,14 +39,14 @@ refused-lookup f index c out r = go (lookup f (entriesIn index) c (length out))
   where
     go : (x : Reply (List ℕ)) → made x ≡ Refused r → (madeCount (made x) ≡ 0) × (entriesLeft x out ≡ out)
     go (refused q) e = (refl, refl)
-    go (done ns) e = let z : _≡_ {A = ℕ} 0 1 = cc in absurd (omega arith)
+    go (done ns) e = refused-made (sym e)
 
 -- ---- a call that is done
 
 -- what was made, and how many they are
 pub made-done : {A : Type 0} (x : Reply (List A)) (n : ℕ) → made x ≡ Done n → (xs : List A) × (x ≡ done xs) × (length xs ≡ n)
-made-done (refused q) n e = let z : _≡_ {A = ℕ} 0 1 = cc in absurd (omega arith)
-made-done (done xs) n e = (xs, refl, cc)
+made-done (refused q) n e = refused-made e
+made-done (done xs) n e = (xs, refl, made-same e)
 
 -- a reply that made an index of n sets in lent numbers, and what the numbers are afterwards
 pub record IndexMade (x : Reply (List DayEntry)) (index : List ℕ) (n : ℕ) : Type 0 where
@@ -124,14 +122,3 @@ done-append f old index count n e =
           ∙ (ap (λ (ns : List ℕ). ns ++ drop ((count + 1) * 4) index) (after-old index count new (a .room))
           ∙ append-assoc (take (count * 4) index) (columns new) (drop ((count + 1) * 4) index)));
     }
-
--- a lookup answers how many entries match, and holds their numbers at the front
-pub done-lookup : (f index c out : List ℕ) (n : ℕ) → lookupCall f index c out .answer ≡ Done n
-    → (n ≡ length (found f c 1 (entriesIn index))) × (n ≤ length out) × (lookupCall f index c out .buffer ≡ found f c 1 (entriesIn index) ++ drop n out)
-unfolding lookup
-done-lookup f index c out n e =
-    let ms : List ℕ = found f c 1 (entriesIn index) in
-    let y = made-done (lookup f (entriesIn index) c (length out)) n e in
-    let w = withRoom-done (leb (length ms) (length out)) (length ms) ms (y .0) (y .1) in
-    let k : n ≡ length ms = sym (y .2) ∙ ap length (sym (w .1)) in
-    (k, omega (arith, leb-true (length ms) (length out) (w .0)), rw (w .0, k))

@@ -28,12 +28,12 @@ use Rattle.meaning_day.specs.Days.{maxSets, linesBefore, dayEntry, place
 -- ---- replies
 
 -- what is made of a done reply, and then nothing more
-then-same : {A : Type 0} (r : Reply A) → thenTo r (λ a. done a) ≡ r
+pub then-same : {A : Type 0} (r : Reply A) → thenTo r (λ a. done a) ≡ r
 then-same (refused x) = refl
 then-same (done a) = refl
 
 -- what is made in two steps
-then-twice : {A B C : Type 0} (r : Reply A) (j : A → B) (k : B → Reply C) → thenTo (thenTo r (λ a. done (j a))) k ≡ thenTo r (λ a. k (j a))
+pub then-twice : {A B C : Type 0} (r : Reply A) (j : A → B) (k : B → Reply C) → thenTo (thenTo r (λ a. done (j a))) k ≡ thenTo r (λ a. k (j a))
 then-twice (refused x) j k = refl
 then-twice (done a) j k = refl
 

@@ -16,7 +16,7 @@ use Rattle.meaning.specs.Refusals.{Reply, refused, done, refusal, thenTo, withR
 use Rattle.meaning.specs.Pieces.{Parsed, parsed}
 use Rattle.meaning.specs.Lines.{size}
 use Rattle.meaning.specs.Reading.{read}
-use Rattle.meaning.proofs.Bools.{nil-is}
+use Rattle.meaning.proofs.Bools.{nil-is, none-of-length}
 use Rattle.meaning.proofs.FaultLaws.{refused-done}
 use Rattle.keeps.specs.Keeps.{Keeps}
 use Rattle.keeps.proofs.Exact.{accepted-keeps, keeps-accepted}
@@ -73,10 +73,6 @@ nil-not : (s : List ℕ) → s ≢ [] → isNil s ≡ false
 nil-not [] h = absurd (h refl)
 nil-not (b ∷ s) h = refl
 
-no-bytes : (s : List ℕ) → length s ≡ 0 → s ≡ []
-no-bytes [] e = refl
-no-bytes (b ∷ s) e = absurd (omega arith)
-
 module _ (f : List ℕ) (old : ℕ) (lent : List DayEntry) (n : ℕ) where
   -- the entries so far, and then that of a set that stands after the old length, with nothing after it
   appends-so : (fs : List Field) → read (drop old f) ≡ done (parsed fs []) → n + 1 ≤ maxSets → n + 1 ≤ length lent
@@ -110,7 +106,7 @@ module _ (f : List ℕ) (old : ℕ) (lent : List DayEntry) (n : ℕ) where
       let s : SetOf f (entryAt es n) = x .new-set in
       let q : read (drop old f) ≡ done (parsed (s .lines) (s .rest)) =
       subst (λ (i : ℕ). read (drop i f) ≡ done (parsed (s .lines) (s .rest))) (x .at-old) (set-read f (entryAt es n) s) in
-      q ∙ ap (λ (t : List ℕ). done (parsed (s .lines) t)) (no-bytes (s .rest) (omega (arith, ends-within f old (parsed (s .lines) (s .rest)) q, x .to-the-end, s .length-is)))
+      q ∙ ap (λ (t : List ℕ). done (parsed (s .lines) t)) (none-of-length (s .rest) (omega (arith, ends-within f old (parsed (s .lines) (s .rest)) q, x .to-the-end, s .length-is)))
 
   -- and back: every test is passed, and the entries are the only ones
   appends-append : (es : List DayEntry) → Appends f old lent n es → append f old lent n ≡ done es

@@ -24,7 +24,7 @@ use Rattle.keeps.proofs.Exact.{accepted-exactly}
 use Rattle.breaches.proofs.CallExact.{refused-same}
 use Rattle.meaning_day.specs.declared.DayEntry.{DayEntry}
 use Rattle.meaning_day.specs.Days.{maxSets, dayEntry, setsFrom, build}
-use Rattle.meaning_day.proofs.DayLaws.{no-sets, set-before, set-refused, set-too-many, built-sets}
+use Rattle.meaning_day.proofs.DayLaws.{then-same, then-twice, no-sets, set-before, set-refused, set-too-many, built-sets}
 use Rattle.theory_day.specs.DayRules.{entryAt, SetOf, startOf, SetsUpTo, Builds}
 use Rattle.theory_day.specs.DayBreaches.{OwnRefusal, BuildRefused, own-refusal, too-many, no-room}
 use Rattle.theory_day.proofs.SetInFile.{starts-within, ends-within, rest-is, set-of, set-read, set-entry, read-refused}
@@ -178,22 +178,12 @@ sets-say f (suc n) at h = go (λ p. sets-say f n p) (here f at)
 
 -- ---- and back
 
--- replies that are taken apart and put together again
-then-all : (y : Reply (List DayEntry)) → y ≡ thenTo y (λ ds. done ([] ++ ds))
-then-all (refused r) = refl
-then-all (done ds) = refl
-
-then-cons : (e : DayEntry) (es : List DayEntry) (y : Reply (List DayEntry))
-    → thenTo (thenTo y (λ ds. done (es ++ ds))) (λ ds. done (e ∷ ds)) ≡ thenTo y (λ ds. done (e ∷ es ++ ds))
-then-cons e es (refused r) = refl
-then-cons e es (done ds) = refl
-
 -- after the sets es, which end at p, it goes on there with m sets more
 through : (f : List ℕ) (n at : ℕ) (es : List DayEntry) (p m : ℕ) → SetsBetween f at es p → n ≡ length es + m
     → setsFrom n at (drop at f) ≡ thenTo (setsFrom m p (drop p f)) (λ ds. done (es ++ ds))
 through f n at [] p m x q =
     let k : n ≡ m = omega arith in
-    ap₂ (λ (i j : ℕ). setsFrom i j (drop j f)) k x ∙ then-all (setsFrom m p (drop p f))
+    ap₂ (λ (i j : ℕ). setsFrom i j (drop j f)) k x ∙ sym (then-same (setsFrom m p (drop p f)))
 through f zero at (e ∷ es) p m x q = absurd (omega arith)
 through f (suc n) at (e ∷ es) p m x q =
     let s : SetOf f e = x .1 in
@@ -204,7 +194,7 @@ through f (suc n) at (e ∷ es) p m x q =
     through f n (at + e .length) es p m (x .2) (omega arith) in
     sets-more f n at (parsed (s .lines) (s .rest)) a
     ∙ (ap₂ (λ (i : ℕ) (u : DayEntry). thenTo (setsFrom n i (drop i f)) (λ ds. done (u ∷ ds))) c b
-    ∙ (ap (λ (y : Reply (List DayEntry)). thenTo y (λ ds. done (e ∷ ds))) ih ∙ then-cons e es (setsFrom m p (drop p f))))
+    ∙ (ap (λ (y : Reply (List DayEntry)). thenTo y (λ ds. done (e ∷ ds))) ih ∙ then-twice (setsFrom m p (drop p f)) (λ ds. es ++ ds) (λ ds. done (e ∷ ds))))
 
 -- a set that keeps the rules, as it is read
 front-read : (f : List ℕ) (p : ℕ) (x : Shape) → SetAtFront (drop p f) x → (d : Parsed) × (read (drop p f) ≡ done d)

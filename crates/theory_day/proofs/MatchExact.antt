@@ -5,23 +5,22 @@ use mathlib.Core.Bool.{true}
 use mathlib.Core.List.{List, [], _++_, append-nil}
 use mathlib.Core.Logic.{_↔_}
 use Prim.Native.Nat.{ℕ, _*_, _≤_, _<_}
-use native.Mathlib.Omega.{arith}
 use lib.ListN.{length, take, drop}
 use lib.Seq.{take-at}
-use Rattle.meaning.specs.declared.Made.the-variants.{Done, Refused}
+use Rattle.meaning.specs.declared.Made.the-variants.{Done}
 use Rattle.meaning.specs.Field.{Field, labelAtLine, contentAtLine}
 use Rattle.meaning.specs.Refusals.{Reply, refused, done}
 use Rattle.meaning.specs.Pieces.{parsed}
 use Rattle.meaning.specs.Reading.{read}
 use Rattle.meaning.specs.Answers.{Call, made, entriesLeft}
+use Rattle.meaning.proofs.AnswerLaws.{refused-made, made-same}
 use Rattle.meaning.proofs.SetLaws.{accepted}
 use Rattle.keeps.proofs.Exact.{accepted-keeps}
 use Rattle.meaning_day.specs.declared.DayEntry.{DayEntry}
 use Rattle.meaning_day.specs.Days.{patientLabel, linesBefore, build, matches, lookup}
 use Rattle.meaning_day.specs.DayCalls.{columns, entriesIn, lookupCall}
-use Rattle.meaning_day.proofs.ColumnLaws.{length-columns, entries-columns}
-use Rattle.meaning_day.proofs.DayDemands.{done-build}
-use Rattle.meaning_day.proofs.AppendLaws.{Built}
+use Rattle.meaning_day.proofs.ColumnLaws.{entries-columns}
+use Rattle.meaning_day.proofs.AppendLaws.{Built, built-entries}
 use Rattle.meaning_day.proofs.PatientLaws.{patient-there}
 use Rattle.meaning_day.proofs.BuiltLaws.{partOf}
 use Rattle.meaning_day.proofs.LookupLaws.{match-exact}
@@ -92,10 +91,9 @@ call-is y out ns = (to y, λ e. ap (λ (z : Reply (List ℕ)). record { answer =
   where
     to : (z : Reply (List ℕ)) → _≡_ {A = Call ℕ} (record { answer = made z; buffer = entriesLeft z out }) (record { answer = Done (length ns); buffer = ns ++ drop (length ns) out })
         → z ≡ done ns
-    to (refused r) e = let p : Refused r ≡ Done (length ns) = ap (λ (x : Call ℕ). x .answer) e in let z : _≡_ {A = ℕ} 0 1 = cc in absurd (omega arith)
+    to (refused r) e = refused-made (ap (λ (x : Call ℕ). x .answer) e)
     to (done ms) e =
-        let p : Done (length ms) ≡ Done (length ns) = ap (λ (x : Call ℕ). x .answer) e in
-        let n : length ms ≡ length ns = cc in
+        let n : length ms ≡ length ns = made-same (ap (λ (x : Call ℕ). x .answer) e) in
         let q : ms ++ drop (length ms) out ≡ ns ++ drop (length ns) out = ap (λ (x : Call ℕ). x .buffer) e in
         ap done (sym (take-at ms (drop (length ms) out) (length ns) n) ∙ (ap (take (length ns)) q ∙ take-at ns (drop (length ns) out) (length ns) refl))
 
@@ -103,12 +101,10 @@ call-is y out ns = (to y, λ e. ap (λ (z : Reply (List ℕ)). record { answer =
 front-built : (f index : List ℕ) (n : ℕ) → Built f index n → (room : ℕ) × (build f room ≡ done (entriesIn (take (n * 4) index)))
 unfolding entriesIn
 front-built f index n b =
-    let m = done-build f (b .lent) n (b .answered) in
-    let es : List DayEntry = m .entries in
-    let l : length (columns es) ≡ n * 4 = length-columns es ∙ ap (λ (k : ℕ). k * 4) (m .so-many) in
-    let t : take (n * 4) index ≡ columns es = b .front ∙ (ap (take (n * 4)) (m .left) ∙ take-at (columns es) (drop (n * 4) (b .lent)) (n * 4) l) in
-    let e : entriesIn (take (n * 4) index) ≡ es = ap entriesIn (t ∙ sym (append-nil (columns es))) ∙ (entries-columns es [] ∙ append-nil es) in
-    (length (entriesIn (b .lent)), m .is-done ∙ ap done (sym e))
+    let y = built-entries f index n b in
+    let es : List DayEntry = y .1 in
+    let e : entriesIn (take (n * 4) index) ≡ es = ap entriesIn (y .5 ∙ sym (append-nil (columns es))) ∙ (entries-columns es [] ∙ append-nil es) in
+    (y .0, y .2 ∙ ap done (sym e))
 
 -- THE REQUEST'S SENTENCE, on calls: "Lookup answers all sets whose 3000 content has the same bytes, each once, in file order." The numbers that are lent start with an index of the file
 -- with n sets, by building, or by appending after building (`append-stays-built` in AppendLaws of crate `meaning_day`), and a lookup is given the numbers of these n entries. It answers

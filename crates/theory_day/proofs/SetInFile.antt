@@ -8,7 +8,7 @@ use Prim.Native.Nat.{ℕ, _+_, _<_}
 use native.Mathlib.Omega.{arith}
 use lib.Dec.{eqb}
 use lib.ListN.{length, take, drop, length-drop}
-use lib.Seq.{drop-at, drop-drop}
+use lib.Seq.{drop-drop}
 use borrow.Author.Tests.{leb-false, eqb-true, eqb-false}
 use Rattle.meaning.specs.declared.Refusal.{Refusal}
 use Rattle.meaning.specs.declared.Row.{Row}
@@ -24,7 +24,8 @@ use Rattle.meaning.specs.Rules.{profile}
 use Rattle.meaning.specs.Reading.{read, knownNumber, judged, judge}
 use Rattle.meaning.proofs.Bools.{end-is}
 use Rattle.meaning.proofs.FaultLaws.{refused-done}
-use Rattle.meaning.proofs.LineLaws.{length-render, render-split, take-render}
+use Rattle.meaning.proofs.AnswerLaws.{refused-accepted, refusal-same}
+use Rattle.meaning.proofs.LineLaws.{take-render}
 use Rattle.meaning.proofs.RowLaws.{some-same}
 use Rattle.meaning.proofs.SetLaws.{accepted, read-render}
 use Rattle.keeps.specs.Keeps.{HasRow, AtSetLevel, Repeats, KeepsRules}
@@ -36,7 +37,7 @@ use Rattle.breaches.proofs.CallExact.{refused-same}
 use Rattle.meaning_day.specs.declared.DayEntry.{DayEntry}
 use Rattle.meaning_day.specs.Days.{patientLabel, linesBefore, dayEntry, placed}
 use Rattle.meaning_day.proofs.PatientLaws.{patient-there}
-use Rattle.meaning_day.proofs.DayLaws.{accepted-starts, starts-some, read-length}
+use Rattle.meaning_day.proofs.DayLaws.{drop-lines, accepted-starts, starts-some, read-length}
 use Rattle.meaning_day.proofs.BuiltLaws.{partOf}
 use Rattle.theory_day.specs.DayRules.{SetOf}
 use Rattle.theory_day.specs.DayBreaches.{OwnRefusal}
@@ -67,10 +68,6 @@ one-patient-line t fs k i j a b p q = go (eqb i j) refl
         absurd (again (subst (λ (l : ℕ). Repeats t l) p (k .not-repeated-in-set i j a b (eqb-false i j e) (p ∙ sym q) top)))
 
 -- ---- an accepted set that starts at offset `at` of the file
-
--- after the lines stands what follows them
-drop-lines : (fs : List Field) (t : List ℕ) → drop (size fs) (render fs t) ≡ t
-drop-lines fs t = rw (render-split fs t) (drop-at (render fs []) t (size fs) (length-render fs [] ∙ omega arith))
 
 module _ (f : List ℕ) (at : ℕ) (d : Parsed) (e : read (drop at f) ≡ done d) where
   -- it has bytes
@@ -143,8 +140,8 @@ unfolding judge
 read-refused s r = (λ e. refused-exactly-with s r .0 (ap judged e), λ b. go (read s) refl (refused-exactly-with s r .1 b))
   where
     go : (y : Reply Parsed) → read s ≡ y → judged y ≡ Refused r → read s ≡ refused r
-    go (refused y) q f = q ∙ ap refused (cc)
-    go (done d) q f = let z : _≡_ {A = ℕ} 0 1 = cc in absurd (omega arith)
+    go (refused y) q f = q ∙ ap refused (refusal-same f)
+    go (done d) q f = refused-accepted (sym f)
 
 -- "the set's own, placed in the file"
 pub own-refused : (f : List ℕ) (at : ℕ) (r : Refusal) → (placed at (read (drop at f)) ≡ refused r) ↔ OwnRefusal f at r
