@@ -1,6 +1,6 @@
--- What the index of a day file is, what a set appended to it adds, and which sets a lookup finds: the sentences of request E1, each by itself. Nothing here has an order of
--- tests or a count that goes on; a number in a comment says which refusal a line shuts out. Stated by what a set is in Keeps (crate `keeps`). proofs/BuildExact, AppendExact, LookupExact and MatchExact: exactly these are made.
--- An entry is named by how many stand before it: entry 0 is the first.
+-- What the index of a day file is, what a set appended to it adds, and which sets a lookup finds: the sentences of request E1, each by itself. Nothing here has an order of tests
+-- or a count that goes on; a number in a comment says which refusal a line shuts out. Stated by what a set is in Keeps (crate `keeps`). proofs/BuildExact, AppendExact,
+-- LookupExact and MatchExact: exactly these are made. An entry is named by how many stand before it: entry 0 is the first.
 use mathlib.Core.Path.{_≡_}
 use mathlib.Core.List.{List, _∷_, _++_}
 use mathlib.Core.Logic.{_↔_}
