@@ -1,14 +1,18 @@
 /* gdt.h: reading, writing and correcting GDT 2.1 sets, and day files of them.
 
    Every call takes any bytes from anyone. It answers a record of numbers by value (gdt_view_copy a length). `no` is 0 if the call was
-   done, else the number of the refusal (GDT_EMPTY to GDT_TOO_MANY_SETS); then `place` says where, and `label` which label is concerned.
+   done, else the number of the refusal (GDT_EMPTY to GDT_HIGH_BYTE); then `place` says where, and `label` which label is concerned.
    Both are 0 if the call was done, and `label` is 0 if no label is concerned. After a refusal every lent byte, entry and number is what
    it was before, and the other numbers of the record are 0.
 
-   `place` is the offset of the first byte of the line concerned, for GDT_BAD_BYTE of that byte; what differs is said at the number. It
-   counts in the set; for gdt_write in the list (the entry's first byte); for an entry of a sheet in the sheet; for GDT_BAD_BYTE of a
-   correction in the new content. The day calls add the set's offset in the file to the place of what they find wrong in a set (GDT_EMPTY
-   to GDT_BAD_SUM); so GDT_MISSING at set level is at the set's offset.
+   `place` is the offset of the first byte of the line concerned, for GDT_BAD_BYTE and GDT_HIGH_BYTE of that byte; what differs is said at
+   the number. It counts in the set; for gdt_write in the list (the entry's first byte); for an entry of a sheet in the sheet; for
+   GDT_BAD_BYTE and GDT_HIGH_BYTE of a correction in the new content. The day calls add the set's offset in the file to the place of what
+   they find wrong in a set (GDT_EMPTY to GDT_BAD_SUM, and GDT_HIGH_BYTE); so GDT_MISSING at set level is at the set's offset.
+
+   A set that has 9206 with content `1` is in the 7-bit code: no content byte anywhere in it is over 7Fh, else GDT_HIGH_BYTE. Of a set this
+   is asked after GDT_MISSING and before GDT_BAD_SUM, of a list after GDT_MISSING and before GDT_NO_ROOM, of the new content of a correction
+   or of an entry of a sheet after GDT_BAD_CONTENT and before GDT_NO_ROOM. In any other set a content byte is 20h to FFh.
 
    A field list, and a sheet of pending corrections, is entry after entry with nothing between: the content's length in two bytes, the
    label (in a sheet the line number, from 1) in two bytes, both little-endian, then the content. A list has no entry for 8100: gdt_write
@@ -51,10 +55,11 @@ enum {
     GDT_BAD_USE = 18,        /* the used length is over the buffer, or the old length over the day file (place: its length); or another set follows the
                                 one that must be alone (place: that one's length) */
     GDT_NO_SUCH_LINE = 19,   /* line number 0, or beyond the set (place: the set's length) */
-    GDT_FIXED_LINE = 20,     /* lines 8000, 8100 and 9218 cannot be corrected */
+    GDT_FIXED_LINE = 20,     /* lines 8000, 8100, 9206 and 9218 cannot be corrected */
     GDT_BAD_LIST = 21,       /* an entry is cut, or its label is over 9999 */
     GDT_NO_ROOM = 22,        /* more room is needed; place: how many bytes, entries or found sets */
-    GDT_TOO_MANY_SETS = 23   /* a 2,049th set of a day file (place: its offset in the file) */
+    GDT_TOO_MANY_SETS = 23,  /* a 2,049th set of a day file (place: its offset in the file) */
+    GDT_HIGH_BYTE = 24       /* a content byte is over 7Fh, and the set has 9206 with content 1 (place: the first such byte; label 0) */
 };
 
 /* What judging a set answers: its length in bytes, its lines, and the number of its type, as 6310. */
