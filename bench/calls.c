@@ -47,11 +47,19 @@ static void long_groups(struct input *input)
 static const struct load {
     const char *name;
     void (*build)(struct input *); /* none: each refusal number once */
-} loads[] = {{"P", paper}, {"77x6", short_77}, {"512x6", short_512}, {"512x40", long_512}, {"groups", long_groups}, {"refused", NULL}};
+} loads[] = {
+    {"P", paper},
+    {"77x6", short_77},
+    {"77x6-7bit", seven_bit_77},
+    {"512x6", short_512},
+    {"512x40", long_512},
+    {"groups", long_groups},
+    {"refused", NULL},
+};
 
 enum { LOADS = sizeof loads / sizeof *loads };
 
-static struct input inputs[GDT_NO_ROOM];
+static struct input inputs[GDT_HIGH_BYTE];
 static size_t input_count;
 
 static void build(const struct load *load)
@@ -62,7 +70,7 @@ static void build(const struct load *load)
         input_count = 1;
         return;
     }
-    for (input_count = 0; input_count < GDT_NO_ROOM; input_count++) {
+    for (input_count = 0; input_count < GDT_HIGH_BYTE; input_count++) {
         refused(&inputs[input_count], input_count + 1);
     }
 }
@@ -100,21 +108,25 @@ static const struct call calls[CALLS] = {
     [BYTE_SUM] = {"byte_sum", (void *)byte_sum, (void *)byte_sum},
 };
 
-/* Whether a call can answer a number, 0 if it is done; the byte sum goes with judge. */
+/* Whether a call can answer a number, 0 if it is done; the byte sum goes with judge. GDT_TOO_MANY_SETS is a day file's alone. */
 static bool can_answer(int call, size_t no)
 {
+    bool of_set = no <= GDT_BAD_SUM || no == GDT_HIGH_BYTE;
+    if (no == GDT_TOO_MANY_SETS) {
+        return false;
+    }
     switch (call) {
     case JUDGE:
-    case BYTE_SUM: return no <= GDT_BAD_SUM;
+    case BYTE_SUM: return of_set;
     case INDEX:
-    case LIST: return no <= GDT_BAD_SUM || no == GDT_NO_ROOM;
+    case LIST: return of_set || no == GDT_NO_ROOM;
     case WRITE: return no <= GDT_EMPTY || (no >= GDT_BAD_BYTE && no <= GDT_MISSING && no != GDT_NO_SUM) || no >= GDT_BAD_LIST;
     case CORRECT: return no != GDT_BAD_LIST;
     default: return no != GDT_NO_ROOM;
     }
 }
 
-static struct task ours[GDT_NO_ROOM], theirs[GDT_NO_ROOM];
+static struct task ours[GDT_HIGH_BYTE], theirs[GDT_HIGH_BYTE];
 
 /* A call that answers a record is given its place as the first word. */
 static void put_words(struct task *task, int call, const struct input *input)

@@ -183,7 +183,7 @@ static void refused_day(struct day *day, size_t no)
     refused(&set, no);
     day_file(day, before, varied_set);
     day->count = no == GDT_TOO_MANY_SETS ? MOST_SETS : before;
-    if (no > GDT_BAD_USE) {
+    if (no > GDT_BAD_USE && no != GDT_HIGH_BYTE) {
         add_set(day, &set);
     } else {
         add_bytes(day, &set);

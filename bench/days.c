@@ -32,7 +32,7 @@ static const struct call calls[CALLS] = {
 static bool can_answer(int call, size_t no)
 {
     switch (call) {
-    case BUILD: return (no > GDT_EMPTY && no <= GDT_BAD_SUM) || no == GDT_NO_ROOM;
+    case BUILD: return (no > GDT_EMPTY && no <= GDT_BAD_SUM) || no == GDT_NO_ROOM || no == GDT_HIGH_BYTE;
     case APPEND: return no <= GDT_BAD_USE || no >= GDT_NO_ROOM;
     default: return false;
     }
@@ -58,7 +58,7 @@ static const struct load {
 
 enum { LOADS = sizeof loads / sizeof *loads };
 
-static struct day days[GDT_TOO_MANY_SETS];
+static struct day days[GDT_HIGH_BYTE];
 static size_t day_count;
 
 static void build(const struct load *load)
@@ -68,7 +68,7 @@ static void build(const struct load *load)
         day_count = 1;
         return;
     }
-    for (day_count = 0; day_count < GDT_TOO_MANY_SETS; day_count++) {
+    for (day_count = 0; day_count < GDT_HIGH_BYTE; day_count++) {
         refused_day(&days[day_count], day_count + 1);
     }
 }

@@ -1,5 +1,5 @@
 /* inputs.h: the fixed inputs of the bench: what the calls are given, the sets that two or more loads have, and for each refusal number once.
-   It assumes that a set starts with 8000, 8100, 9218 and 3000: line 2 is the sum, line 3 is fixed, line 4 can be corrected. */
+   It assumes that a set starts with 8000, 8100, 9218 or 9206, and 3000: line 2 is the sum, line 3 is fixed, line 4 can be corrected. */
 #ifndef INPUTS_H
 #define INPUTS_H
 #include "putline.h"
@@ -116,6 +116,17 @@ static void begin(struct input *input)
     line(input, 8402, "EKG01");
 }
 
+/* The same with 9206 = 1 as line 3: no content byte may be over 7Fh. */
+static void begin_seven_bit(struct input *input)
+{
+    line(input, 8000, "6310");
+    line(input, 8100, "00000");
+    line(input, 9206, "1");
+    line(input, 3000, "123456");
+    line(input, 9218, "02.10");
+    line(input, 8402, "EKG01");
+}
+
 static void group(struct input *input)
 {
     line(input, 8410, "FEV1ab");
@@ -126,7 +137,6 @@ static void group(struct input *input)
 
 static void groups(struct input *input, size_t count)
 {
-    begin(input);
     for (size_t i = 0; i < count; i++) {
         group(input);
     }
@@ -134,11 +144,20 @@ static void groups(struct input *input, size_t count)
 
 static void short_77(struct input *input)
 {
+    begin(input);
+    groups(input, 18);
+}
+
+/* The lines of short_77 and 9206. */
+static void seven_bit_77(struct input *input)
+{
+    begin_seven_bit(input);
     groups(input, 18);
 }
 
 static void short_512(struct input *input)
 {
+    begin(input);
     groups(input, 126);
     lines(input, 3, 6220, "abcdef");
 }
@@ -148,7 +167,7 @@ static const char forty[] = "abcdefghijklmnopqrstuvwxyzabcdefghijklmn";
 /* ---- Refused inputs ---------------------------------------------------------------------------------------------------------- */
 
 /* What is written over the set of 77 lines for a number: the line, the place in it, the bytes. Its lines 42 to 45 are the group
-   8410, 8420, 8421, 8470, each of 15 bytes. */
+   8410, 8420, 8421, 8470, each of 15 bytes; those of the seven-bit set, which GDT_HIGH_BYTE is written over, are one line later. */
 static const struct damage {
     size_t no, line, at;
     const char *bytes;
@@ -167,6 +186,7 @@ static const struct damage {
     {GDT_OTHER_VERSION, 3, 7, "02.00"},
     {GDT_MISSING, 44, 3, "8430"},
     {GDT_BAD_SUM, 2, 7, "00000"},
+    {GDT_HIGH_BYTE, 45, 9, "\xE4"},
 };
 
 /* The input of a number; for GDT_NO_ROOM it is a good one, and the calls are given too little room. */
@@ -175,6 +195,8 @@ static void refused(struct input *input, size_t no)
     if (no == GDT_TOO_MANY_LINES) {
         short_512(input);
         line(input, 6220, "abcdef");
+    } else if (no == GDT_HIGH_BYTE) {
+        seven_bit_77(input);
     } else {
         short_77(input);
     }
@@ -191,7 +213,7 @@ static void refused(struct input *input, size_t no)
     switch (no) {
     case GDT_EMPTY: input->used = input->list_used = 0; break;
     case GDT_CUT_LINE: input->used--; break;
-    case GDT_BAD_USE: groups(input, 1); break; /* another set follows */
+    case GDT_BAD_USE: begin(input); group(input); break; /* another set follows */
     case GDT_NO_SUCH_LINE: choose_line(input, input->lines + 1); break;
     case GDT_FIXED_LINE: choose_line(input, FIXED_LINE); break;
     case GDT_BAD_LIST: input->list_used--; input->sheet_used--; break;

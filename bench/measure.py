@@ -16,14 +16,16 @@ FLOOR = "byte_sum"  # it stands among the calls on a set
 EACH = "judge"  # it stands among the calls on a day file: each of its sets is judged by itself
 STACK, JUDGING, LINEAR = "stack", "judging", "linear"  # they stand among the loads of the bounds
 RUNS = 7  # for the times of a load
+# The C library compares bytes by wider code on a processor that has AVX2. Instructions are counted without it, so that they are nearly the same on every machine.
+PLAIN_LIBRARY = {"GLIBC_TUNABLES": "glibc.cpu.hwcaps=-AVX2"}
 
 Count = collections.namedtuple("Count", "no proved second")  # instructions for one input; no: the number of its refusal or 0
 Stack = collections.namedtuple("Stack", "bytes case answer made longest")  # the most that a call took, in which case; calls made, longest case in bytes
 
 
-def told(words):
+def told(words, **settings):
     """What a program writes, line by line."""
-    ended = subprocess.run(words, stdout=subprocess.PIPE, check=False, text=True)
+    ended = subprocess.run(words, stdout=subprocess.PIPE, check=False, text=True, env={**os.environ, **settings})
     if ended.returncode:
         sys.exit("%s ended with status %d" % (" ".join(words), ended.returncode))
     return ended.stdout.splitlines()
@@ -33,8 +35,8 @@ def path(program):
     return os.path.join(ROOT, "target", "bench", program)
 
 
-def run(program, *words):
-    return told(["sh", os.path.join(ROOT, "tools", "x86run"), path(program), *words])
+def run(program, *words, **settings):
+    return told(["sh", os.path.join(ROOT, "tools", "x86run"), path(program), *words], **settings)
 
 
 def progress(what, since):
@@ -57,17 +59,17 @@ def in_parallel(function, items):
         return list(workers.map(function, items))
 
 
-def rows(how, program, load):
+def rows(how, program, load, **settings):
     """The numbers that `PROGRAM HOW LOAD` prints, for each call."""
     found = {}
-    for line in run(program, how, load):
+    for line in run(program, how, load, **settings):
         call, *numbers = line.split()
         found.setdefault(call, []).append([int(number) for number in numbers])
     return found
 
 
 def counted(place):
-    since, found = time.monotonic(), rows("count", *place)
+    since, found = time.monotonic(), rows("count", *place, **PLAIN_LIBRARY)
     progress("instructions of %s %s" % place, since)
     return {call: [Count(*numbers) for numbers in inputs] for call, inputs in found.items()}
 

@@ -75,7 +75,7 @@ static struct day day;
 static const char missing[] = "is missing", shorter[] = "belongs to a shorter length of the file";
 
 /* Why a set or a file is refused: the numbers that the calls below can give. */
-static const char *const reasons[GDT_TOO_MANY_SETS + 1] = {
+static const char *const reasons[GDT_HIGH_BYTE + 1] = {
     [GDT_EMPTY] = "there is no set",
     [GDT_BAD_LENGTH] = "a line's length is not three digits, or under 010",
     [GDT_CUT_LINE] = "a line runs past the end of the bytes",
@@ -95,6 +95,7 @@ static const char *const reasons[GDT_TOO_MANY_SETS + 1] = {
     [GDT_BAD_SUM] = "8100 is not the length of the set",
     [GDT_BAD_USE] = "another set follows",
     [GDT_TOO_MANY_SETS] = "a day file has at most 2,048 sets",
+    [GDT_HIGH_BYTE] = "a content byte is over 7Fh, and 9206 says that the set is in the 7-bit code",
 };
 
 /* Says that the set or file with this name is refused, and why. */

@@ -26,7 +26,7 @@ def light_set(r, patient):
     """An accepted set of any type, with few lines and short contents."""
     set_type = r.choice((*SET_TABLES,))
     fields = sets.accepted(r, set_type, r.choice((0, 0, 9)), short=True)
-    return b"".join(sets.lines_of([(label, patient if label == 3000 else content) for label, content in fields]))
+    return b"".join(sets.lines_of(sets.in_code([(label, patient if label == 3000 else content) for label, content in fields])))
 
 
 def day_file(r, count):

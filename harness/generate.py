@@ -10,12 +10,14 @@ import sys
 import days
 import sets
 from rows import FIELDS, SET_TABLES, marked
-from stream import CALLS, DAY_ENTRY, LISTS, NUMBERS, ROOT, Case, answers, day_sets, entries, packed
+from stream import CALLS, DAY_ENTRY, LAST_NUMBER, LISTS, NUMBERS, ROOT, SET_FAULTS, Case, answers, day_sets, entries, packed
 
-SET_FAULTS = range(1, 18)
 FOUND_FIRST = range(2, 8)  # faults of lines that come before all rules
 FAR = 0.05  # how many of the sets and lists with such faults have far places
-ADDING = (2, 3, 11, 12, 13, 21)  # faults that may add a line or an entry
+ADDING = (2, 3, 11, 12, 13, 21, 24)  # faults that may add a line or an entry
+SHARED = (6, 14, 24)  # faults that the set or the new content can have
+BEFORE_24 = (6, 14, 18, 19, 20)  # faults that are found before a byte over 7Fh of a new content
+CONTENT_ORDER = {"c": (19, 20, 6, 14, 24, 22), "v": (21, 19, 20, 6, 14, 24)}  # in which a new content is asked: another order than that of a set
 MANY_LINES = 400
 STORED_CASES, STORED_DAYS = 1200, 500  # of each call on sets, of each day call
 STORED_SEED = 21
@@ -39,11 +41,13 @@ def fields_for(r, faults):
     return set_type, sets.accepted(r, set_type, r.choice((0, 8, 14, r.randint(5, 40))), short=r.random() < 0.5)
 
 
-def set_with(r, faults):
-    """The lines of a set that has these faults; one that is accepted if there are none."""
+def set_with(r, faults, seven_bit=False):
+    """The lines of a set that has these faults; one that is accepted if there are none. It is seven-bit if that is asked."""
     if 1 in faults:
         return []
-    set_type, fields = fields_for(r, faults)
+    set_type, fields = fields_for(r, [*faults, 24] if seven_bit else faults)
+    if seven_bit:
+        sets.make_seven_bit(r, fields, 2)
     for no in reversed(faults):
         if no in sets.FIELD_FAULTS and len(fields) > 2:
             sets.FIELD_FAULTS[no](r, set_type, fields, 2)
@@ -84,7 +88,7 @@ def list_with(r, faults):
 
 def follower(r):
     """Bytes after a set that are not judged: another set, good or not."""
-    return r.choice((b"xyz8000", b"0138000", b"\x00\x01\x028000\xff", b"".join(set_with(r, ())), b"".join(set_with(r, (r.randint(2, 17),)))[:200]))
+    return r.choice((b"xyz8000", b"0138000", b"\x00\x01\x028000\xff", b"".join(set_with(r, ())), b"".join(set_with(r, (r.choice(SET_FAULTS[1:]),)))[:200]))
 
 
 def begins_set(data):
@@ -129,15 +133,26 @@ def label_of(labels, line):
 
 
 def line_of(r, labels, faults):
-    """A number of a line, for 19 one that no line has, for 20 a fixed one."""
+    """A number of a line, for 19 one that no line has, for 20 a fixed one, for 24 one whose content can have a byte over 7Fh."""
     if 19 in faults:
         return r.choice((0, len(labels) + 1, len(labels) + 2, 513, 65535))
-    return r.choice([at for at, label in enumerate(labels, 1) if (label in sets.FIXED) == (20 in faults)] or [1])
+    if 20 in faults:
+        return r.choice([at for at, label in enumerate(labels, 1) if label in sets.FIXED] or [1])
+    return r.choice([at for at, label in enumerate(labels, 1) if label not in sets.FIXED and (24 not in faults or sets.takes_high(label))] or [1])
 
 
-def content_of(r, label, faults):
-    """A content for a line with this label, for 14 one that does not fit, for 6 one with a byte under 20h."""
+def is_seven_bit(lines):
+    return sets.line(*sets.SEVEN_BITS) in lines
+
+
+def content_of(r, label, faults, seven_bit):
+    """A content for a line with this label, for 14 one that does not fit, for 24 one with a byte over 7Fh, for 6 one with a byte under 20h. In a seven-bit set
+    it has a byte over 7Fh only if that is the fault, or if it is found to be at fault before."""
     content = sets.unfitting(r, label) if 14 in faults else sets.fitting(r, label)
+    if seven_bit and not any(no in faults for no in BEFORE_24):
+        content = sets.lowered(content)
+    if 24 in faults:
+        content = sets.raised(r, content or b"?")
     if 6 in faults:
         content = content or b"?"
         at = r.choice((0, len(content) - 1, r.randrange(len(content))))
@@ -145,7 +160,7 @@ def content_of(r, label, faults):
     return content
 
 
-def longer_line(r, lines, labels):
+def longer_line(r, lines, labels, seven_bit):
     """The number of a line that may have a longer content, and such a content; nothing if there is no such line."""
     able = []
     for number, (data, label) in enumerate(zip(lines, labels), 1):
@@ -155,23 +170,24 @@ def longer_line(r, lines, labels):
     if not able:
         return None
     number, label, length = r.choice(able)
-    return number, sets.fitting_of(r, label, length)
+    content = sets.fitting_of(r, label, length)
+    return number, sets.lowered(content) if seven_bit else content
 
 
 def shared_faults(r, faults):
-    """6 and 14 can be the set's or the new content's: which of them the set has."""
+    """The faults that the set has: those that are a set's alone, and some of those that the new content can have, too."""
     own = [no for no in faults if no in SET_FAULTS]
-    return [no for no in own if no not in (6, 14) or r.random() < 0.4]
+    return [no for no in own if no not in SHARED or r.random() < 0.4]
 
 
 def correct_case(r, faults):
     own = shared_faults(r, faults)
     new = [no for no in faults if no not in own]
-    lines = set_with(r, own)
+    lines = set_with(r, own, 24 in new)
     labels = labels_in(lines) or [3000]
     line = line_of(r, labels, new)
-    content = content_of(r, label_of(labels, line), new)
-    longer = longer_line(r, lines, labels) if new == [22] else None
+    content = content_of(r, label_of(labels, line), new, is_seven_bit(lines))
+    longer = longer_line(r, lines, labels, is_seven_bit(lines)) if new == [22] else None
     if new == [22] and not longer and not own:
         return correct_case(r, faults)
     if longer:
@@ -194,20 +210,21 @@ def correct_case(r, faults):
 def view_case(r, faults):
     own = shared_faults(r, faults)
     new = [no for no in faults if no not in own]
-    lines = set_with(r, own)
+    lines = set_with(r, own, 24 in new)
+    seven_bit = is_seven_bit(lines)
     labels = labels_in(lines) or [3000]
     asked_wrong = 19 in new and r.random() < 0.6
     sheet = []
     count = r.randint(513, 600) if r.random() < 0.01 else r.choice((0, 1, 2, 3, r.randrange(12)))
     for _ in range(count + (21 in new)):
         line = line_of(r, labels, ())
-        sheet.append((line, content_of(r, labels[line - 1], ())))
+        sheet.append((line, content_of(r, labels[line - 1], (), seven_bit)))
     asked = [line for line, _ in sheet] * 2 + [1, 2, r.randint(1, len(labels)), r.randint(1, len(labels))]
     for no in new:
-        if no in (6, 14, 20) or no == 19 and not asked_wrong:
+        if no in (20, *SHARED) or no == 19 and not asked_wrong:
             made = r.choice(((no,), [other for other in new if other >= no]))
             line = line_of(r, labels, made)
-            content = content_of(r, label_of(labels, line), made)
+            content = content_of(r, label_of(labels, line), made, seven_bit)
             sheet.insert(r.randint(0, len(sheet)), (line, content))
     found = [sets.entry(line, content) for line, content in sheet]
     if 21 in new:
@@ -252,7 +269,7 @@ def old_file(r, most):
     found = days.day_file(r, min(most, days.set_count(r)) if r.random() < 0.85 else 0)
     data, index, count = b"".join(found), days.index_of(found), len(found)
     if r.random() < 0.25:
-        data = r.choice((data, b"x", b"0138000", data[1:], data[:-1], b"".join(set_with(r, (r.randint(2, 17),)))[:300]))
+        data = r.choice((data, b"x", b"0138000", data[1:], data[:-1], b"".join(set_with(r, (r.choice(SET_FAULTS[1:]),)))[:300]))
         index = days.foreign(r, index)
         count = r.choice((0, len(index) // DAY_ENTRY, len(index) // DAY_ENTRY + 1, r.randrange(40)))
     elif r.random() < 0.01:
@@ -265,7 +282,7 @@ def append_case(r, faults):
     old = len(data)
     data += b"".join(set_with(r, [no for no in faults if no in SET_FAULTS]))
     if 18 in faults and r.random() < 0.5:
-        data += r.choice((b"xyz8000", b"".join(set_with(r, ())), b"".join(set_with(r, (r.randint(9, 17),)))))
+        data += r.choice((b"xyz8000", b"".join(set_with(r, ())), b"".join(set_with(r, (r.choice(SET_FAULTS[8:]),)))))
     elif 18 in faults:
         old = len(data) + r.choice((1, 2, 1000, 2**32, days.MOST_NUMBER - len(data)))
     if 23 in faults:
@@ -302,13 +319,13 @@ def case_with(r, call, faults):
 # ---- A stream -------------------------------------------------------------------------------------------------------------------------
 
 
-def some_faults(r, numbers, turn):
+def some_faults(r, call, numbers, turn):
     """In turn each two neighbours, whose order is easy to mistake, and any two or three of the numbers a call can give; if it can give one, that one or none."""
     if len(numbers) == 1:
         return numbers[: turn % 2]
     if turn % 2:
-        at = turn // 2 % (len(numbers) - 1)
-        return numbers[at : at + 2]
+        neighbours = [pair for order in (numbers, CONTENT_ORDER.get(call, ())) for pair in zip(order, order[1:])]
+        return sorted(neighbours[turn // 2 % len(neighbours)])
     return sorted(set(r.choices(numbers, k=r.choice((2, 3)))))
 
 
@@ -344,7 +361,7 @@ def cases(seed, count, calls):
                 yield case_with(r, call, (no,)), no
             elif way < 0.93:
                 turns[call] += 1
-                yield case_with(r, call, some_faults(r, numbers, turns[call])), None
+                yield case_with(r, call, some_faults(r, call, numbers, turns[call])), None
             else:
                 case = case_with(r, call, ())
                 damage(r, case)
@@ -363,7 +380,8 @@ def judged(fields):
 
 
 def row_cases():
-    """For judge: every label in every set type, once and twice; every row of the field table with the contents at the edges of its length and kind."""
+    """For judge: every label in every set type, once and twice; every row of the field table with the contents at the edges of its length and kind, and with a
+    byte over 7Fh in a seven-bit set."""
     r = random.Random(STORED_SEED)
     headers = {**sets.MEMBER_OF, **{name + 1: name for name in sets.NAMES}}
     for set_type in SET_TABLES:
@@ -376,6 +394,8 @@ def row_cases():
         before = [(headers[label], b"x")] if label in headers else []
         for content in sets.fitting_edges(r, label) + sets.unfitting_lines(r, label):
             yield judged(plain_fields(6310, label) + before + [(label, content)])
+        if sets.takes_high(label):
+            yield judged(plain_fields(6310, label) + [sets.SEVEN_BITS] + before + [(label, b"\x80" * FIELDS[label][0])])
     for content in sets.unfitting_lines(r, 8100) + [b"000510", b"0051"]:
         yield judged([(8000, b"6300"), (8100, content), (9218, b"02.10"), (3000, b"0")])
 
@@ -385,6 +405,62 @@ def again_cases():
     for set_type in SET_TABLES:
         for again in ((8000, b"%d" % set_type), (8100, b"00051")):
             yield Case("w", {"room": 200, "list": b"".join(sets.entries_of(plain_fields(set_type, None) + [again]))})
+
+
+SEVEN_BODY = [(8315, b"ERGO_123"), (9218, b"02.10"), (8402, b"EKG01"), (8410, b"FEV1"), (8420, b"3.7"), (8421, b"l per minute btps"), (3000, b"0123456789")]
+SEVEN_LINES = (0, 5, 6)  # the first, an inner and the last line of this body: all three can have a byte over 7Fh
+
+
+def with_charset(body):
+    """The fields of 6310 sets of this body: with 9206 = 1, 2 or 3 before it or after it, and without 9206."""
+    start = [(8000, b"6310"), (8100, None)]
+    for charset in (b"1", b"2", b"3"):
+        yield start + [(9206, charset)] + body
+        yield start + body + [(9206, charset)]
+    yield start + body
+
+
+def around_seven(content):
+    """The content with 7Fh, 80h or FFh as its first, an inner or its last byte."""
+    return [sets.replaced(content, at, byte) for at in (0, len(content) // 2, len(content) - 1) for byte in b"\x7f\x80\xff"]
+
+
+def seven_set_edges():
+    """For every call that reads sets, and for the writer: a byte around 7Fh, with each 9206 or none; alone, in a set that lacks 8402, with a wrong sum, with no
+    room."""
+    before, after = days.small_set(b"\xff", True), days.small_set(b"\x80", False)
+    for at in SEVEN_LINES:
+        label, old = SEVEN_BODY[at]
+        for content in around_seven(old):
+            for fields in with_charset(SEVEN_BODY[:at] + [(label, content)] + SEVEN_BODY[at + 1 :]):
+                lacking = [field for field in fields if field[0] != 8402]
+                data, entry_bytes = b"".join(sets.lines_of(fields)), b"".join(sets.entries_of(fields))
+                yield judged(fields)
+                yield judged(lacking)
+                yield judged([fields[0], (8100, b"00051")] + fields[2:])
+                yield Case("w", {"room": len(data), "list": b"".join(sets.entries_of(lacking))})
+                for room in (len(data), 0):
+                    yield Case("i", {"room": room, "set": data})
+                    yield Case("l", {"room": room, "set": data})
+                    yield Case("w", {"room": room, "list": entry_bytes})
+                yield Case("d", {"lent": DAY_ENTRY * 3, "file": before + data + after})
+                yield Case("a", {"old": len(before), "count": 1, "lent": DAY_ENTRY * 2, "index": [], "file": before + data})
+
+
+def seven_content_edges():
+    """For correct and view: new contents with a byte around 7Fh, for sets with each 9206 or none; alone, one byte longer, which is too long for two of the
+    labels and for the buffer, and with a byte under 20h. New contents for a line 9206 itself."""
+    for fields in with_charset(SEVEN_BODY):
+        data = b"".join(sets.lines_of(fields))
+        new = [(number, content) for number, (label, _) in enumerate(fields, 1) if label == 9206 for content in (b"1", b"2", b"3", b"", b"\x80", b"\x1f")]
+        for at in SEVEN_LINES:
+            number = fields.index(SEVEN_BODY[at]) + 1
+            new += [(number, content + more) for content in around_seven(SEVEN_BODY[at][1]) for more in (b"", b"x", b"\x1f")]
+        for number, content in new:
+            fine, entry = sets.entry(fields.index(SEVEN_BODY[-1]) + 1, b"7"), sets.entry(number, content)
+            yield Case("c", {"used": len(data), "line": number, "content": content, "buffer": data})
+            yield Case("v", {"line": number, "set": data, "sheet": fine + entry})
+            yield Case("v", {"line": number, "set": data, "sheet": entry + fine})
 
 
 def build_edges():
@@ -471,7 +547,7 @@ def shortfalls(counts):
 def histogram(counts):
     """A table in percent: a row for each answer, a column for each call."""
     calls = list(counts)
-    rows = [("cases", "all"), ("> 400", "long"), ("found", "found"), ("ok", 0)] + [(str(no), no) for no in range(1, 24)]
+    rows = [("cases", "all"), ("> 400", "long"), ("found", "found"), ("ok", 0)] + [(str(no), no) for no in range(1, LAST_NUMBER + 1)]
     out = ["%7s" % "" + "".join("%11s" % CALLS[call][0] for call in calls)]
     for name, key in rows:
         cells = [str(counts[call][key]) if key == "all" else "%.2f" % (100 * counts[call][key] / counts[call]["all"]) for call in calls]
@@ -503,6 +579,8 @@ def store():
     streams["day_build"] += build_edges()
     streams["day_append"] += append_edges()
     streams["day_find"] += find_edges()
+    for case in [*seven_set_edges(), *seven_content_edges()]:
+        streams[CALLS[case.call][0]].append(case)
     streams[ROWS] = row_cases()
     for name, found in streams.items():
         with open(os.path.join(ROOT, "harness", "streams", name + ".xz"), "wb") as file:

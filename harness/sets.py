@@ -8,13 +8,16 @@ MOST_LINES = 512
 LEAST_LINE = 10
 MOST_LINE = 999
 MOST_CONTENT = MOST_LINE - 9
-FIXED = (8000, 8100, 9218)
+FIXED = (8000, 8100, 9206, 9218)
+SEVEN_BITS = (9206, b"1")  # "no content byte anywhere in it may exceed 7Fh"
+MOST_SEVEN = 0x7F
 PROSE = (
     b"Ergometer cycle Lactate mmol/l heart rate 1/min Power Watt stage 3, rest 10 min; FEV1 -3.7 l. Borg scale 6-20 (RPE) threshold: "
     b"aerobic 148 anaerobic 171 Ramp test WHO 25/50/75 spiro VO2max ml/kg/min recovery after load, no complaints reported by athlete"
 )
 EDGE_BYTES = b"\x20\x7f\x80\xff\\0"
 LOW_BYTES = b"\x00\x01\x09\x0a\x0d\x1a\x1b\x1f"
+HIGH_BYTES = b"\x80\x81\xa0\xb5\xe4\xff"
 NO_DIGITS = b"/: aO-\xb2"
 
 # ---- Contents --------------------------------------------------------------------------------------------------------------------
@@ -72,6 +75,22 @@ def fitting(r, label, short=False):
 
 def replaced(content, at, byte):
     return content[:at] + bytes([byte]) + content[at + 1 :]
+
+
+def lowered(content):
+    """A content with 7Fh in the place of each byte over it."""
+    return bytes(min(byte, MOST_SEVEN) for byte in content)
+
+
+def raised(r, content):
+    """A content with one byte over 7Fh put in, often as the first or the last."""
+    at = r.choice((0, len(content) - 1, r.randrange(len(content))))
+    return replaced(content, at, r.choice(HIGH_BYTES))
+
+
+def takes_high(label):
+    """Whether a content with a byte over 7Fh can fit the label. One of 8000 would name no type."""
+    return FIELDS[label][2] == "alnum" and label != 8000
 
 
 def fitting_edges(r, label):
@@ -175,7 +194,25 @@ def accepted(r, set_type, lines=0, short=False):
         left -= len(more)
     r.shuffle(blocks)
     body = [(label, fitting(r, label, short)) for more in blocks for label in more]
-    return [(8000, b"%d" % set_type), (8100, None)] + body
+    return in_code([(8000, b"%d" % set_type), (8100, None)] + body)
+
+
+def in_code(fields):
+    """The fields as they are; without bytes over 7Fh if one of them is 9206 with content 1."""
+    if SEVEN_BITS not in fields:
+        return fields
+    return [(label, content if content is None else lowered(content)) for label, content in fields]
+
+
+def make_seven_bit(r, fields, head):
+    """Makes these the fields of a seven-bit set: its 9206 is 1, or that line is put in where it parts no group or pair. The first `head` fields stay."""
+    found = [label for label, _ in fields]
+    if 9206 in found:
+        fields[found.index(9206)] = SEVEN_BITS
+    else:
+        apart = [at for at in range(head, len(fields)) if found[at] not in MEMBER_OF and found[at] - 1 not in NAMES]
+        fields.insert(r.choice(apart + [len(fields)]), SEVEN_BITS)
+    fields[:] = in_code(fields)
 
 
 # ---- Lines and entries -----------------------------------------------------------------------------------------------------------
@@ -323,7 +360,28 @@ def bad_sum(r, _set_type, fields, _head):
     fields[1] = (8100, b"%05d" % r.choice([value for value in wrong if value != right and 0 <= value <= 99999]))
 
 
-FIELD_FAULTS = {8: no_start, 9: unknown_set, 10: no_sum, 11: not_in_set, 12: stray, 13: repeated, 14: bad_content, 15: other_version, 16: missing, 17: bad_sum}
+def high_byte(r, _set_type, fields, head):
+    """Makes the set seven-bit, and one to three of its contents not, often the first or the last that can have such a byte."""
+    make_seven_bit(r, fields, head)
+    able = [at for at in range(head, len(fields)) if takes_high(fields[at][0])]
+    for _ in range(r.choice((1, 1, 2, 3))):
+        at = r.choice((able[0], able[-1], r.choice(able)))
+        fields[at] = (fields[at][0], raised(r, fields[at][1]))
+
+
+FIELD_FAULTS = {
+    8: no_start,
+    9: unknown_set,
+    10: no_sum,
+    11: not_in_set,
+    12: stray,
+    13: repeated,
+    14: bad_content,
+    15: other_version,
+    16: missing,
+    17: bad_sum,
+    24: high_byte,
+}
 
 # ---- Faults in the lines of a set, by number; if there is a choice, in the line of place `at` ---------------------------------------
 

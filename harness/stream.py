@@ -10,18 +10,21 @@ from typing import Dict, List, NamedTuple, Tuple, Union
 
 ROOT = os.path.dirname(os.path.dirname(os.path.abspath(__file__)))
 
+SET_FAULTS = [*range(1, 17), 24, 17]  # the refusals of a set: 24 comes "after Missing and before BadSum"
+
 # What each call is given, in the stream's order, and the refusals that it can give.
 CALLS = {
-    "j": ("judge", ("set",), [*range(1, 18)]),
-    "i": ("index", ("room", "set"), [*range(1, 18), 22]),
-    "l": ("list", ("room", "set"), [*range(1, 18), 22]),
-    "w": ("write", ("room", "list"), [1, *range(6, 10), *range(11, 17), 21, 22]),
-    "c": ("correct", ("used", "line", "content", "buffer"), [*range(1, 21), 22]),
-    "v": ("view", ("line", "set", "sheet"), [*range(1, 22)]),
-    "d": ("day_build", ("lent", "file"), [*range(2, 18), 22, 23]),
-    "a": ("day_append", ("old", "count", "lent", "index", "file"), [*range(1, 19), 22, 23]),
+    "j": ("judge", ("set",), SET_FAULTS),
+    "i": ("index", ("room", "set"), [*SET_FAULTS, 22]),
+    "l": ("list", ("room", "set"), [*SET_FAULTS, 22]),
+    "w": ("write", ("room", "list"), [1, 7, 21, 6, 8, 9, *range(11, 17), 24, 22]),
+    "c": ("correct", ("used", "line", "content", "buffer"), [*SET_FAULTS, 18, 19, 20, 22]),
+    "v": ("view", ("line", "set", "sheet"), [*SET_FAULTS, 18, 19, 20, 21]),
+    "d": ("day_build", ("lent", "file"), [*SET_FAULTS[1:], 23, 22]),
+    "a": ("day_append", ("old", "count", "lent", "index", "file"), [*SET_FAULTS, 18, 23, 22]),
     "f": ("day_find", ("room", "file", "index", "asked"), [22]),
 }
+LAST_NUMBER = max(no for _, _, numbers in CALLS.values() for no in numbers)
 NUMBERS = ("room", "used", "line", "lent", "old", "count")
 LISTS = ("index",)  # of numbers; all others are bytes
 DAY_ENTRY = 4  # numbers that a set has in the index of a day file

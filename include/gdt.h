@@ -5,14 +5,16 @@
    Both are 0 if the call was done, and `label` is 0 if no label is concerned. After a refusal every lent byte, entry and number is what
    it was before, and the other numbers of the record are 0.
 
-   `place` is the offset of the first byte of the line concerned, for GDT_BAD_BYTE and GDT_HIGH_BYTE of that byte; what differs is said at
-   the number. It counts in the set; for gdt_write in the list (the entry's first byte); for an entry of a sheet in the sheet; for
-   GDT_BAD_BYTE and GDT_HIGH_BYTE of a correction in the new content. The day calls add the set's offset in the file to the place of what
-   they find wrong in a set (GDT_EMPTY to GDT_BAD_SUM, and GDT_HIGH_BYTE); so GDT_MISSING at set level is at the set's offset.
+   `place` is the offset of the first byte of the line concerned, for GDT_BAD_BYTE and GDT_HIGH_BYTE of the byte concerned; what differs is
+   said at the number. It counts in the set; for gdt_write in the list (the entry's first byte); for an entry of a sheet in the sheet; for
+   these two numbers, if the new content of a correction has the byte, in that content. If a set and what is offered to it may both have such
+   a byte, gdt_judge of the set tells which it is: the set is asked first. The day calls add the set's offset in the file to the place of
+   what they find wrong in a set (GDT_EMPTY to GDT_BAD_SUM, and GDT_HIGH_BYTE); so GDT_MISSING at set level is at the set's offset.
 
-   A set that has 9206 with content `1` is in the 7-bit code: no content byte anywhere in it is over 7Fh, else GDT_HIGH_BYTE. Of a set this
-   is asked after GDT_MISSING and before GDT_BAD_SUM, of a list after GDT_MISSING and before GDT_NO_ROOM, of the new content of a correction
-   or of an entry of a sheet after GDT_BAD_CONTENT and before GDT_NO_ROOM. In any other set a content byte is 20h to FFh.
+   A content byte is 20h to FFh. A set that has 9206 with content `1` is in the 7-bit code: there no content byte is over 7Fh, else it is
+   refused by GDT_HIGH_BYTE. Of a set this is asked after GDT_MISSING and before GDT_BAD_SUM; of a list after GDT_MISSING and before
+   GDT_NO_ROOM; of the new content of a correction after GDT_BAD_CONTENT and before GDT_NO_ROOM; of an entry of a sheet after
+   GDT_BAD_CONTENT of that entry, and before the next entry is looked at.
 
    A field list, and a sheet of pending corrections, is entry after entry with nothing between: the content's length in two bytes, the
    label (in a sheet the line number, from 1) in two bytes, both little-endian, then the content. A list has no entry for 8100: gdt_write
@@ -55,7 +57,7 @@ enum {
     GDT_BAD_USE = 18,        /* the used length is over the buffer, or the old length over the day file (place: its length); or another set follows the
                                 one that must be alone (place: that one's length) */
     GDT_NO_SUCH_LINE = 19,   /* line number 0, or beyond the set (place: the set's length) */
-    GDT_FIXED_LINE = 20,     /* lines 8000, 8100, 9206 and 9218 cannot be corrected */
+    GDT_FIXED_LINE = 20,     /* lines 8000, 8100, 9206 and 9218 cannot be corrected, whatever they hold */
     GDT_BAD_LIST = 21,       /* an entry is cut, or its label is over 9999 */
     GDT_NO_ROOM = 22,        /* more room is needed; place: how many bytes, entries or found sets */
     GDT_TOO_MANY_SETS = 23,  /* a 2,049th set of a day file (place: its offset in the file) */

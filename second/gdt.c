@@ -2,8 +2,8 @@
 
    Order of the file: limits and records; the rows; contents; the line syntax and the entries of a list; groups; the rules of a
    line; a whole set and a whole list; the public functions; the day file (request E1) with its public functions. Words in quotes
-   are the rules paper's, for the day file the request's, and a bare number such as 14 is one of the numbered replies. "B12", "E1a"
-   and the like are points of docs/DECISIONS.md. */
+   are the rules paper's, for the day file and for seven bits (E2) the request's, and a bare number such as 14 is one of the
+   numbered replies. "B12", "E1a" and the like are points of docs/DECISIONS.md. */
 #include "gdt.h"
 
 #include <string.h>
@@ -42,12 +42,14 @@ _Static_assert((uint64_t)SET_LINES * LINE_BYTES <= 0xFFFFFFFFu, "a place in a se
 _Static_assert((uint64_t)SET_LINES * ENTRY_BYTES <= 0xFFFFFFFFu, "a place in a list fits");
 _Static_assert(SET_LINES * sizeof(struct line) <= 6144, "the stack stays within its 8 KiB");
 
-/* The lines of a set or the entries of a list, and the bytes they stand in. `head` bytes stand before each content. */
+/* The lines of a set or the entries of a list, and the bytes they stand in. `head` bytes stand before each content. `seven_bits` is
+   1 if one of them is "9206 with content 1", else 0. */
 struct lines {
     struct line of[SET_LINES];
     const uint8_t *bytes;
     size_t head, count, length;
     unsigned type;
+    int seven_bits;
 };
 
 /* A refusal; `no` is 0 for none. */
@@ -302,6 +304,25 @@ static size_t first_low_byte(const uint8_t *p, size_t n)
         i += sizeof word;
     }
     while (i < n && p[i] >= 0x20) {
+        i++;
+    }
+    return i;
+}
+
+/* The place of the first byte over 7Fh, n for none. Eight bytes without a top bit are passed over in one go. */
+static size_t first_high_byte(const uint8_t *p, size_t n)
+{
+    const uint64_t top = 0x8080808080808080u;
+    size_t i = 0;
+    while (n - i >= sizeof(uint64_t)) {
+        uint64_t word;
+        memcpy(&word, p + i, sizeof word);
+        if ((word & top) != 0) {
+            break;
+        }
+        i += sizeof word;
+    }
+    while (i < n && p[i] <= 0x7F) {
         i++;
     }
     return i;
@@ -580,7 +601,7 @@ static int find_header(struct walk *walk, struct lines *lines, size_t number, un
 
 /* ---- The rules of a line --------------------------------------------------------------------------------------------------- */
 
-/* Line or entry `number` by 11, 12, 13, 14, 15. */
+/* Line or entry `number` by 11, 12, 13, 14, 15. A 9206 that passes says whether the set is seven-bit; a second one is 13 (E2d). */
 static struct refusal judge_line(struct walk *walk, struct lines *lines, size_t number)
 {
     struct line *line = &lines->of[number - 1];
@@ -605,6 +626,9 @@ static struct refusal judge_line(struct walk *walk, struct lines *lines, size_t 
     if (row == R9218 && memcmp(content, "02.10", 5) != 0) {
         return refuse(GDT_OTHER_VERSION, line->at, line->label);
     }
+    if (row == R9206) {
+        lines->seven_bits = content[0] == '1';
+    }
     return none;
 }
 
@@ -614,6 +638,7 @@ static struct refusal judge_lines(struct lines *lines, int sum_added)
 {
     struct walk walk = {{0}, OUT, 0, {0, 0, 0}};
     const uint8_t *row;
+    lines->seven_bits = 0;
     walk.seen[R8100] = sum_added ? 1 : 0;
     for (size_t number = 1; number <= lines->count; number++) {
         struct refusal refusal = judge_line(&walk, lines, number);
@@ -646,13 +671,29 @@ static struct refusal judge_start(struct lines *lines)
     return none;
 }
 
+/* "If a set holds 9206 with content 1, no content byte anywhere in it may exceed 7Fh": 24, at "the first such byte". */
+static struct refusal judge_bytes(const struct lines *lines)
+{
+    if (!lines->seven_bits) {
+        return none;
+    }
+    for (size_t i = 0; i < lines->count; i++) {
+        const struct line *line = &lines->of[i];
+        size_t high = first_high_byte(content_of(lines, line), line->length);
+        if (high < line->length) {
+            return refuse(GDT_HIGH_BYTE, line->at + lines->head + high, 0);
+        }
+    }
+    return none;
+}
+
 /* The value of an 8100 that is five digits. */
 static size_t sum_of(const uint8_t *p)
 {
     return (size_t)digit(p[0]) * 10000 + (size_t)two_digits(p + 1) * 100 + two_digits(p + 3);
 }
 
-/* The set at the front of the bytes, by the "Order for a set". */
+/* The set at the front of the bytes, by the "Order for a set"; 24 comes "after Missing and before BadSum". */
 static struct refusal read_set(struct lines *set, const uint8_t *bytes, size_t length)
 {
     struct refusal refusal = split_set(set, bytes, length);
@@ -669,6 +710,9 @@ static struct refusal read_set(struct lines *set, const uint8_t *bytes, size_t l
         return refuse(GDT_NO_SUM, set->of[1].at, 0);
     }
     refusal = judge_lines(set, 0);
+    if (refusal.no == 0) {
+        refusal = judge_bytes(set);
+    }
     if (refusal.no != 0) {
         return refusal;
     }
@@ -688,21 +732,31 @@ static struct refusal read_lone_set(struct lines *set, const uint8_t *bytes, siz
     return refusal;
 }
 
-/* A field list, as the writer checks it: 1, each entry by 7, 21, 6, then 8, 9, and 11 to 16. */
+/* A field list, as the writer checks it: 1, each entry by 7, 21, 6, then 8, 9, 11 to 16, and 24. */
 static struct refusal read_list(struct lines *list, const uint8_t *bytes, size_t length)
 {
     struct refusal refusal = split_list(list, bytes, length);
     if (refusal.no == 0) {
         refusal = judge_start(list);
     }
-    return refusal.no == 0 ? judge_lines(list, 1) : refusal;
+    if (refusal.no == 0) {
+        refusal = judge_lines(list, 1);
+    }
+    return refusal.no == 0 ? judge_bytes(list) : refusal;
 }
 
-/* A new content for a line of an accepted set by 20, 6, 14. `place` is the place of 20 and 14, `start` that of the content. */
-static struct refusal judge_content(const struct line *line, const uint8_t *content, size_t n, size_t place, size_t start)
+/* Whether the line cannot be corrected. "9206 joins the lines that can't be corrected", whatever it holds (E2b). */
+static int is_fixed(const struct line *line)
+{
+    return line->row == R8000 || line->row == R8100 || line->row == R9206 || line->row == R9218;
+}
+
+/* A new content for a line of an accepted set by 20, 6, 14, 24. `place` is the place of 20 and 14, `start` that of the content. */
+static struct refusal judge_content(const struct lines *set, const struct line *line, const uint8_t *content, size_t n,
+                                    size_t place, size_t start)
 {
     size_t low;
-    if (line->row == R8000 || line->row == R8100 || line->row == R9218) {
+    if (is_fixed(line)) {
         return refuse(GDT_FIXED_LINE, place, line->label);
     }
     low = first_low_byte(content, n);
@@ -711,6 +765,12 @@ static struct refusal judge_content(const struct line *line, const uint8_t *cont
     }
     if (!fits(line->row, content, n)) {
         return refuse(GDT_BAD_CONTENT, place, line->label);
+    }
+    if (set->seven_bits) {
+        size_t high = first_high_byte(content, n);
+        if (high < n) {
+            return refuse(GDT_HIGH_BYTE, start + high, 0);
+        }
     }
     return none;
 }
@@ -854,8 +914,9 @@ struct gdt_made gdt_write(const uint8_t *list, size_t list_length, uint8_t *out,
     return made_of(need);
 }
 
-/* "Corrections": 18 (used length), the set's own refusals, 18 (second set), 19, 20, 6, 14, 22. Then the tail moves, 0Dh 0Ah of the
-   line included, and the content, the line's length and 8100 are written; 8000 and 8100 are fixed, so the line stands after 8100. */
+/* "Corrections": 18 (used length), the set's own refusals, 18 (second set), 19, 20, 6, 14, 24, 22. Then the tail moves, 0Dh 0Ah of
+   the line included, and the content, the line's length and 8100 are written; 8000 and 8100 are fixed, so the line stands after
+   8100. */
 struct gdt_made gdt_correct(uint8_t *buffer, size_t room, size_t used, size_t line, const uint8_t *content, size_t content_length)
 {
     struct lines lines;
@@ -873,7 +934,7 @@ struct gdt_made gdt_correct(uint8_t *buffer, size_t room, size_t used, size_t li
         return refused(refuse(GDT_NO_SUCH_LINE, lines.length, 0));
     }
     old = &lines.of[line - 1];
-    refusal = judge_content(old, content, content_length, old->at, 0);
+    refusal = judge_content(&lines, old, content, content_length, old->at, 0);
     if (refusal.no != 0) {
         return refused(refusal);
     }
@@ -891,8 +952,8 @@ struct gdt_made gdt_correct(uint8_t *buffer, size_t room, size_t used, size_t li
     return made_of(need);
 }
 
-/* Each entry of a sheet by 21 (cut only), 19, 20, 6, 14, the overridden ones too (B40). The last entry for the asked line is put
-   into `viewed`. */
+/* Each entry of a sheet by 21 (cut only), 19, 20, 6, 14, 24, the overridden ones too (B40). The last entry for the asked line is
+   put into `viewed`. */
 static struct refusal read_sheet(const struct lines *set, const uint8_t *sheet, size_t length, size_t line,
                                  struct gdt_viewed *viewed)
 {
@@ -909,7 +970,7 @@ static struct refusal read_sheet(const struct lines *set, const uint8_t *sheet, 
         if (!has_line(set, number)) {
             return refuse(GDT_NO_SUCH_LINE, at, 0);
         }
-        refusal = judge_content(&set->of[number - 1], p + ENTRY_HEAD, size, at, at + ENTRY_HEAD);
+        refusal = judge_content(set, &set->of[number - 1], p + ENTRY_HEAD, size, at, at + ENTRY_HEAD);
         if (refusal.no != 0) {
             return refusal;
         }

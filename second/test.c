@@ -1,6 +1,6 @@
 /* test.c: tests of gdt.c: the ten examples of the rules paper, the index that its gdtlist example prints, and cases from
-   the points B1 to B44 and E1a to E1i of docs/DECISIONS.md. Each checks the reply and every byte of the lent buffers, which stand
-   between guard bytes.
+   the points B1 to B44, E1a to E1i and E2a to E2d of docs/DECISIONS.md. Each checks the reply and every byte of the lent buffers,
+   which stand between guard bytes.
    Prints `ok - NAME` or `FAILED - NAME` for each, and answers 1 if any failed.
 
    Sets, lists and sheets are given as text: lines or entries parted by `|`, each four digits (label, or line number in a sheet)
@@ -22,6 +22,14 @@
 #define B "80006310|8100?????|921802.10|30007|8402EKG01"
 #define P_LIST "80006300|921802.10|30000"
 #define B_LIST "80006310|921802.10|30007|8402EKG01"
+
+/* Seven-bit ones: P7_FRONT lacks its line 3000, which then starts at 51. What is added to P7 starts at 61, to B7 at 75. */
+#define P7_FRONT "80006300|8100?????|92061|921802.10"
+#define P7 P7_FRONT "|30000"
+#define B7 "80006310|8100?????|92061|921802.10|30007|8402EKG01"
+#define P7_LIST "80006300|92061|921802.10|30000"
+#define B7_LIST "80006310|92061|921802.10|30007|8402EKG01"
+
 #define MANY 600
 
 enum { GUARD = 64, CAP = 120000 };
@@ -422,6 +430,35 @@ static const struct set_case {
     {"a line without 0Dh 0Ah", P, "0103100ax\n", {4, 51, 0, 0, 0, 0}},
     {"a label that is not four digits", P, "01031x0a\r\n", {5, 51, 0, 0, 0, 0}},
     {"a length that is not digits", P, "0x03100a\r\n", {2, 51, 0, 0, 0, 0}},
+    {"E2 a seven-bit set", P7, "", {0, 0, 0, 61, 5, 6300}},
+    {"E2 7Fh in a seven-bit set", P7_FRONT "|3000\x7F", "", {0, 0, 0, 61, 5, 6300}},
+    {"E2a 80h in a seven-bit set", P7_FRONT "|3000\x80", "", {24, 58, 0, 0, 0, 0}},
+    {"E2a FFh in a seven-bit set", P7_FRONT "|3000\xFF", "", {24, 58, 0, 0, 0, 0}},
+    {"E2a the byte, not its line or content", P7_FRONT "|3000M\x81ller", "", {24, 59, 0, 0, 0, 0}},
+    {"E2a the first of two in a content", P7_FRONT "|3000a\x81\xFF", "", {24, 59, 0, 0, 0, 0}},
+    {"E2a the first of two lines", P7_FRONT "|8315abcdefg\xFF|3000\x80", "", {24, 65, 0, 0, 0, 0}},
+    {"E2a in line 3, the 9206 line follows", "80006300|8100?????|3000\x81|92061|921802.10", "", {24, 34, 0, 0, 0, 0}},
+    {"E2a in a middle line", B7 "|6220\x81|6220x", "", {24, 82, 0, 0, 0, 0}},
+    {"E2a in the last line", B7 "|6220x|6220y\x81", "", {24, 93, 0, 0, 0, 0}},
+    {"E2a in a member", B7 "|8410A|84201|8421\xB5l", "", {24, 102, 0, 0, 0, 0}},
+    {"E2a in a pair", B7 "|6330x|6331\xE4", "", {24, 92, 0, 0, 0, 0}},
+    {"E2a 9206 as the last line", B "|6220x\xE4|92061", "", {24, 73, 0, 0, 0, 0}},
+    {"E2 FFh with 9206 = 2", "80006300|8100?????|92062|921802.10|3000\xFF", "", {0, 0, 0, 61, 5, 6300}},
+    {"E2 FFh with 9206 = 3", "80006300|8100?????|3000\xFF|921802.10|92063", "", {0, 0, 0, 61, 5, 6300}},
+    {"E2 FFh without 9206", "80006300|8100?????|921802.10|3000\xFF", "", {0, 0, 0, 51, 4, 6300}},
+    {"E2 another label with content 1", "80006300|8100?????|92062|921802.10|30001|83151\xFF      ", "", {0, 0, 0, 78, 6, 6300}},
+    {"E2c 16 at set level comes first", P7_FRONT "|8315abcdefg\xFF", "", {16, 0, 3000, 0, 0, 0}},
+    {"E2c 16 of a group comes first", B7 "|6220\x81|8410A|84201", "", {16, 85, 8421, 0, 0, 0}},
+    {"E2c 24 comes before 17", "80006300|810000063|92061|921802.10|3000M\x81", "", {24, 59, 0, 0, 0, 0}},
+    {"E2c 17 with 9206 = 2", "80006300|810000063|92062|921802.10|3000M\x81", "", {17, 13, 0, 0, 0, 0}},
+    {"E2c a content that is too long", P7_FRONT "|3000\x81" "2345678901", "", {14, 51, 3000, 0, 0, 0}},
+    {"E2c a content of another kind", B7 "|6220\x81|8410A|8420\xB2", "", {14, 95, 8420, 0, 0, 0}},
+    {"E2c a byte under 20h in a later line", P7_FRONT "|3000\x81|8315abcdefg\x1F", "", {6, 75, 0, 0, 0, 0}},
+    {"E2c a label that is in no table", P7_FRONT "|3000\x81|6220x", "", {11, 61, 6220, 0, 0, 0}},
+    {"E2c another version", "80006300|8100?????|92061|3000\x81|921802.00", "", {15, 47, 9218, 0, 0, 0}},
+    {"E2d 9206 twice", P7_FRONT "|3000\x81|92062", "", {13, 61, 9206, 0, 0, 0}},
+    {"E2 9206 itself with a high byte", "80006300|8100?????|9206\xB1|921802.10|30000", "", {14, 27, 9206, 0, 0, 0}},
+    {"E2 bytes after a seven-bit set", P7, "xyz8000\xFF", {0, 0, 0, 61, 5, 6300}},
 };
 
 static void test_sets(void)
@@ -600,6 +637,15 @@ static const struct list_case {
     {"B32 a set field is missing", "80006310|8402EKG01|8410A|84201|30007", {0}, 0, {16, 0, 9218, 0, 0, 0}},
     {"B32 a member is missing", B_LIST "|8410A|84201", {0}, 0, {16, 31, 8421, 0, 0, 0}},
     {"B32 an odd label is missing", B_LIST "|6220x|6330a", {0}, 0, {16, 36, 6331, 0, 0, 0}},
+    {"E2a 80h in a seven-bit list", P7_LIST "|8315\x80" "2345678", {0}, 0, {24, 31, 0, 0, 0, 0}},
+    {"E2a FFh in a seven-bit list", P7_LIST "|83151234567\xFF", {0}, 0, {24, 38, 0, 0, 0, 0}},
+    {"E2a the first entry with a high byte", "80006300|3000\x81|92061|921802.10|8315\x81" "2345678", {0}, 0, {24, 12, 0, 0, 0, 0}},
+    {"E2c a list that lacks 3000", "80006300|92061|921802.10|8315\x81" "2345678", {0}, 0, {16, 0, 3000, 0, 0, 0}},
+    {"E2c a list with a content that is too long", P7_LIST "|8315\x81" "23456789", {0}, 0, {14, 27, 8315, 0, 0, 0}},
+    {"E2c a list with a byte under 20h", P7_LIST "|8315\x81" "234567\x1F", {0}, 0, {6, 38, 0, 0, 0, 0}},
+    {"E2c a list with 8100", P7_LIST "|8315\x81" "2345678|810000061", {0}, 0, {13, 39, 8100, 0, 0, 0}},
+    {"E2d a list with 9206 twice", P7_LIST "|8315\x81" "2345678|92061", {0}, 0, {13, 39, 9206, 0, 0, 0}},
+    {"E2 a seven-bit list with a cut entry", P7_LIST "|8315\x81" "2345678", {1}, 1, {21, 39, 0, 0, 0, 0}},
 };
 
 static void test_refused_lists(void)
@@ -609,7 +655,7 @@ static void test_refused_lists(void)
         const struct list_case *c = &list_cases[i];
         make_list(&list, c->entries);
         add(&list, c->tail, c->tail_length);
-        report(c->name, makes(gdt_write, &list, 200, c->want, NULL));
+        report(c->name, makes(gdt_write, &list, 200, c->want, NULL) & makes(gdt_write, &list, 0, c->want, NULL));
     }
 }
 
@@ -721,6 +767,126 @@ static void test_views(void)
     report("B38 a set after the viewed set", views(&two, &sheet, 9, (struct reply){18, 51, 0, 0, 0, 0}));
 }
 
+/* ---- Seven bits ------------------------------------------------------------------------------------------------------------ */
+
+/* A 6220 of 60 bytes, one of them `byte`, wherever a content is given: in a set, in a list, in a correction and in a sheet. The set
+   has 9206 = `charset`; with 1 a byte over 7Fh is refused at its place there, else it is fine. */
+static int byte_passes(char charset, size_t place, unsigned byte)
+{
+    static struct bytes set, old, list, sheet;
+    char front[] = B7, entries[] = B7_LIST;
+    char line[] = "6220123456789012345678901234567890123456789012345678901234567890", entry[sizeof line];
+    *(strstr(front, "9206") + 4) = charset;
+    *(strstr(entries, "9206") + 4) = charset;
+    line[4 + place] = (char)byte;
+    memcpy(entry, line, sizeof line);
+    memcpy(entry, "0007", 4);
+    set.n = 0;
+    add_all(&set, front, add_line);
+    add_line(&set, line, 64);
+    add_sum(&set);
+    make_set(&old, front);
+    add_line(&old, "6220x", 5);
+    memcpy(old.of + 20, "00085", 5);
+    make_list(&list, entries);
+    add_entry(&list, line, 64);
+    make_list(&sheet, "0005x");
+    add_entry(&sheet, entry, 64);
+    if (charset == '1' && byte > 0x7F) {
+        return refused_by_all(&set, (struct reply){24, 82 + place, 0, 0, 0, 0})
+            & makes(gdt_write, &list, 144, (struct reply){24, 40 + place, 0, 0, 0, 0}, NULL)
+            & corrects(&old, 144, 85, 7, line + 4, (struct reply){24, place, 0, 0, 0, 0}, NULL)
+            & views(&old, &sheet, 7, (struct reply){24, 9 + place, 0, 0, 0, 0});
+    }
+    return judges(&set, (struct reply){0, 0, 0, 144, 7, 6310}) & comes_back(&set, 144)
+        & makes(gdt_write, &list, 144, (struct reply){0, 0, 0, 144, 0, 0}, &set)
+        & corrects(&old, 144, 85, 7, line + 4, (struct reply){0, 0, 0, 144, 0, 0}, &set)
+        & views(&old, &sheet, 7, (struct reply){0, 0, 0, 1, 9, 60});
+}
+
+static void test_seven_bits(void)
+{
+    for (char charset = '1'; charset <= '3'; charset++) {
+        char name[60];
+        int passed = 1;
+        for (unsigned byte = 0x20; byte <= 0xFF; byte++) {
+            passed &= byte_passes(charset, byte % 60, byte);
+        }
+        for (size_t place = 0; place < 60; place++) {
+            passed &= byte_passes(charset, place, 0x7F) & byte_passes(charset, place, 0x80) & byte_passes(charset, place, 0xFF);
+        }
+        snprintf(name, sizeof name, "E2 every byte and every place with 9206 = %c", charset);
+        report(name, passed);
+    }
+}
+
+static void test_seven_bit_corrections(void)
+{
+    static struct bytes seven, eight, plain, made;
+    make_set(&seven, P7);
+    make_set(&eight, "80006300|8100?????|92062|921802.10|30000");
+    make_set(&plain, P);
+    report("E2a a high byte in a new content", corrects(&seven, 90, 61, 5, "M\x81", (struct reply){24, 1, 0, 0, 0, 0}, NULL)
+           & corrects(&seven, 90, 61, 5, "\xFF\x81", (struct reply){24, 0, 0, 0, 0, 0}, NULL));
+    make_set(&made, P7_FRONT "|3000~\x7F");
+    report("E2 7Fh in a new content", corrects(&seven, 90, 61, 5, "~\x7F", (struct reply){0, 0, 0, 62, 0, 0}, &made));
+    make_set(&made, "80006300|8100?????|92062|921802.10|3000\x81");
+    report("E2 a high byte in a new content with 9206 = 2",
+           corrects(&eight, 90, 61, 5, "\x81", (struct reply){0, 0, 0, 61, 0, 0}, &made));
+    make_set(&made, "80006300|8100?????|921802.10|3000\x81");
+    report("E2 a high byte in a new content without 9206",
+           corrects(&plain, 90, 51, 4, "\x81", (struct reply){0, 0, 0, 51, 0, 0}, &made));
+    report("E2b a line 9206 is fixed, whatever it holds",
+           corrects(&seven, 90, 61, 3, "1", (struct reply){20, 27, 9206, 0, 0, 0}, NULL)
+           & corrects(&seven, 90, 61, 3, "2", (struct reply){20, 27, 9206, 0, 0, 0}, NULL)
+           & corrects(&eight, 90, 61, 3, "2", (struct reply){20, 27, 9206, 0, 0, 0}, NULL)
+           & corrects(&eight, 90, 61, 3, "1", (struct reply){20, 27, 9206, 0, 0, 0}, NULL));
+    report("E2c 20 comes before 6, 14 and 24", corrects(&seven, 90, 61, 3, "\x1F", (struct reply){20, 27, 9206, 0, 0, 0}, NULL)
+           & corrects(&seven, 90, 61, 3, "", (struct reply){20, 27, 9206, 0, 0, 0}, NULL)
+           & corrects(&seven, 90, 61, 3, "\x81", (struct reply){20, 27, 9206, 0, 0, 0}, NULL)
+           & corrects(&seven, 90, 61, 4, "\x81", (struct reply){20, 37, 9218, 0, 0, 0}, NULL));
+    report("E2c 19 comes before 24", corrects(&seven, 90, 61, 6, "\x81", (struct reply){19, 61, 0, 0, 0, 0}, NULL));
+    report("E2c 6 comes before 24", corrects(&seven, 90, 61, 5, "\x81\x1F", (struct reply){6, 1, 0, 0, 0, 0}, NULL));
+    report("E2c 14 comes before 24", corrects(&seven, 90, 61, 5, "\x81" "2345678901", (struct reply){14, 51, 3000, 0, 0, 0}, NULL));
+    report("E2c 24 comes before 22", corrects(&seven, 61, 61, 5, "\x81" "2", (struct reply){24, 0, 0, 0, 0, 0}, NULL)
+           & corrects(&seven, 61, 61, 5, "12", (struct reply){22, 62, 0, 0, 0, 0}, NULL));
+}
+
+/* A view of line 6 of b with 9206 as line 3, under a sheet. */
+static const struct seven_view_case {
+    const char *name, *charset, *sheet;
+    struct reply want;
+} seven_view_cases[] = {
+    {"E2a a high byte in the asked line's entry", "1", "0005x|0006a\x81", {24, 10, 0, 0, 0, 0}},
+    {"E2a a high byte in another line's entry", "1", "0005\x81|0006a", {24, 4, 0, 0, 0, 0}},
+    {"E2 7Fh in a sheet", "1", "0005x|0006a\x7F", {0, 0, 0, 1, 9, 2}},
+    {"E2 a high byte in a sheet with 9206 = 2", "2", "0005\x81|0006a\xFF", {0, 0, 0, 1, 9, 2}},
+    {"E2 a high byte in a sheet with 9206 = 3", "3", "0005\x81|0006a\xFF", {0, 0, 0, 1, 9, 2}},
+    {"E2a an overridden entry with a high byte", "1", "0006\x81|0006a", {24, 4, 0, 0, 0, 0}},
+    {"E2b an entry for a seven-bit 9206", "1", "0005x|00031", {20, 5, 9206, 0, 0, 0}},
+    {"E2b an entry for a 9206 that is 2", "2", "0005x|00031", {20, 5, 9206, 0, 0, 0}},
+    {"E2b an entry for a 9206 that is 3", "3", "0005x|0003", {20, 5, 9206, 0, 0, 0}},
+    {"E2c 14 before 24 in an entry", "1", "0005x|0006a\x81" "34567", {14, 5, 8402, 0, 0, 0}},
+    {"E2c 6 before 24 in an entry", "1", "0005x|0006\x81\x1F", {6, 10, 0, 0, 0, 0}},
+    {"E2c 24 of an entry before 14 of the one after it", "1", "0005\x81|0006", {24, 4, 0, 0, 0, 0}},
+    {"E2c 14 of an entry before 24 of the one after it", "1", "0005|0006\x81", {14, 0, 3000, 0, 0, 0}},
+};
+
+static void test_seven_bit_views(void)
+{
+    static struct bytes set, sheet;
+    for (size_t i = 0; i < sizeof seven_view_cases / sizeof *seven_view_cases; i++) {
+        const struct seven_view_case *c = &seven_view_cases[i];
+        make_set(&set, B7);
+        set.of[34] = (uint8_t)c->charset[0];
+        make_list(&sheet, c->sheet);
+        report(c->name, views(&set, &sheet, 6, c->want));
+    }
+    make_set(&set, B7);
+    make_list(&sheet, "0006x");
+    report("B43 a view of a line 9206", views(&set, &sheet, 3, (struct reply){0, 0, 0, 0, 34, 1}));
+}
+
 /* ---- The day file ---------------------------------------------------------------------------------------------------------- */
 
 /* Adds a set to a day file, as text. */
@@ -817,6 +983,28 @@ static void test_build(void)
     file.n = 51;
     add_text(&file, "x");
     report("E1 a last set that is no set", builds(&file, 16, (struct reply){2, 51, 0, 0, 0, 0}, NULL));
+}
+
+/* Each set of a file has its own 9206. */
+static void test_seven_bits_in_files(void)
+{
+    static struct bytes file;
+    static const size_t mixed[] = {0, 61, 6300, 58, 61, 51, 6300, 109, 112, 61, 6300, 170};
+    static const char high[] = "80006300|8100?????|921802.10|3000\xFF";
+    file.n = 0;
+    add_set(&file, P7);
+    add_set(&file, high);
+    report("E2 the set before is seven-bit", appends(&file, 61, 8, 1, (struct reply){0, 0, 0, 2, 0, 0}, mixed + 4));
+    add_set(&file, P7);
+    report("E2 seven-bit sets and one that is not", builds(&file, 12, (struct reply){0, 0, 0, 3, 0, 0}, mixed));
+    add_set(&file, P7_FRONT "|3000a\x81");
+    add_set(&file, P7_FRONT "|3000\x81");
+    report("E2a the place of 24 in a file, before NoRoom", builds(&file, 20, (struct reply){24, 173 + 59, 0, 0, 0, 0}, NULL)
+           & builds(&file, 0, (struct reply){24, 173 + 59, 0, 0, 0, 0}, NULL));
+    report("E2a 24 of an appended set, before 18 and NoRoom",
+           appends(&file, 173, 20, 3, (struct reply){24, 173 + 59, 0, 0, 0, 0}, NULL)
+           & appends(&file, 173, 0, 3, (struct reply){24, 173 + 59, 0, 0, 0, 0}, NULL)
+           & appends(&file, 173, 0, SETS, (struct reply){24, 173 + 59, 0, 0, 0, 0}, NULL));
 }
 
 /* Every set of the set cases stands after P: refused as by itself, with its place in the file. Appended, another set after it is
@@ -961,6 +1149,9 @@ static void test_many_sets(void)
     file.n = end;
     add_set(&file, "80006300|8100?????|921802.10");
     report("E1a a 2,049th set without 3000", refused_as_last(&file, (struct reply){16, end, 3000, 0, 0, 0}));
+    file.n = end;
+    add_set(&file, P7_FRONT "|3000\x81");
+    report("E1a a 2,049th set with a high byte", refused_as_last(&file, (struct reply){24, end + 58, 0, 0, 0, 0}));
     file.n = end;
     add_set(&file, P);
     report("E1a a 2,049th set", refused_as_last(&file, (struct reply){23, end, 0, 0, 0, 0}));
@@ -1108,7 +1299,11 @@ int main(void)
     test_writer();
     test_corrections();
     test_views();
+    test_seven_bits();
+    test_seven_bit_corrections();
+    test_seven_bit_views();
     test_build();
+    test_seven_bits_in_files();
     test_sets_in_files();
     test_append();
     test_many_sets();

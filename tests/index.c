@@ -62,7 +62,7 @@ static void some_common(void)
 {
     if (roll(2)) line(8315, "RECEIVER");
     if (roll(2)) line(8316, "PRACTICE");
-    if (roll(2)) line(9206, "2");
+    if (roll(2)) line(9206, roll(2) ? "1" : "2");
 }
 
 static void some_patient(void)

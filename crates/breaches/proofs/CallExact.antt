@@ -16,18 +16,18 @@ use Rattle.meaning.specs.declared.Judged.the-variants.{Refused}
 use Rattle.meaning.specs.Limits.{maxSetBytes}
 use Rattle.meaning.specs.Field.{Field, labelAtLine, isNil}
 use Rattle.meaning.specs.Refusals.{Spot, byte, Fault, atLine, atByte, ask, Reply, refused, done, refusal, thenTo, verdict, withRoom}
-use Rattle.meaning.specs.Refusals.{badByte, badContent, badUse, noSuchLine, fixedLine, noRoom}
+use Rattle.meaning.specs.Refusals.{badByte, badContent, badUse, noSuchLine, fixedLine, noRoom, highByte}
 use Rattle.meaning.specs.Pieces.{Parsed, parsed}
-use Rattle.meaning.specs.Lines.{size, offset, render, lowBytes}
+use Rattle.meaning.specs.Lines.{mostSevenBits, size, offset, render, lowBytes, highBytes}
 use Rattle.meaning.specs.FieldTable.{fitsLabel}
-use Rattle.meaning.specs.Rules.{fits}
+use Rattle.meaning.specs.Rules.{fits, sevenBit}
 use Rattle.meaning.specs.Entries.{listSize}
 use Rattle.meaning.specs.Reading.{read, shape, judged, judge}
 use Rattle.meaning.specs.Index.{indexOf, index}
 use Rattle.meaning.specs.Lists.{withoutSum, list, setWithRoom}
-use Rattle.meaning.specs.Corrections.{fixed, changeFaults, inChange, changed, correctLines, correct}
+use Rattle.meaning.specs.Corrections.{fixed, sevenBitFaults, changeFaults, inChange, changed, correctLines, correct}
 use Rattle.meaning.proofs.Bools.{and-left, and-right, and-both, and-no, not-true, not-false}
-use Rattle.meaning.proofs.FaultLaws.{refused-done, lows-none}
+use Rattle.meaning.proofs.FaultLaws.{refused-done, lows-none, highs-none, highs-back, if-none}
 use Rattle.meaning.proofs.AnswerLaws.{refused-accepted, refusal-same}
 use Rattle.meaning.proofs.EntryLaws.{length-entries}
 use Rattle.meaning.proofs.WriterLaws.{listOf, list-only, list-makes}
@@ -36,13 +36,16 @@ use Rattle.meaning.proofs.SetLaws.{Standing}
 use Rattle.meaning.proofs.SizeLaws.{ruled-total}
 use Rattle.meaning.proofs.CorrectionLaws.{Change, still-standing}
 use Rattle.meaning.proofs.Demands.{judge-read, read-judge}
+use Rattle.keeps.specs.Keeps.{HasSevenBits, NoHighByte}
 use Rattle.keeps.specs.Makes.{NoLowByte, NotFixed}
+use Rattle.keeps.proofs.SevenExact.{has-seven, seven-has, plain-of, no-high-of}
 use Rattle.keeps.proofs.Exact.{every-of, accepted-keeps, keeps-standing, keeps-accepted, accepted-exactly}
 use Rattle.keeps.proofs.TableFacts.{or-cases}
 use Rattle.keeps.proofs.CorrectionExact.{not-fixed, fixed-not, changed-new, new-changed}
 use Rattle.keeps.proofs.ListExact.{list-listed, listed-list}
 use Rattle.breaches.specs.CallBreaches.{IndexRefused, ListRefused, as-the-set, no-room, FixedLabel, ChangeRefused, another-set, no-line, fixed-line, low-byte, bad-content}
-use Rattle.breaches.specs.CallBreaches.{CorrectionRefused, used-over, of-change}
+use Rattle.breaches.specs.CallBreaches.{high-byte, CorrectionRefused, used-over, of-change}
+use Rattle.breaches.proofs.FirstHigh.{HighIn, high-in, high-found}
 use Rattle.breaches.proofs.FirstOnly.{refused-exactly-with}
 
 -- ---- index and list: "Index and list refuse as the set does, then by 22", with the need as its place
@@ -150,18 +153,23 @@ line-so n m =
 fixed-so : (l : ℕ) → (not (fixed l) ≡ false) ↔ FixedLabel l
 fixed-so l = (λ e. to (or-cases (eqb l 8000) _ (not-false (fixed l) e)), from)
   where
-    later : (eqb l 8100 ≡ true) ⊎ (eqb l 9218 ≡ true) → FixedLabel l
-    later (inl p) = inr (inl (eqb-true l 8100 p))
-    later (inr p) = inr (inr (eqb-true l 9218 p))
+    last : (eqb l 9206 ≡ true) ⊎ (eqb l 9218 ≡ true) → FixedLabel l
+    last (inl p) = inr (inr (inl (eqb-true l 9206 p)))
+    last (inr p) = inr (inr (inr (eqb-true l 9218 p)))
 
-    to : (eqb l 8000 ≡ true) ⊎ (eqb l 8100 || eqb l 9218 ≡ true) → FixedLabel l
+    later : (eqb l 8100 ≡ true) ⊎ (eqb l 9206 || eqb l 9218 ≡ true) → FixedLabel l
+    later (inl p) = inr (inl (eqb-true l 8100 p))
+    later (inr p) = last (or-cases (eqb l 9206) _ p)
+
+    to : (eqb l 8000 ≡ true) ⊎ (eqb l 8100 || (eqb l 9206 || eqb l 9218) ≡ true) → FixedLabel l
     to (inl p) = inl (eqb-true l 8000 p)
     to (inr p) = later (or-cases (eqb l 8100) _ p)
 
     from : FixedLabel l → not (fixed l) ≡ false
     from (inl q) = ap (λ (x : ℕ). not (fixed x)) q
     from (inr (inl q)) = ap (λ (x : ℕ). not (fixed x)) q
-    from (inr (inr q)) = ap (λ (x : ℕ). not (fixed x)) q
+    from (inr (inr (inl q))) = ap (λ (x : ℕ). not (fixed x)) q
+    from (inr (inr (inr q))) = ap (λ (x : ℕ). not (fixed x)) q
 
 free-so : (l : ℕ) → (not (fixed l) ≡ true) ↔ NotFixed l
 free-so l = (λ e. not-fixed l (not-true (fixed l) e), λ n. ap not (fixed-not l n))
@@ -227,16 +235,33 @@ module _ {A B : Type 0} (place : ℕ → Spot → ℕ) (a : A) (k : A → Reply 
   no-low-answers : (m i : ℕ) (c : List ℕ) (xs : List Fault) → NoLowByte c → Answers xs → Answers (lowBytes m i c ++ xs)
   no-low-answers m i c xs n f = rw (lows-none m i c (every-of (λ b. 32 ≤ b) c 0 n)) f
 
-  -- the last test of all
-  asked-last : (t : Bool) (x : Fault) → Answers (ask t x) → Asked t x []
-  asked-last true x e = passed refl e
-  asked-last false x e = failed refl (sym (refused-same e))
+  -- the last test of all: the first byte over 7Fh of c, if the lines have seven bits, or none
+  data High (fs : List Field) (m : ℕ) (c : List ℕ) : Type 0 where
+    high : HasSevenBits fs → (j : ℕ) → j < length c → mostSevenBits < getD c j 0 → ((h : ℕ) → h < j → getD c h 0 ≤ mostSevenBits)
+        → r ≡ refusal highByte (place m (byte j)) 0 → High fs m c
+    none-high : (HasSevenBits fs → NoHighByte c) → Answers [] → High fs m c
 
-  last-failed : (t : Bool) (x : Fault) → t ≡ false → r ≡ told x → Answers (ask t x)
-  last-failed t x e f = rw e (ap refused (sym f))
+  highs : (fs : List Field) (m : ℕ) (c : List ℕ) → Answers (sevenBitFaults fs m c) → High fs m c
+  highs fs m c e = go (sevenBit fs) refl (highBytes m 0 c) refl e
+    where
+      go : (b : Bool) → sevenBit fs ≡ b → (xs : List Fault) → highBytes m 0 c ≡ xs → Answers (cond b xs []) → High fs m c
+      go false p xs q f = none-high (λ h. absurd (true≢false (sym (has-seven fs h) ∙ p))) f
+      go true p [] q f = none-high (λ h. no-high-of c (highs-back m 0 c q)) f
+      go true p (x ∷ xs) q f =
+          let h : HighIn m 0 c x = high-in m 0 c x xs q in
+          let z : 0 + h .which ≡ h .which = omega arith in
+          high (seven-has fs p) (h .which) (h .there) (h .high) (h .earlier) (sym (refused-same f) ∙ (ap told (h .is) ∙ ap (λ (i : ℕ). refusal highByte (place m (byte i)) 0) z))
 
-  last-passed : (t : Bool) (x : Fault) → t ≡ true → Answers [] → Answers (ask t x)
-  last-passed t x e f = rw e f
+  high-answers : (fs : List Field) (m : ℕ) (c : List ℕ) → HasSevenBits fs → (j : ℕ) → j < length c → mostSevenBits < getD c j 0 → ((h : ℕ) → h < j → getD c h 0 ≤ mostSevenBits)
+      → r ≡ refusal highByte (place m (byte j)) 0 → Answers (sevenBitFaults fs m c)
+  high-answers fs m c s j l y q f =
+      let x = high-found m 0 c j l y q in
+      let z : j ≡ 0 + j = omega arith in
+      rw (has-seven fs s, x .1) (ap refused (sym (f ∙ ap (λ (i : ℕ). refusal highByte (place m (byte i)) 0) z)))
+
+  no-high-answers : (fs : List Field) (m : ℕ) (c : List ℕ) → (HasSevenBits fs → NoHighByte c) → Answers [] → Answers (sevenBitFaults fs m c)
+  no-high-answers fs m c n f =
+      rw (if-none (sevenBit fs) (highBytes m 0 c) (λ b. highs-none m 0 c (plain-of c (n (seven-has fs b))))) f
 
 module _ (room n : ℕ) (c : List ℕ) (fs : List Field) (rest : List ℕ) (r : Refusal) (st : Standing fs) (first : labelAtLine fs 0 ≡ 8000) (second : labelAtLine fs 1 ≡ 8100) where
   abbrev label : ℕ
@@ -248,12 +273,18 @@ module _ (room n : ℕ) (c : List ℕ) (fs : List Field) (rest : List ℕ) (r : 
   abbrev put : List Field → Reply (List ℕ)
   put gs = setWithRoom gs room
 
-  -- the tests that are left after 18, 19, 20 and 6
+  -- the tests that are left after 18, 19, 20, 6 and 14
+  abbrev from24 : List Fault
+  from24 = sevenBitFaults fs (pred n) c
+
   abbrev content-test : Fault
   content-test = atLine badContent (pred n) label
 
+  abbrev from14 : List Fault
+  from14 = ask (fitsLabel label c) content-test ++ from24
+
   abbrev from6 : List Fault
-  from6 = lowBytes (pred n) 0 c ++ ask (fitsLabel label c) content-test
+  from6 = lowBytes (pred n) 0 c ++ from14
 
   abbrev from20 : List Fault
   from20 = ask (not (fixed label)) (atLine fixedLine (pred n) label) ++ from6
@@ -265,10 +296,17 @@ module _ (room n : ℕ) (c : List ℕ) (fs : List Field) (rest : List ℕ) (r : 
   whole-set = ap size (take-all (length fs) fs (omega arith))
 
   -- "over 99,999" never decides
-  total : (1 ≤ n) × (n ≤ length fs) → NotFixed label → NoLowByte c → fitsLabel label c ≡ true → size new ≤ maxSetBytes
+  total : (1 ≤ n) × (n ≤ length fs) → NotFixed label → NoLowByte c → fitsLabel label c ≡ true → (HasSevenBits fs → NoHighByte c) → size new ≤ maxSetBytes
   unfolding fits
-  total w f h q =
-      let ch : Change fs n c = record { least = w .0; most = w .1; free = fixed-not label f; high = every-of (λ b. 32 ≤ b) c 0 h; right = q } in
+  total w f h q v =
+      let ch : Change fs n c = record {
+        least = w .0;
+        most = w .1;
+        free = fixed-not label f;
+        high = every-of (λ b. 32 ≤ b) c 0 h;
+        right = q;
+        plain = λ b. plain-of c (v (seven-has fs b));
+      } in
       let s = still-standing fs n c st ch in
       ruled-total new (ruled new (s .right) .0) (s .few)
 
@@ -286,19 +324,24 @@ module _ (room n : ℕ) (c : List ℕ) (fs : List Field) (rest : List ℕ) (r : 
   unfolding changeFaults fits
   change-refused e = by18 (asked (inChange fs) new put r (isNil rest) (atLine badUse (length fs) 0) from19 e)
     where
-      by14 : rest ≡ [] → (1 ≤ n) × (n ≤ length fs) → NotFixed label → NoLowByte c
-          → Asked (inChange fs) new put r (fitsLabel label c) content-test [] → ChangeRefused room fs rest n c r
-      by14 a w f h (failed p q) = bad-content a w f h p q
-      by14 a w f h (passed p q) =
-          let z = room-lacks-so (total w f h p) q in no-room a w f h p new (changed-new fs n c first second w f) (z .0) (z .1)
+      by24 : rest ≡ [] → (1 ≤ n) × (n ≤ length fs) → NotFixed label → NoLowByte c → fitsLabel label c ≡ true
+          → High (inChange fs) new put r fs (pred n) c → ChangeRefused room fs rest n c r
+      by24 a w f h p (high s j l y m q) = high-byte a w f h p s j l y m q
+      by24 a w f h p (none-high v q) =
+          let z = room-lacks-so (total w f h p v) q in no-room a w f h p v new (changed-new fs n c first second w f) (z .0) (z .1)
 
-      by6 : rest ≡ [] → (1 ≤ n) × (n ≤ length fs) → NotFixed label → Low (inChange fs) new put r (pred n) c 0 (ask (fitsLabel label c) content-test) → ChangeRefused room fs rest n c r
+      by14 : rest ≡ [] → (1 ≤ n) × (n ≤ length fs) → NotFixed label → NoLowByte c
+          → Asked (inChange fs) new put r (fitsLabel label c) content-test from24 → ChangeRefused room fs rest n c r
+      by14 a w f h (failed p q) = bad-content a w f h p q
+      by14 a w f h (passed p q) = by24 a w f h p (highs (inChange fs) new put r fs (pred n) c q)
+
+      by6 : rest ≡ [] → (1 ≤ n) × (n ≤ length fs) → NotFixed label → Low (inChange fs) new put r (pred n) c 0 from14 → ChangeRefused room fs rest n c r
       by6 a w f (low j l y h q) = low-byte a w f j l y h (q ∙ ap (λ (z : ℕ). refusal badByte z 0) (omega arith))
-      by6 a w f (none-low h q) = by14 a w f h (asked-last (inChange fs) new put r (fitsLabel label c) content-test q)
+      by6 a w f (none-low h q) = by14 a w f h (asked (inChange fs) new put r (fitsLabel label c) content-test from24 q)
 
       by20 : rest ≡ [] → (1 ≤ n) × (n ≤ length fs) → Asked (inChange fs) new put r (not (fixed label)) (atLine fixedLine (pred n) label) from6 → ChangeRefused room fs rest n c r
       by20 a w (failed p q) = fixed-line a w (fixed-so label .0 p) q
-      by20 a w (passed p q) = by6 a w (free-so label .0 p) (lows (inChange fs) new put r (pred n) 0 c (ask (fitsLabel label c) content-test) q)
+      by20 a w (passed p q) = by6 a w (free-so label .0 p) (lows (inChange fs) new put r (pred n) 0 c from14 q)
 
       by19 : rest ≡ [] → Asked (inChange fs) new put r (leb 1 n && leb n (length fs)) (atLine noSuchLine (length fs) 0) from20 → ChangeRefused room fs rest n c r
       by19 a (failed p q) = no-line a (line-not n (length fs) .0 p) (q ∙ ap (λ (z : ℕ). refusal noSuchLine z 0) whole-set)
@@ -322,9 +365,13 @@ module _ (room n : ℕ) (c : List ℕ) (fs : List Field) (rest : List ℕ) (r : 
       after20 : rest ≡ [] → (1 ≤ n) × (n ≤ length fs) → NotFixed label → Answers (inChange fs) new put r from6 → correctLines room n c (parsed fs rest) ≡ refused r
       after20 a w f q = after19 a w (ask-passed (inChange fs) new put r (not (fixed label)) (atLine fixedLine (pred n) label) from6 (free-so label .1 f) q)
 
-      after6 : rest ≡ [] → (1 ≤ n) × (n ≤ length fs) → NotFixed label → NoLowByte c → Answers (inChange fs) new put r (ask (fitsLabel label c) content-test)
+      after6 : rest ≡ [] → (1 ≤ n) × (n ≤ length fs) → NotFixed label → NoLowByte c → Answers (inChange fs) new put r from14
           → correctLines room n c (parsed fs rest) ≡ refused r
-      after6 a w f h q = after20 a w f (no-low-answers (inChange fs) new put r (pred n) 0 c (ask (fitsLabel label c) content-test) h q)
+      after6 a w f h q = after20 a w f (no-low-answers (inChange fs) new put r (pred n) 0 c from14 h q)
+
+      after14 : rest ≡ [] → (1 ≤ n) × (n ≤ length fs) → NotFixed label → NoLowByte c → fitsLabel label c ≡ true → Answers (inChange fs) new put r from24
+          → correctLines room n c (parsed fs rest) ≡ refused r
+      after14 a w f h p q = after6 a w f h (ask-passed (inChange fs) new put r (fitsLabel label c) content-test from24 p q)
 
       go : ChangeRefused room fs rest n c r → correctLines room n c (parsed fs rest) ≡ refused r
       go (another-set a q) =
@@ -336,12 +383,13 @@ module _ (room n : ℕ) (c : List ℕ) (fs : List Field) (rest : List ℕ) (r : 
       go (fixed-line a w f q) = after19 a w (ask-failed (inChange fs) new put r (not (fixed label)) (atLine fixedLine (pred n) label) from6 (fixed-so label .1 f) q)
       go (low-byte a w f i l y h q) =
           after20 a w f
-          (low-answers (inChange fs) new put r (pred n) 0 c (ask (fitsLabel label c) content-test) i l y h (q ∙ ap (λ (z : ℕ). refusal badByte z 0) (omega arith)))
-      go (bad-content a w f h p q) = after6 a w f h (last-failed (inChange fs) new put r (fitsLabel label c) content-test p q)
-      go (no-room a w f h p gs m l q) =
+          (low-answers (inChange fs) new put r (pred n) 0 c from14 i l y h (q ∙ ap (λ (z : ℕ). refusal badByte z 0) (omega arith)))
+      go (bad-content a w f h p q) = after6 a w f h (ask-failed (inChange fs) new put r (fitsLabel label c) content-test from24 p q)
+      go (high-byte a w f h p s j l y m q) = after14 a w f h p (high-answers (inChange fs) new put r fs (pred n) c s j l y m q)
+      go (no-room a w f h p v gs m l q) =
           let e : gs ≡ new = new-changed fs n c gs first second w f m in
-          after6 a w f h
-          (last-passed (inChange fs) new put r (fitsLabel label c) content-test p
+          after14 a w f h p
+          (no-high-answers (inChange fs) new put r fs (pred n) c v
           (so-room-lacks (subst (λ (x : List Field). room < size x) e l) (q ∙ ap (λ (x : List Field). refusal noRoom (size x) 0) e)))
 
 read-refused : (s : List ℕ) (r : Refusal) → judge s ≡ Refused r → read s ≡ refused r

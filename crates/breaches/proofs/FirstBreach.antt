@@ -3,10 +3,10 @@ use mathlib.Core.Path.{_≡_, refl, sym, ap, _∙_, subst}
 use mathlib.Core.Bool.{Bool, true, false}
 use mathlib.Core.List.{List, [], _∷_, _++_, cons≢nil, append-assoc}
 use mathlib.Core.Logic.{_⊎_, inl, inr, _≢_, _↔_}
-use Prim.Native.Nat.{ℕ, suc, _≤_, _<_}
+use Prim.Native.Nat.{ℕ, suc, _+_, _≤_, _<_}
 use native.Mathlib.Omega.{arith}
 use lib.Dec.{eqb}
-use lib.ListN.{length, List·getD-map}
+use lib.ListN.{length, getD, List·getD-map}
 use borrow.Author.Tests.{eqb-true, eqb-false}
 use Rattle.meaning.specs.declared.Refusal.{Refusal}
 use Rattle.meaning.specs.declared.Shape.{Shape}
@@ -16,13 +16,14 @@ use Rattle.meaning.specs.declared.SetType.{SetType}
 use Rattle.meaning.specs.Limits.{typeNumber}
 use Rattle.meaning.specs.Digits.{digits, number}
 use Rattle.meaning.specs.Field.{Field, labels, noField, labelAtLine, contentAtLine}
-use Rattle.meaning.specs.Refusals.{Fault, atLine, ask, Reply, refused, done, refusal, verdict, empty, noStart, unknownSet, noSum, missing, badSum}
+use Rattle.meaning.specs.Refusals.{Fault, atLine, ask, Reply, refused, done, refusal, verdict, empty, noStart, unknownSet, noSum, missing, badSum, highByte}
 use Rattle.meaning.specs.Pieces.{Parsed, parsed}
-use Rattle.meaning.specs.Lines.{size, offset, render}
+use Rattle.meaning.specs.Lines.{lineLead, mostSevenBits, size, offset, render}
 use Rattle.meaning.specs.Tables.{table}
 use Rattle.meaning.specs.Groups.{first}
 use Rattle.meaning.specs.Missing.{missingFaults}
-use Rattle.meaning.specs.Rules.{typeNamed, Profile, profile, rowsOf, labelIs, isKnown, typeKnown, startFaults, rulesFrom, sumFaults, ruleFaults, setFaults}
+use Rattle.meaning.specs.Rules.{typeNamed, Profile, profile, rowsOf, labelIs, isKnown, typeKnown, startFaults, rulesFrom, highFaults, sumFaults, ruleFaults}
+use Rattle.meaning.specs.Rules.{setFaults}
 use Rattle.meaning.specs.Reading.{scan, inSet, byRules, read, judged, judge}
 use Rattle.meaning.proofs.Bools.{Every}
 use Rattle.meaning.proofs.FaultLaws.{append-none, done-same}
@@ -30,18 +31,19 @@ use Rattle.meaning.proofs.AnswerLaws.{refused-accepted, refusal-same}
 use Rattle.meaning.proofs.LineLaws.{Sound, NoStart, LaterLine, length-render}
 use Rattle.meaning.proofs.RuleLaws.{begins-of}
 use Rattle.meaning.proofs.SetLaws.{scan-render, Scanned, scanned, later-sound}
-use Rattle.keeps.specs.Keeps.{StartsWith, GroupHas, KeepsRules, Keeps}
+use Rattle.keeps.specs.Keeps.{StartsWith, GroupHas, HasSevenBits, KeepsRules, Keeps}
 use Rattle.keeps.proofs.TableFacts.{no-absurd}
 use Rattle.keeps.proofs.StateLaws.{stateAt}
 use Rattle.keeps.proofs.LackLaws.{after-all}
 use Rattle.meaning.proofs.TypeLaws.{known-type, of-same, type-digits, type-named}
-use Rattle.keeps.proofs.RulesExact.{typed, profile-typed, label-is, faultsAt, rules-each, typed-rules, labels-fine-at, faults-none}
+use Rattle.keeps.proofs.RulesExact.{typed, profile-typed, label-is, faultsAt, rules-each, Complete, complete-of, typed-complete, typed-rules, labels-fine-at, faults-none}
 use Rattle.keeps.proofs.Exact.{over-cases, over-of, none-earlier, alone-of, accepted-exactly}
 use Rattle.breaches.specs.Breaches.{lineRank, SetLines, StartBreach, no-start, unknown-set, no-sum, RuleBreach, ruleNumber, always, with-value}
 use Rattle.breaches.specs.Breaches.{with-8438, MissingBreach, of-set, of-group, of-name, TypedLines, Breach, no-bytes, in-line, in-start}
-use Rattle.breaches.specs.Breaches.{in-rules, in-missing, in-sum, startRank, missingRank, sumRank, Rank, rank, Before, rankOf, FirstBreach}
+use Rattle.breaches.specs.Breaches.{in-rules, in-missing, in-high, in-sum, startRank, missingRank, highRank, sumRank, Rank, rank, Before, rankOf, FirstBreach}
 use Rattle.breaches.proofs.FirstLine.{same-head, head-append, ask-head, refused-same, done-refused, ScanRefused, scan-refused}
 use Rattle.breaches.proofs.FirstLine.{line-none-before, scanned-no-breach, before-stage, stage-of, sounds, wells}
+use Rattle.breaches.proofs.FirstHigh.{FirstHigh, set-high}
 use Rattle.breaches.proofs.FirstRule.{RuleFirst, rule-first, FirstFault, first-fault, fine-line, behind-line}
 use Rattle.breaches.proofs.FirstMissing.{MissingFirst, in-set, in-group, in-name, missing-first}
 
@@ -86,7 +88,8 @@ line-first-breach s r x = record { breach = in-line (x .lines) (x .rest) (x .sta
     before (in-start fs rest l b) z = later-stage (startRank b) (lineRank (x .is-first .breach)) 2 (start-stage fs b) (omega (arith, one)) z
     before (in-rules t fs rest l k i b) z = later-stage (rank 3 k (ruleNumber b) 0) (lineRank (x .is-first .breach)) 3 refl (omega (arith, one)) z
     before (in-missing t fs rest l b) z = later-stage (missingRank b) (lineRank (x .is-first .breach)) 4 (missing-stage t fs b) (omega (arith, one)) z
-    before (in-sum fs rest l e) z = later-stage sumRank (lineRank (x .is-first .breach)) 5 refl (omega (arith, one)) z
+    before (in-high fs rest l h k i a b e) z = later-stage (highRank k i) (lineRank (x .is-first .breach)) 5 refl (omega (arith, one)) z
+    before (in-sum fs rest l e) z = later-stage sumRank (lineRank (x .is-first .breach)) 6 refl (omega (arith, one)) z
 
 no-size : (fs : List Field) → 0 < length fs → size fs ≡ 0 → ⊥
 no-size [] l e = omega arith
@@ -119,19 +122,24 @@ module _ (s : List ℕ) (fs : List Field) (rest : List ℕ) (set-lines : SetLine
       → ((b : StartBreach fs) → Before (startRank b) r → ⊥)
       → ((t : SetType) → contentAtLine fs 0 ≡ digits 4 (typeNumber t) → (k : ℕ) → k < length fs → (b : RuleBreach t fs k) → Before (rank 3 k (ruleNumber b) 0) r → ⊥)
       → ((t : SetType) → contentAtLine fs 0 ≡ digits 4 (typeNumber t) → (b : MissingBreach t fs) → Before (missingRank b) r → ⊥)
+      → (HasSevenBits fs → (k i : ℕ) → k < length fs → i < length (contentAtLine fs k) → mostSevenBits < getD (contentAtLine fs k) i 0 → Before (highRank k i) r → ⊥)
       → (number (contentAtLine fs 1) ≢ size fs → Before sumRank r → ⊥)
       → (b : Breach s) → Before (rankOf b) r → ⊥
-  by-stage r st ru mi su (no-bytes e) z = no-size fs (set-lines .some-line) (omega (arith, length-render fs rest, ap length (sym (set-lines .its-bytes) ∙ e)))
-  by-stage r st ru mi su (in-line gs a l b) z =
+  by-stage r st ru mi hi su (no-bytes e) z = no-size fs (set-lines .some-line) (omega (arith, length-render fs rest, ap length (sym (set-lines .its-bytes) ∙ e)))
+  by-stage r st ru mi hi su (in-line gs a l b) z =
       scanned-no-breach s fs rest (set-lines .its-bytes) (sounds fs (set-lines .well-formed)) (set-lines .some-line) (set-lines .few-lines) (set-lines .ends .there) gs a l b
-  by-stage r st ru mi su (in-start gs a l b) z = subst (λ (y : List Field). (c : StartBreach y) → Before (startRank c) r → ⊥) (sym (one-list gs a l)) st b z
-  by-stage r st ru mi su (in-rules t gs a l k i b) z =
+  by-stage r st ru mi hi su (in-start gs a l b) z = subst (λ (y : List Field). (c : StartBreach y) → Before (startRank c) r → ⊥) (sym (one-list gs a l)) st b z
+  by-stage r st ru mi hi su (in-rules t gs a l k i b) z =
       subst (λ (y : List Field). contentAtLine y 0 ≡ digits 4 (typeNumber t) → (j : ℕ) → j < length y → (c : RuleBreach t y j) → Before (rank 3 j (ruleNumber c) 0) r → ⊥)
       (sym (one-list gs a (l .set-lines))) (ru t) (l .names-type) k i b z
-  by-stage r st ru mi su (in-missing t gs a l b) z =
+  by-stage r st ru mi hi su (in-missing t gs a l b) z =
       subst (λ (y : List Field). contentAtLine y 0 ≡ digits 4 (typeNumber t) → (c : MissingBreach t y) → Before (missingRank c) r → ⊥)
       (sym (one-list gs a (l .set-lines))) (mi t) (l .names-type) b z
-  by-stage r st ru mi su (in-sum gs a l e) z =
+  by-stage r st ru mi hi su (in-high gs a l h k i u v e) z =
+      subst (λ (y : List Field). HasSevenBits y → (j m : ℕ) → j < length y → m < length (contentAtLine y j) → mostSevenBits < getD (contentAtLine y j) m 0
+      → Before (highRank j m) r → ⊥)
+      (sym (one-list gs a l)) hi h k i u v e z
+  by-stage r st ru mi hi su (in-sum gs a l e) z =
       subst (λ (y : List Field). number (contentAtLine y 1) ≢ size y → Before sumRank r → ⊥) (sym (one-list gs a l)) su e z
 
 -- ---- 8, 9, 10
@@ -171,7 +179,8 @@ module _ (s : List ℕ) (fs : List Field) (rest : List ℕ) (set-lines : SetLine
       by-stage s fs rest set-lines (rank 2 0 n 0) h
       (λ t q k i c. later-stage (rank 3 k (ruleNumber c) 0) (rank 2 0 n 0) 3 refl (omega arith))
       (λ t q c. later-stage (missingRank c) (rank 2 0 n 0) 4 (missing-stage t fs c) (omega arith))
-      (λ q. later-stage sumRank (rank 2 0 n 0) 5 refl (omega arith)) d (subst (λ (y : Rank). Before (rankOf d) y) e z)
+      (λ h k i u v e. later-stage (highRank k i) (rank 2 0 n 0) 5 refl (omega arith))
+      (λ q. later-stage sumRank (rank 2 0 n 0) 6 refl (omega arith)) d (subst (λ (y : Rank). Before (rankOf d) y) e z)
 
   -- By the three tests in order: the first that fails gives the breach, and those before it hold, so no smaller number is broken.
   start-first : (x : Fault) (xs : List Fault) → startFaults fs ≡ x ∷ xs → FirstBreach s (toldAt fs x)
@@ -233,13 +242,14 @@ module _ (s : List ℕ) (fs : List Field) (rest : List ℕ) (set-lines : SetLine
     before-rule i k n m (inr (e, inr (f, inl x))) = inr (f, x)
     before-rule i k n m (inr (e, inr (f, inr x))) = absurd (omega (arith, x .1))
 
-    -- The first line with faults gives the breach: the lines before it break no rule, it breaks none of a smaller number, the start is right, and 16 and 17 come later.
+    -- The first line with faults gives the breach: the lines before it break no rule, it breaks none of a smaller number, the start is right, and 16, 24 and 17 come later.
     rules-first : (x : Fault) (xs : List Fault) → rulesFrom (typed t) first 0 fs ≡ x ∷ xs → FirstBreach s (toldAt fs x)
     rules-first x xs e = record {
       breach = in-rules t fs rest typed-lines k (f .inside) (b .breach);
       its-refusal = told-line fs x (ruleNumber (b .breach)) k (labelAtLine fs k) (b .is);
       none-before = by-stage s fs rest set-lines r (λ c z. no-start-breach c) rules-before
-          (λ u q c. later-stage (missingRank c) r 4 (missing-stage u fs c) (omega arith)) (λ q. later-stage sumRank r 5 refl (omega arith));
+          (λ u q c. later-stage (missingRank c) r 4 (missing-stage u fs c) (omega arith))
+          (λ h j m u v w. later-stage (highRank j m) r 5 refl (omega arith)) (λ q. later-stage sumRank r 6 refl (omega arith));
     }
       where
         f : FirstFault t fs x
@@ -267,7 +277,7 @@ module _ (s : List ℕ) (fs : List Field) (rest : List ℕ) (set-lines : SetLine
         rules-before : (u : SetType) → contentAtLine fs 0 ≡ digits 4 (typeNumber u) → (i : ℕ) → i < length fs → (c : RuleBreach u fs i) → Before (rank 3 i (ruleNumber c) 0) r → ⊥
         rules-before u q i l = subst (λ (y : SetType). (c : RuleBreach y fs i) → Before (rank 3 i (ruleNumber c) 0) r → ⊥) (sym (one-type u q)) (own-type i l)
 
-    -- ---- 16 and 17: every line is fine
+    -- ---- 16, 24 and 17: every line is fine
 
     module _ (each : (k : ℕ) → k < length fs → faultsAt t fs k ≡ []) where
       no-rule-breach : (u : SetType) → contentAtLine fs 0 ≡ digits 4 (typeNumber u) → (i : ℕ) → i < length fs → RuleBreach u fs i → ⊥
@@ -278,7 +288,8 @@ module _ (s : List ℕ) (fs : List Field) (rest : List ℕ) (set-lines : SetLine
       missing-breach b r e h d z =
           by-stage s fs rest set-lines r (λ c w. no-start-breach c) (λ u q i l c w. no-rule-breach u q i l c)
           (λ u q. subst (λ (y : SetType). (c : MissingBreach y fs) → Before (missingRank c) r → ⊥) (sym (one-type u q)) h)
-          (λ q. later-stage sumRank r 5 refl (omega (arith, ap (λ (y : Rank). y .stage) e, missing-stage t fs b))) d (subst (λ (y : Rank). Before (rankOf d) y) e z)
+          (λ g j m u v w. later-stage (highRank j m) r 5 refl (omega (arith, ap (λ (y : Rank). y .stage) e, missing-stage t fs b)))
+          (λ q. later-stage sumRank r 6 refl (omega (arith, ap (λ (y : Rank). y .stage) e, missing-stage t fs b))) d (subst (λ (y : Rank). Before (rankOf d) y) e z)
 
       lack-first : (x : Fault) → MissingFirst t fs (labels-fine-at t fs each) x → FirstBreach s (toldAt fs x)
       lack-first x (in-set l a q n e h) = record {
@@ -301,7 +312,7 @@ module _ (s : List ℕ) (fs : List Field) (rest : List ℕ) (set-lines : SetLine
       unfolding missingFaults
       missing-fault-first x xs e = lack-first x (missing-first t fs (labels-fine-at t fs each) x xs (rw (after-all t fs) at e))
 
-      no-missing-breach : KeepsRules t fs → MissingBreach t fs → ⊥
+      no-missing-breach : Complete t fs → MissingBreach t fs → ⊥
       no-missing-breach r (of-set l a q n) = let k = r .set-complete l a q in n (k .0) (k .1) (k .2)
       no-missing-breach r (of-group h l i m (always q) n) = n (r .groups-complete h l i m q)
       no-missing-breach r (of-group h l i m (with-value q v) n) = n (subst (λ (y : ℕ). GroupHas t fs h y) (sym q) (r .needs-8421 h v))
@@ -312,13 +323,47 @@ module _ (s : List ℕ) (fs : List Field) (rest : List ℕ) (set-lines : SetLine
       no-breach-but : KeepsRules t fs → (r : Rank) → (number (contentAtLine fs 1) ≢ size fs → Before sumRank r → ⊥) → (d : Breach s) → Before (rankOf d) r → ⊥
       no-breach-but k r h =
           by-stage s fs rest set-lines r (λ c z. no-start-breach c) (λ u q i l c z. no-rule-breach u q i l c)
-          (λ u q c z. subst (λ (y : SetType). MissingBreach y fs → ⊥) (sym (one-type u q)) (no-missing-breach k) c) h
+          (λ u q c z. subst (λ (y : SetType). MissingBreach y fs → ⊥) (sym (one-type u q)) (no-missing-breach (complete-of t fs k)) c)
+          (λ g j m a b e z. omega (arith, e, k .seven-bits g j a m b)) h
 
       nothing-itself : Before sumRank sumRank → ⊥
       nothing-itself (inl x) = omega arith
       nothing-itself (inr (e, inl x)) = omega arith
       nothing-itself (inr (e, inr (f, inl x))) = omega arith
       nothing-itself (inr (e, inr (f, inr x))) = omega (arith, x .1)
+
+      -- what comes before a byte over 7Fh
+      before-high : (i k a b : ℕ) → Before (highRank i a) (highRank k b) → (i < k) ⊎ ((i ≡ k) × (a < b))
+      before-high i k a b (inl x) = absurd (omega arith)
+      before-high i k a b (inr (e, inl x)) = inl x
+      before-high i k a b (inr (e, inr (f, inl x))) = absurd (omega arith)
+      before-high i k a b (inr (e, inr (f, inr x))) = inr (f, x .1)
+
+      -- The first byte over 7Fh gives the breach: earlier lines, and earlier bytes of its line, have none; start, lines and what is required are right, and 17 comes later.
+      high-first : Complete t fs → (x : Fault) (xs : List Fault) → highFaults fs ≡ x ∷ xs → FirstBreach s (toldAt fs x)
+      high-first c x xs e = record {
+        breach = in-high fs rest set-lines seven (f .line) (f .which) (f .inside) (f .there) (f .high);
+        its-refusal = ap (toldAt fs) (f .is) ∙ ap (λ (m : ℕ). refusal highByte (offset fs m + (lineLead + f .which)) 0) none-more;
+        none-before = by-stage s fs rest set-lines (highRank (f .line) (f .which)) (λ b z. no-start-breach b) (λ u q i l b z. no-rule-breach u q i l b)
+            (λ u q b z. subst (λ (y : SetType). MissingBreach y fs → ⊥) (sym (one-type u q)) (no-missing-breach c) b)
+            (λ g j m a b w z. none j m b w (before-high j (f .line) m (f .which) z))
+            (λ q. later-stage sumRank (highRank (f .line) (f .which)) 6 refl (omega arith));
+      }
+        where
+          seven : HasSevenBits fs
+          seven = set-high fs x xs e .0
+
+          f : FirstHigh 0 fs x
+          f = set-high fs x xs e .1
+
+          none-more : 0 + f .line ≡ f .line
+          none-more = omega arith
+
+          none : (j m : ℕ) → m < length (contentAtLine fs j) → mostSevenBits < getD (contentAtLine fs j) m 0 → (j < f .line) ⊎ ((j ≡ f .line) × (m < f .which)) → ⊥
+          none j m b w (inl p) = omega (arith, w, f .earlier-lines j p m b)
+          none j m b w (inr p) =
+              let q : getD (contentAtLine fs j) m 0 ≤ mostSevenBits = subst (λ (i : ℕ). getD (contentAtLine fs i) m 0 ≤ mostSevenBits) (sym (p .0)) (f .earlier m (p .1)) in
+              omega (arith, w, q)
 
       sum-first : KeepsRules t fs → (x : Fault) (xs : List Fault) → sumFaults fs ≡ x ∷ xs → FirstBreach s (toldAt fs x)
       unfolding sumFaults
@@ -330,24 +375,31 @@ module _ (s : List ℕ) (fs : List Field) (rest : List ℕ) (set-lines : SetLine
             none-before = no-breach-but k sumRank (λ q z. nothing-itself z);
           }
 
-    -- the first fault of a set that starts well: of the rules 11 to 15, of 16, or of 17
-    typed-first : (x : Fault) (xs : List Fault) → (rulesFrom (typed t) first 0 fs ++ missingFaults (table t) (labels fs)) ++ sumFaults fs ≡ x ∷ xs → FirstBreach s (toldAt fs x)
-    typed-first x xs e = outer (head-append (rulesFrom (typed t) first 0 fs ++ missingFaults (table t) (labels fs)) (sumFaults fs) x xs e)
+    -- the first fault of a set that starts well: of the rules 11 to 15, of 16, of 24, or of 17
+    typed-first : (x : Fault) (xs : List Fault) → (rulesFrom (typed t) first 0 fs ++ (missingFaults (table t) (labels fs) ++ highFaults fs)) ++ sumFaults fs ≡ x ∷ xs
+        → FirstBreach s (toldAt fs x)
+    typed-first x xs e = outer (head-append (rulesFrom (typed t) first 0 fs ++ (missingFaults (table t) (labels fs) ++ highFaults fs)) (sumFaults fs) x xs e)
       where
-        inner : (ys : List Fault) → rulesFrom (typed t) first 0 fs ++ missingFaults (table t) (labels fs) ≡ x ∷ ys → FirstBreach s (toldAt fs x)
-        inner ys q = go (head-append (rulesFrom (typed t) first 0 fs) (missingFaults (table t) (labels fs)) x ys q)
+        third : rulesFrom (typed t) first 0 fs ≡ [] → (ys : List Fault)
+            → ((zs : List Fault) × (missingFaults (table t) (labels fs) ≡ x ∷ zs)) ⊎ ((missingFaults (table t) (labels fs) ≡ []) × (highFaults fs ≡ x ∷ ys)) → FirstBreach s (toldAt fs x)
+        third p ys (inl q) = missing-fault-first (rules-each t fs p) x (q .0) (q .1)
+        third p ys (inr q) = high-first (rules-each t fs p) (typed-complete t fs p (q .0)) x ys (q .1)
+
+        inner : (ys : List Fault) → rulesFrom (typed t) first 0 fs ++ (missingFaults (table t) (labels fs) ++ highFaults fs) ≡ x ∷ ys → FirstBreach s (toldAt fs x)
+        inner ys q = go (head-append (rulesFrom (typed t) first 0 fs) (missingFaults (table t) (labels fs) ++ highFaults fs) x ys q)
           where
             go : ((zs : List Fault) × (rulesFrom (typed t) first 0 fs ≡ x ∷ zs))
-                ⊎ ((rulesFrom (typed t) first 0 fs ≡ []) × (missingFaults (table t) (labels fs) ≡ x ∷ ys)) → FirstBreach s (toldAt fs x)
+                ⊎ ((rulesFrom (typed t) first 0 fs ≡ []) × (missingFaults (table t) (labels fs) ++ highFaults fs ≡ x ∷ ys)) → FirstBreach s (toldAt fs x)
             go (inl p) = rules-first x (p .0) (p .1)
-            go (inr p) = missing-fault-first (rules-each t fs (p .0)) x ys (p .1)
+            go (inr p) = third (p .0) ys (head-append (missingFaults (table t) (labels fs)) (highFaults fs) x ys (p .1))
 
-        outer : ((ys : List Fault) × (rulesFrom (typed t) first 0 fs ++ missingFaults (table t) (labels fs) ≡ x ∷ ys))
-            ⊎ ((rulesFrom (typed t) first 0 fs ++ missingFaults (table t) (labels fs) ≡ []) × (sumFaults fs ≡ x ∷ xs)) → FirstBreach s (toldAt fs x)
+        outer : ((ys : List Fault) × (rulesFrom (typed t) first 0 fs ++ (missingFaults (table t) (labels fs) ++ highFaults fs) ≡ x ∷ ys))
+            ⊎ ((rulesFrom (typed t) first 0 fs ++ (missingFaults (table t) (labels fs) ++ highFaults fs) ≡ []) × (sumFaults fs ≡ x ∷ xs)) → FirstBreach s (toldAt fs x)
         outer (inl p) = inner (p .0) (p .1)
         outer (inr p) =
-            let n = append-none (rulesFrom (typed t) first 0 fs) (missingFaults (table t) (labels fs)) (p .0) in
-            sum-first (rules-each t fs (n .0)) (typed-rules t fs starts second (n .0) (n .1)) x xs (p .1)
+            let n = append-none (rulesFrom (typed t) first 0 fs) (missingFaults (table t) (labels fs) ++ highFaults fs) (p .0) in
+            let m = append-none (missingFaults (table t) (labels fs)) (highFaults fs) (n .1) in
+            sum-first (rules-each t fs (n .0)) (typed-rules t fs starts second (n .0) (m .0) (m .1)) x xs (p .1)
 
   -- ---- all faults
 
@@ -355,21 +407,21 @@ module _ (s : List ℕ) (fs : List Field) (rest : List ℕ) (set-lines : SetLine
   regroup a b c d = append-assoc a (b ++ c) d
 
   started-first : startFaults fs ≡ [] → (x : Fault) (xs : List Fault)
-      → (rulesFrom (profile fs) first 0 fs ++ missingFaults (rowsOf (profile fs)) (labels fs)) ++ sumFaults fs ≡ x ∷ xs → FirstBreach s (toldAt fs x)
+      → (rulesFrom (profile fs) first 0 fs ++ (missingFaults (rowsOf (profile fs)) (labels fs) ++ highFaults fs)) ++ sumFaults fs ≡ x ∷ xs → FirstBreach s (toldAt fs x)
   started-first e x xs h =
       let b = begins-of fs e in
       let y = so-type fs (b .type-known) in
       typed-first (y .0) (b .first-label, y .1) (b .second-label) x xs
-      (subst (λ (p : Profile). (rulesFrom p first 0 fs ++ missingFaults (rowsOf p) (labels fs)) ++ sumFaults fs ≡ x ∷ xs) (profile-typed (y .0) fs (y .1)) h)
+      (subst (λ (p : Profile). (rulesFrom p first 0 fs ++ (missingFaults (rowsOf p) (labels fs) ++ highFaults fs)) ++ sumFaults fs ≡ x ∷ xs) (profile-typed (y .0) fs (y .1)) h)
 
   set-faults-first : (x : Fault) (xs : List Fault) → setFaults fs ≡ x ∷ xs → FirstBreach s (toldAt fs x)
   unfolding setFaults ruleFaults
   set-faults-first x xs e =
       go (head-append (startFaults fs) _ x xs
-      (sym (regroup (startFaults fs) (rulesFrom (profile fs) first 0 fs) (missingFaults (rowsOf (profile fs)) (labels fs)) (sumFaults fs)) ∙ e))
+      (sym (regroup (startFaults fs) (rulesFrom (profile fs) first 0 fs) (missingFaults (rowsOf (profile fs)) (labels fs) ++ highFaults fs) (sumFaults fs)) ∙ e))
     where
       go : ((ys : List Fault) × (startFaults fs ≡ x ∷ ys))
-          ⊎ ((startFaults fs ≡ []) × ((rulesFrom (profile fs) first 0 fs ++ missingFaults (rowsOf (profile fs)) (labels fs)) ++ sumFaults fs ≡ x ∷ xs))
+          ⊎ ((startFaults fs ≡ []) × ((rulesFrom (profile fs) first 0 fs ++ (missingFaults (rowsOf (profile fs)) (labels fs) ++ highFaults fs)) ++ sumFaults fs ≡ x ∷ xs))
           → FirstBreach s (toldAt fs x)
       go (inl p) = start-first x (p .0) (p .1)
       go (inr p) = started-first (p .0) x xs (p .1)
@@ -433,12 +485,13 @@ refused-first s r e = go (read s) refl e
 
 -- ---- an accepted set has no breach
 
-stage-most : (s : List ℕ) (b : Breach s) → rankOf b .stage < 6
+stage-most : (s : List ℕ) (b : Breach s) → rankOf b .stage < 7
 stage-most s (no-bytes e) = omega arith
 stage-most s (in-line fs rest l b) = omega (arith, stage-of (length fs) rest b)
 stage-most s (in-start fs rest l b) = omega (arith, start-stage fs b)
 stage-most s (in-rules t fs rest l k i b) = omega arith
 stage-most s (in-missing t fs rest l b) = omega (arith, missing-stage t fs b)
+stage-most s (in-high fs rest l h k i a b e) = omega arith
 stage-most s (in-sum fs rest l e) = omega arith
 
 keeps-lines : (s : List ℕ) (t : SetType) (fs : List Field) (rest : List ℕ) → Keeps s t fs rest → SetLines s fs rest
@@ -450,7 +503,7 @@ keeps-lines s t fs rest k = record { its-bytes = k .its-bytes; some-line = some 
 
 keeps-no-breach : (s : List ℕ) (t : SetType) (fs : List Field) (rest : List ℕ) → Keeps s t fs rest → Breach s → ⊥
 keeps-no-breach s t fs rest k b =
-    no-breach-but s fs rest (keeps-lines s t fs rest k) t (k .rules .starts) (k .rules .second-8100) (faults-none t fs (k .rules)) (k .rules) (rank 6 0 0 0)
+    no-breach-but s fs rest (keeps-lines s t fs rest k) t (k .rules .starts) (k .rules .second-8100) (faults-none t fs (k .rules)) (k .rules) (rank 7 0 0 0)
     (λ q z. q (k .sum-is-length)) b (inl (stage-most s b))
 
 pub accepted-no-breach : (s : List ℕ) (x : Shape) → judge s ≡ Accepted x → Breach s → ⊥

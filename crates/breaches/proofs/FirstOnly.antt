@@ -13,7 +13,7 @@ use Rattle.meaning.specs.declared.SetType.{SetType}
 use Rattle.meaning.specs.declared.Judged.{Judged}
 use Rattle.meaning.specs.declared.Judged.the-variants.{Accepted, Refused}
 use Rattle.meaning.specs.Field.{Field, labelAtLine}
-use Rattle.meaning.specs.Refusals.{refusal, empty, tooManyLines, noSum, missing, badSum}
+use Rattle.meaning.specs.Refusals.{refusal, empty, tooManyLines, noSum, missing, badSum, highByte}
 use Rattle.meaning.specs.Lines.{lineLead, size, offset, render, sizeAt, fieldAt}
 use Rattle.meaning.specs.Reading.{judge}
 use Rattle.meaning.proofs.Bools.{Every}
@@ -22,7 +22,7 @@ use Rattle.keeps.proofs.TableFacts.{ne-cases}
 use Rattle.breaches.specs.Breaches.{LineStarts, LineBreach, too-many, bad-length, cut-line, bad-end, bad-label, low-byte, lineRefusal, lineRank}
 use Rattle.breaches.specs.Breaches.{SetLines, StartBreach, no-start, unknown-set, no-sum, startRefusal, startRank, MissingBreach, of-set}
 use Rattle.breaches.specs.Breaches.{of-group, of-name, missingRefusal, missingRank, Breach, no-bytes, in-line, in-start, in-rules, in-missing}
-use Rattle.breaches.specs.Breaches.{in-sum, refusalOf, rankOf, Rank, Before, FirstBreach}
+use Rattle.breaches.specs.Breaches.{in-high, in-sum, refusalOf, rankOf, Rank, Before, FirstBreach}
 use Rattle.breaches.proofs.FirstLine.{sounds, stage-of, line-of}
 use Rattle.breaches.proofs.FirstBreach.{start-stage, missing-stage, one-list, refused-first, accepted-no-breach}
 
@@ -52,7 +52,8 @@ told (suc zero) fs l p i = refusal (lineNumber p) (size fs + lineByte p i) 0
 told (suc (suc zero)) fs l p i = refusal p (startPlace fs p) 0
 told (suc (suc (suc zero))) fs l p i = refusal p (offset fs l) (labelAtLine fs l)
 told (suc (suc (suc (suc zero)))) fs l p i = refusal missing (offset fs (pred l)) p
-told (suc (suc (suc (suc (suc n))))) fs l p i = refusal badSum (offset fs 1) 0
+told (suc (suc (suc (suc (suc zero))))) fs l p i = refusal highByte (offset fs l + (lineLead + i)) 0
+told (suc (suc (suc (suc (suc (suc n)))))) fs l p i = refusal badSum (offset fs 1) 0
 
 abbrev toldBy : List Field → Rank → Refusal
 toldBy fs r = told (r .stage) fs (r .line) (r .part) (r .byte)
@@ -63,6 +64,7 @@ linesOf (in-line fs rest l b) = fs
 linesOf (in-start fs rest l b) = fs
 linesOf (in-rules t fs rest l k i b) = fs
 linesOf (in-missing t fs rest l b) = fs
+linesOf (in-high fs rest l h k i a b e) = fs
 linesOf (in-sum fs rest l e) = fs
 
 line-told : (fs : List Field) (n : ℕ) (u : List ℕ) (b : LineBreach n u) → lineRefusal (size fs) b ≡ toldBy fs (lineRank b)
@@ -93,6 +95,7 @@ breach-told s (in-line fs rest l b) = line-told fs (length fs) rest b
 breach-told s (in-start fs rest l b) = start-told fs b
 breach-told s (in-rules t fs rest l k i b) = refl
 breach-told s (in-missing t fs rest l b) = missing-told t fs b
+breach-told s (in-high fs rest l h k i a b e) = refl
 breach-told s (in-sum fs rest l e) = refl
 
 -- ---- breaches of one rank are of the same lines
@@ -120,6 +123,7 @@ where-is s (in-line fs rest l b) = at-line rest l (stage-of (length fs) rest b) 
 where-is s (in-start fs rest l b) = in-lines rest l (omega (arith, start-stage fs b))
 where-is s (in-rules t fs rest l k i b) = in-lines rest (l .set-lines) (omega arith)
 where-is s (in-missing t fs rest l b) = in-lines rest (l .set-lines) (omega (arith, missing-stage t fs b))
+where-is s (in-high fs rest l h k i a b e) = in-lines rest l (omega arith)
 where-is s (in-sum fs rest l e) = in-lines rest l (omega arith)
 
 same-where : (s : List ℕ) (fs gs : List Field) (r : Rank) → Where s fs r → Where s gs r → fs ≡ gs

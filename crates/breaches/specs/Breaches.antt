@@ -12,13 +12,13 @@ use Rattle.meaning.specs.declared.Refusal.{Refusal}
 use Rattle.meaning.specs.Limits.{maxLines, typeNumber}
 use Rattle.meaning.specs.Digits.{digits, number, allDigits}
 use Rattle.meaning.specs.Field.{Field, labelAtLine, contentAtLine}
-use Rattle.meaning.specs.Lines.{lengthDigits, labelDigits, lineLead, cr, lf, minLineBytes, leastByte, size, offset, render, sizeAt, contentAt}
+use Rattle.meaning.specs.Lines.{lengthDigits, labelDigits, lineLead, cr, lf, minLineBytes, leastByte, mostSevenBits, size, offset, render, sizeAt, contentAt}
 use Rattle.meaning.specs.Tables.{single}
 use Rattle.meaning.specs.Kinds.{point}
 use Rattle.meaning.specs.FieldTable.{fitsLabel}
 use Rattle.meaning.specs.Refusals.{refusal, empty, badLength, cutLine, badEnd, badLabel, badByte, tooManyLines, noStart, unknownSet, noSum, notInSet}
-use Rattle.meaning.specs.Refusals.{stray, repeated, badContent, otherVersion, missing, badSum}
-use Rattle.keeps.specs.Keeps.{LinesWellFormed, StartsSet, EndsBefore, HasRow, AtSetLevel, Required, MemberOf, IsName, IsOdd, InGroup, GroupHas}
+use Rattle.meaning.specs.Refusals.{stray, repeated, badContent, otherVersion, missing, badSum, highByte}
+use Rattle.keeps.specs.Keeps.{LinesWellFormed, StartsSet, EndsBefore, HasRow, AtSetLevel, Required, MemberOf, IsName, IsOdd, InGroup, GroupHas, HasSevenBits}
 
 -- ---- 2 to 7: a line that starts after the lines fs
 
@@ -45,7 +45,7 @@ pub data LineBreach (n : ℕ) (rest : List ℕ) : Type 0 where
   -- "content byte under 20h"
   low-byte : (i : ℕ) → i < length (contentAt rest) → getD (contentAt rest) i 0 < leastByte → LineBreach n rest
 
--- ---- 8, 9, 10, 17: the lines of the set at the front
+-- ---- 8, 9, 10, 24, 17: the lines of the set at the front
 
 pub record SetLines (s : List ℕ) (fs : List Field) (rest : List ℕ) : Type 0 where
   pub its-bytes : s ≡ render fs rest
@@ -110,6 +110,9 @@ pub data Breach (s : List ℕ) : Type 0 where
   in-start : (fs : List Field) (rest : List ℕ) → SetLines s fs rest → StartBreach fs → Breach s
   in-rules : (t : SetType) (fs : List Field) (rest : List ℕ) → TypedLines s t fs rest → (k : ℕ) → k < length fs → RuleBreach t fs k → Breach s
   in-missing : (t : SetType) (fs : List Field) (rest : List ℕ) → TypedLines s t fs rest → MissingBreach t fs → Breach s
+  -- "If a set holds 9206 with content 1, no content byte anywhere in it may exceed 7Fh.": byte i of line k does
+  in-high : (fs : List Field) (rest : List ℕ) → SetLines s fs rest → HasSevenBits fs → (k i : ℕ) → k < length fs → i < length (contentAtLine fs k)
+      → mostSevenBits < getD (contentAtLine fs k) i 0 → Breach s
   -- "8100 is not the set's length"
   in-sum : (fs : List Field) (rest : List ℕ) → SetLines s fs rest → number (contentAtLine fs 1) ≢ size fs → Breach s
 
@@ -149,6 +152,7 @@ refusalOf (in-line fs rest l b) = lineRefusal (size fs) b
 refusalOf (in-start fs rest l b) = startRefusal b
 refusalOf (in-rules t fs rest l k i b) = refusal (ruleNumber b) (offset fs k) (labelAtLine fs k)
 refusalOf (in-missing t fs rest l b) = missingRefusal b
+refusalOf (in-high fs rest l h k i a b e) = refusal highByte (offset fs k + (lineLead + i)) 0
 refusalOf (in-sum fs rest l e) = refusal badSum (offset fs 1) 0
 
 -- ---- the order
@@ -190,17 +194,22 @@ missingRank (of-set l a r n) = rank 4 0 l 0
 missingRank (of-group h l b m r n) = rank 4 (suc h) l 0
 missingRank {fs = fs} (of-name k b i n) = rank 4 (suc k) (suc (labelAtLine fs k)) 0
 
+-- 24, "after Missing and before BadSum"; "place of the first such byte": the first line that has one, and its first one
+abbrev pub highRank : ℕ → ℕ → Rank
+highRank k i = rank 5 k 0 i
+
 -- "then 17": it comes last
 abbrev pub sumRank : Rank
-sumRank = rank 5 0 0 0
+sumRank = rank 6 0 0 0
 
--- "first 1; then all lines ..; then 8, 9, 10; then all lines, in order, each by 11, 12, 13, 14, 15; then 16 ..; then 17"
+-- "first 1; then all lines ..; then 8, 9, 10; then all lines, in order, each by 11, 12, 13, 14, 15; then 16 ..", then 24; "then 17"
 abbrev pub rankOf : {s : List ℕ} → Breach s → Rank
 rankOf (no-bytes e) = rank 0 0 0 0
 rankOf (in-line fs rest l b) = lineRank b
 rankOf (in-start fs rest l b) = startRank b
 rankOf (in-rules t fs rest l k i b) = rank 3 k (ruleNumber b) 0
 rankOf (in-missing t fs rest l b) = missingRank b
+rankOf (in-high fs rest l h k i a b e) = highRank k i
 rankOf (in-sum fs rest l e) = sumRank
 
 -- "So the first fault in this order is the answer": r is the refusal of a breach that no other comes before

@@ -1,120 +1,17 @@
--- The walk of specs/ step by step: one law for each way that the code takes. Then what it means: `low-is`.
-use mathlib.Core.Path.{_≡_, refl, ap, _∙_, subst}
-use mathlib.Core.Bool.{Bool, true, false, cond}
-use mathlib.Core.List.{List, [], _∷_, _++_}
-use Prim.Native.Nat.{ℕ, zero, suc, _+_, _-_, _≤_, _<_}
-use native.Mathlib.Omega.{arith}
-use native.Mathlib.Nat.{add-zero, zero-add}
+-- What the search for a byte under 20h means: the first fault of these bytes. What it does step by step is in SeekLaws.
+use mathlib.Core.Path.{_≡_, refl}
+use mathlib.Core.Bool.{cond}
+use mathlib.Core.List.{List, [], _∷_}
+use Prim.Native.Nat.{ℕ, _+_, _≤_}
 use lib.Dec.{leb}
-use lib.ListN.{length, getD, take, drop}
-use borrow.Author.Tests.{le-leb, lt-leb}
-use Rattle.meaning.specs.Refusals.{Fault, atByte, ask, badByte}
+use lib.ListN.{length, take, drop}
+use Rattle.meaning.specs.Refusals.{Fault, atByte, badByte}
 use Rattle.meaning.specs.Lines.{leastByte, lowBytes}
-use Rattle.meaning.proofs.Bools.{byte-then}
-use Rattle.meaning.proofs.LeftLaws.{one-more, none-left}
 use Rattle.byte_low.specs.Low.{firstLow}
+use Rattle.byte_low.proofs.SeekLaws.{seek-is}
 
--- ---- the first byte under 20h, one byte more; no byte left
-
-module _ (s : List ℕ) (i e : ℕ) (h : i < e) where
-  pub low-here : getD s i 0 < leastByte → firstLow s i (e - i) ≡ i
-  unfolding firstLow
-  low-here b = rw (one-more h, lt-leb leastByte (getD s i 0) b)
-
-  pub low-further : leastByte ≤ getD s i 0 → firstLow s i (e - i) ≡ firstLow s (i + 1) (e - (i + 1))
-  unfolding firstLow
-  low-further b = rw (one-more h, le-leb leastByte (getD s i 0) b)
-
-pub low-end : (s : List ℕ) (i e : ℕ) → e ≤ i → firstLow s i (e - i) ≡ i
-unfolding firstLow
-low-end s i e h = rw (none-left h)
-
-module _ (s : List ℕ) where
-  pub low-done : (at i k : ℕ) → k ≤ i → firstLow s at (k - i) ≡ at
-  unfolding firstLow
-  low-done at i k h = rw (none-left h)
-
-  -- one byte more, counted from an offset on
-  pub low-step : (at i k : ℕ) → i < k → leastByte ≤ getD s (at + i) 0 → firstLow s (at + i) (k - i) ≡ firstLow s (at + (i + 1)) (k - (i + 1))
-  unfolding firstLow
-  low-step at i k h b =
-      let q : at + i + 1 ≡ at + (i + 1) = omega arith in
-      rw (one-more h, le-leb leastByte (getD s (at + i) 0) b, q)
-
-  -- a search that passes over some bytes passes over the first of them, and goes on with the others
-  low-first : (k at : ℕ) → firstLow s at (suc k) ≡ at + suc k → leb leastByte (getD s at 0) ≡ true
-  unfolding firstLow
-  low-first k at e = go (leb leastByte (getD s at 0)) e
-    where
-      go : (b : Bool) → cond b (firstLow s (at + 1) k) at ≡ at + suc k → b ≡ true
-      go true e = refl
-      go false e = absurd (omega arith)
-
-  low-others : (k at : ℕ) → firstLow s at (suc k) ≡ at + suc k → firstLow s (at + 1) k ≡ at + 1 + k
-  unfolding firstLow
-  low-others k at e =
-      let n : at + suc k ≡ at + 1 + k = omega arith in
-      (rw (low-first k at e) at e) ∙ n
-
-  -- it goes on after j bytes that it passes over
-  low-after : (j k at : ℕ) → firstLow s at j ≡ at + j → firstLow s at (j + k) ≡ firstLow s (at + j) k
-  unfolding firstLow
-  low-after zero k at e = rw (zero-add k, add-zero at)
-  low-after (suc j) k at e =
-      let n : suc j + k ≡ suc (j + k) = omega arith in
-      let m : at + suc j ≡ at + 1 + j = omega arith in
-      rw (n, m, low-first j at e) (low-after j k (at + 1) (low-others j at e))
-
-  -- it passes over the last of some bytes if it passes over all
-  low-last : (j k at : ℕ) → firstLow s at (j + k) ≡ at + (j + k) → firstLow s (at + j) k ≡ at + (j + k)
-  low-last zero k at e = rw (add-zero at, zero-add k) (rw (zero-add k) at e)
-  low-last (suc j) k at e =
-      let n : suc j + k ≡ suc (j + k) = omega arith in
-      let m : at + suc j ≡ at + 1 + j = omega arith in
-      let z : at + suc (j + k) ≡ at + 1 + (j + k) = omega arith in
-      rw (n, m, z) (low-last j k (at + 1) (low-others (j + k) at (rw n at e)))
-
-  -- a block that it passes over: it goes on after the block
-  pub low-on : (b i e : ℕ) → i + b ≤ e → firstLow s i b ≡ i + b → firstLow s i (e - i) ≡ firstLow s (i + b) (e - (i + b))
-  low-on b i e h q =
-      let n : e - i ≡ b + (e - (i + b)) = omega arith in
-      rw n (low-after b (e - (i + b)) i q)
-
-  -- the last block, which it passes over: it passes over the bytes in it
-  pub low-tail : (b i e : ℕ) → b ≤ e → e ≤ i + b → i ≤ e → firstLow s (e - b) b ≡ e - b + b → firstLow s i (e - i) ≡ e
-  low-tail b i e h g l q =
-      let j : ℕ = i + b - e in
-      let n : b ≡ j + (e - i) = omega arith in
-      let a : i ≡ e - b + j = omega arith in
-      let z : e - b + (j + (e - i)) ≡ e = omega arith in
-      ap (λ (x : ℕ). firstLow s x (e - i)) a ∙ low-last j (e - i) (e - b) (subst (λ (x : ℕ). firstLow s (e - b) x ≡ e - b + x) n q) ∙ z
-
-  -- two blocks, one at each end, that it passes over and that leave nothing between them: it passes over all
-  pub low-ends : (b i k : ℕ) → b ≤ k → k ≤ b + b → firstLow s i b ≡ i + b → firstLow s (i + k - b) b ≡ i + k - b + b → firstLow s i k ≡ i + k
-  low-ends b i k h g p q =
-      let n : k ≡ i + k - i = omega arith in
-      ap (firstLow s i) n ∙ (low-on b i (i + k) (omega arith) p ∙ low-tail b (i + b) (i + k) (omega arith) (omega arith) (omega arith) q)
-
--- ---- what it means
-
--- The walk finds the first fault of the bytes under 20h: what is made of the faults, if the first alone counts there (`by`), is made of the walk's offset (`low`).
--- The content stands at offset p; the walk goes over k bytes of it, from offset a on, after i bytes of the content.
+-- what is made of the faults, if the first alone counts there (`by`), is made of the offset of the first byte under 20h (`low`); the content stands at offset p
 module _ {A : Type 0} (by : List Fault → A) (low : ℕ → A) (line p : ℕ) (first : (i : ℕ) (xs : List Fault) → by (atByte badByte line i ∷ xs) ≡ low (p + i)) where
   pub low-is : (s : List ℕ) (k a i : ℕ) → a ≡ p + i → a + k ≤ length s
       → cond (leb (a + k) (firstLow s a k)) (by []) (low (firstLow s a k)) ≡ by (lowBytes line i (take k (drop a s)))
-  unfolding firstLow
-  low-is s zero a i e h = rw (add-zero a, le-leb a a (omega arith))
-  low-is s (suc k) a i e h =
-      let q : a + suc k ≡ (a + 1) + k = omega arith in
-      rw (byte-then s a (omega arith), q) (go (leb leastByte (getD s a 0)) (low-is s k (a + 1) (suc i) (omega arith) (omega arith)))
-    where
-      next : ℕ
-      next = firstLow s (a + 1) k
-
-      rest : List Fault
-      rest = lowBytes line (suc i) (take k (drop (a + 1) s))
-
-      go : (b : Bool) → cond (leb ((a + 1) + k) next) (by []) (low next) ≡ by rest
-          → cond (leb ((a + 1) + k) (cond b next a)) (by []) (low (cond b next a)) ≡ by (ask b (atByte badByte line i) ++ rest)
-      go true ih = ih
-      go false ih = rw (lt-leb ((a + 1) + k) a (omega arith), first i rest, e)
+  low-is = seek-is (leb leastByte) by low badByte line p (λ i bs. lowBytes line i bs) (λ i. refl) (λ i b bs. refl) first

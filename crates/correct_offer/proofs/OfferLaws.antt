@@ -1,36 +1,39 @@
 -- What the walks of specs/ mean for an accepted set: where a line stands, and which fault speaks first against a new content for it.
 use mathlib.Core.Path.{_≡_, refl, sym, ap, _∙_, subst}
 use mathlib.Core.Bool.{Bool, true, false, cond, not, _&&_}
-use mathlib.Core.List.{List, [], _∷_, _++_, cons≢nil}
+use mathlib.Core.List.{List, [], _∷_, _++_, cons≢nil, append-assoc}
 use Prim.Native.Nat.{ℕ, zero, suc, pred, _+_, _-_, _≤_, _<_}
 use native.Mathlib.Omega.{arith}
 use native.Mathlib.Nat.{add-zero, zero-add}
-use borrow.Author.Tests.{le-leb, ne-eqb, leb-true, leb-false}
+use borrow.Author.Tests.{le-leb, ne-eqb, eqb-true, leb-true, leb-false}
 use lib.Dec.{leb, eqb}
 use lib.ListN.{length, take, drop, getD}
 use lib.Seq.{drop-drop, take-all}
-use Rattle.meaning.specs.declared.Shape.{Shape}
 use Rattle.meaning.specs.Field.{Field, noField, labelAtLine, contentAtLine}
-use Rattle.meaning.specs.Refusals.{Spot, Fault, atLine, atByte, ask, refused, done, refusal, verdict, badByte, badContent, noSuchLine, fixedLine}
+use Rattle.meaning.specs.Refusals.{Spot, Fault, atLine, atByte, tellsByte, ask, refused, done, refusal, verdict, badByte, badContent, noSuchLine, fixedLine, highByte}
 use Rattle.meaning.specs.Pieces.{Parsed}
-use Rattle.meaning.specs.Lines.{lineLead, lineEnd, lineSize, lineThen, lowBytes, minLineBytes, offset, render, size}
+use Rattle.meaning.specs.Lines.{lineLead, lineEnd, lineSize, lineThen, lowBytes, highBytes, minLineBytes, offset, render, size}
 use Rattle.meaning.specs.FieldTable.{fitsLabel}
 use Rattle.meaning.specs.Rules.{fits}
-use Rattle.meaning.specs.Reading.{shape, read}
-use Rattle.meaning.specs.Corrections.{fixed, changeFaults}
+use Rattle.meaning.specs.Reading.{read}
+use Rattle.meaning.specs.Corrections.{fixed, lineNumberFaults, sevenBitFaults, changeFaults}
 use Rattle.meaning.proofs.Bools.{and-left, and-right, Every, every-at}
+use Rattle.meaning.proofs.FaultLaws.{one-back}
 use Rattle.meaning.proofs.LineLaws.{Sound, length-render}
 use Rattle.meaning.proofs.PlaceLaws.{drop-lineThen, content-at}
 use Rattle.meaning.proofs.SetLaws.{accepted}
 use Rattle.meaning.proofs.CorrectionLaws.{Change, change}
 use Rattle.byte_low.specs.Low.{firstLow}
 use Rattle.byte_low.proofs.LowLaws.{low-is}
+use Rattle.byte_high.specs.High.{firstHigh}
 use Rattle.line_read.specs.Told.{toldLength, toldLabel}
 use Rattle.line_read.proofs.LineMeaning.{read-line}
 use Rattle.line_read.proofs.ToldLaws.{read-told}
 use Rattle.correct_offer.specs.declared.OneLine.{OneLine}
+use Rattle.correct_offer.specs.declared.Terms.{Terms}
 use Rattle.correct_offer.specs.declared.Offer.{Offer}
-use Rattle.correct_offer.specs.Offered.{oneLine, lineFrom, lineAfter, against, afterAll, offeredTo, offered, offerLine, offerSpot, offerFaults}
+use Rattle.correct_offer.specs.Offered.{oneLine, lineFrom, lineAfter, against, afterAll, offeredTo, offeredAt, offeredHigh, offered, offerLine, offerSpot, offerFaults}
+use Rattle.correct_offer.proofs.TermsLaws.{highs-first, Serves, terms-ask}
 
 -- ---- where a line stands
 
@@ -104,7 +107,7 @@ to-is : (x : OneLine) (c : List ℕ) (lines n : ℕ)
     → take 1 (ask (not (fixed (x .label))) (atLine fixedLine (pred n) (x .label))
     ++ (lowBytes (pred n) 0 c ++ ask (fitsLabel (x .label) c) (atLine badContent (pred n) (x .label))))
     ≡ offerFaults (offeredTo x c) lines n
-unfolding offerFaults offeredTo
+unfolding offerFaults offeredTo tellsByte
 to-is x c lines n = go (fixed (x .label))
   where
     k : ℕ
@@ -133,11 +136,18 @@ to-is x c lines n = go (fixed (x .label))
     go true = refl
     go false = rest (fitsLabel (x .label) c) ∙ judged (leb (length c) low) (fitsLabel (x .label) c)
 
--- What an offer answers is the first fault of a change to that line.
-pub offer-is : (s : List ℕ) (d : Parsed) (n : ℕ) (c : List ℕ) → read s ≡ done d
-    → take 1 (changeFaults (d .fields) n c) ≡ offerFaults (offered s (shape (d .fields)) n c) (length (d .fields)) n
-unfolding changeFaults offered offerFaults fits
-offer-is s d n c e = go (leb 1 n && leb n (length fs)) refl
+-- 19, 20, 6, 14: what is wrong with a content, but for 24
+abbrev beforeHigh : List Field → ℕ → List ℕ → List Fault
+beforeHigh fs n c =
+    lineNumberFaults fs n
+    ++ (ask (not (fixed (labelAtLine fs (pred n)))) (atLine fixedLine (pred n) (labelAtLine fs (pred n)))
+    ++ (lowBytes (pred n) 0 c
+    ++ ask (fitsLabel (labelAtLine fs (pred n)) c) (atLine badContent (pred n) (labelAtLine fs (pred n)))))
+
+at-is : (s : List ℕ) (d : Parsed) (n : ℕ) (c : List ℕ) → read s ≡ done d
+    → take 1 (beforeHigh (d .fields) n c) ≡ offerFaults (offeredAt s (size (d .fields)) (length (d .fields)) n c) (length (d .fields)) n
+unfolding offeredAt offerFaults tellsByte
+at-is s d n c e = go (leb 1 n && leb n (length fs)) refl
   where
     fs : List Field
     fs = d .fields
@@ -155,20 +165,66 @@ offer-is s d n c e = go (leb 1 n && leb n (length fs)) refl
         rw (line-after-is s d (pred n) e (omega arith)) (to-is (oneLine (labelAtLine fs (pred n)) (offset fs (pred n)) (lineSize (getD fs (pred n) noField))) c (length fs) n)
     go false q = refl
 
+-- 24 is asked after them
+change-is : (fs : List Field) (n : ℕ) (c : List ℕ) → changeFaults fs n c ≡ beforeHigh fs n c ++ sevenBitFaults fs (pred n) c
+unfolding changeFaults fits
+change-is fs n c =
+    let k : ℕ = pred n in
+    let l : ℕ = labelAtLine fs k in
+    four (lineNumberFaults fs n) (ask (not (fixed l)) (atLine fixedLine k l)) (lowBytes k 0 c) (ask (fitsLabel l c) (atLine badContent k l)) (sevenBitFaults fs k c)
+  where
+    four : (x y z u v : List Fault) → x ++ (y ++ (z ++ (u ++ v))) ≡ (x ++ (y ++ (z ++ u))) ++ v
+    four x y z u v = rw (append-assoc x (y ++ (z ++ u)) v, append-assoc y (z ++ u) v, append-assoc z u v)
+
+-- what was found before it stands; else the first byte over 7Fh
+then-high : (o : Offer) (xs : List Fault) (c : List ℕ) (seven : Bool) (lines n : ℕ) → take 1 xs ≡ offerFaults o lines n
+    → take 1 (xs ++ cond seven (highBytes (pred n) 0 c) []) ≡ offerFaults (offeredHigh o c seven) lines n
+unfolding offerFaults offeredHigh tellsByte
+then-high o xs c seven lines n = go (eqb (o .no) 0) refl xs
+  where
+    high : ℕ
+    high = firstHigh c 0 (length c)
+
+    told : Offer
+    told = against highByte high 0 (oneLine 0 (o .at) (o .size))
+
+    asked : (a b : Bool) → eqb (o .no) 0 ≡ true → take 1 (highBytes (pred n) 0 c) ≡ cond b [] (atByte highByte (pred n) high ∷ [])
+        → take 1 (cond a (highBytes (pred n) 0 c) []) ≡ offerFaults (cond a (cond b o told) o) lines n
+    asked false b z e = rw z
+    asked true true z e = rw z e
+    asked true false z e = e
+
+    go : (b : Bool) → eqb (o .no) 0 ≡ b → (ys : List Fault)
+        → take 1 ys ≡ cond b [] (record { no = o .no; line = offerLine o lines n; spot = offerSpot o; label = o .label } ∷ [])
+        → take 1 (ys ++ cond seven (highBytes (pred n) 0 c) []) ≡ offerFaults (cond b (cond seven (cond (leb (length c) high) o told) o) o) lines n
+    go true z [] e = asked seven (leb (length c) high) z (highs-first (pred n) c)
+    go true z (y ∷ ys) e = absurd (cons≢nil e)
+    go false z [] e = absurd (cons≢nil (sym e))
+    go false z (y ∷ ys) e = rw z e
+
+-- What an offer answers is the first fault of a change to that line, if its terms serve.
+pub offer-is : (s : List ℕ) (d : Parsed) (t : Terms) (n : ℕ) (c : List ℕ) → read s ≡ done d → Serves (d .fields) t c
+    → take 1 (changeFaults (d .fields) n c) ≡ offerFaults (offered s t n c) (length (d .fields)) n
+unfolding offered
+offer-is s d t n c e v =
+    let fs : List Field = d .fields in
+    rw (change-is fs n c, terms-ask fs t c (pred n) v, v .length-so, v .lines-so)
+    (then-high (offeredAt s (size fs) (length fs) n c) (beforeHigh fs n c) c (t .seven) (length fs) n (at-is s d n c e))
+
 first-verdict : {A : Type 0} (pl : ℕ → Spot → ℕ) (xs : List Fault) (a : A) → verdict pl xs a ≡ verdict pl (take 1 xs) a
 first-verdict pl [] a = refl
 first-verdict pl (x ∷ xs) a = refl
 
 -- so the reply of any places is that of the offer
-pub offer-verdict : {A : Type 0} (s : List ℕ) (d : Parsed) (n : ℕ) (c : List ℕ) → read s ≡ done d → (pl : ℕ → Spot → ℕ) (a : A)
-    → let o = offered s (shape (d .fields)) n c in
+pub offer-verdict : {A : Type 0} (s : List ℕ) (d : Parsed) (t : Terms) (n : ℕ) (c : List ℕ) → read s ≡ done d → Serves (d .fields) t c → (pl : ℕ → Spot → ℕ) (a : A)
+    → let o = offered s t n c in
     verdict pl (changeFaults (d .fields) n c) a
     ≡ cond (eqb (o .no) 0) (done a) (refused (refusal (o .no) (pl (offerLine o (length (d .fields)) n) (offerSpot o)) (o .label)))
 unfolding offerFaults
-offer-verdict {A} s d n c e pl a = first-verdict pl (changeFaults (d .fields) n c) a ∙ (ap (λ (xs : List Fault). verdict pl xs a) (offer-is s d n c e) ∙ go (eqb (o .no) 0))
+offer-verdict {A} s d t n c e v pl a = first-verdict pl (changeFaults (d .fields) n c) a ∙ (ap (λ (xs : List Fault). verdict pl xs a) (offer-is s d t n c e v) ∙ go (eqb (o .no) 0))
   where
     o : Offer
-    o = offered s (shape (d .fields)) n c
+    o = offered s t n c
 
     x : Fault
     x = record { no = o .no; line = offerLine o (length (d .fields)) n; spot = offerSpot o; label = o .label }
@@ -178,10 +234,6 @@ offer-verdict {A} s d n c e pl a = first-verdict pl (changeFaults (d .fields) n 
     go false = refl
 
 -- ---- an offer that nothing speaks against
-
-first-none : (xs : List Fault) → take 1 xs ≡ [] → xs ≡ []
-first-none [] e = refl
-first-none (x ∷ xs) e = absurd (cons≢nil e)
 
 -- whatever speaks against a content, the line is the same, and it is not 19
 record SameLine (x : OneLine) (o : Offer) : Type 0 where
@@ -201,18 +253,34 @@ to-same x c = go (fixed (x .label)) (leb (length c) (firstLow c 0 (length c))) (
     go false true true = record { same-at = refl; same-size = refl; there = refl }
     go false true false = record { same-at = refl; same-size = refl; there = refl }
 
+-- 24 too speaks of the line that was found
+high-same : (o : Offer) (c : List ℕ) (seven : Bool) (lines n : ℕ) → let p = offeredHigh o c seven in
+    (p .at ≡ o .at) × (p .size ≡ o .size) × (offerLine p lines n ≡ offerLine o lines n)
+unfolding offeredHigh
+high-same o c seven lines n = go (eqb (o .no) 0) seven (leb (length c) high) (λ z. eqb-true (o .no) 0 z)
+  where
+    high : ℕ
+    high = firstHigh c 0 (length c)
+
+    go : (a s b : Bool) → (a ≡ true → o .no ≡ 0) → let p = cond a (cond s (cond b o (against highByte high 0 (oneLine 0 (o .at) (o .size)))) o) o in
+        (p .at ≡ o .at) × (p .size ≡ o .size) × (offerLine p lines n ≡ offerLine o lines n)
+    go false s b z = (refl, refl, refl)
+    go true false b z = (refl, refl, refl)
+    go true true true z = (refl, refl, refl)
+    go true true false z = (refl, refl, rw (z refl))
+
 no-faults : (o : Offer) (lines n : ℕ) → o .no ≡ 0 → offerFaults o lines n ≡ []
 unfolding offerFaults
 no-faults o lines n e = rw e
 
-to-line : (s : List ℕ) (x : Shape) (n : ℕ) (c : List ℕ) → 1 ≤ n → n ≤ x .lines → offered s x n c ≡ offeredTo (lineAfter s (pred n)) c
-unfolding offered
-to-line s x n c lo hi = rw (le-leb 1 n lo, le-leb n (x .lines) hi)
+to-line : (s : List ℕ) (bytes lines n : ℕ) (c : List ℕ) → 1 ≤ n → n ≤ lines → offeredAt s bytes lines n c ≡ offeredTo (lineAfter s (pred n)) c
+unfolding offeredAt
+to-line s bytes lines n c lo hi = rw (le-leb 1 n lo, le-leb n lines hi)
 
 -- the byte of an offer stands in the content
-pub offer-byte : (s : List ℕ) (x : Shape) (n : ℕ) (c : List ℕ) → offered s x n c .byte ≤ length c
-unfolding offered offeredTo
-offer-byte s x n c = go (leb 1 n && leb n (x .lines)) (fixed (y .label)) (leb (length c) low) refl (fitsLabel (y .label) c)
+at-byte : (s : List ℕ) (bytes lines n : ℕ) (c : List ℕ) → offeredAt s bytes lines n c .byte ≤ length c
+unfolding offeredAt offeredTo
+at-byte s bytes lines n c = go (leb 1 n && leb n lines) (fixed (y .label)) (leb (length c) low) refl (fitsLabel (y .label) c)
   where
     y : OneLine
     y = lineAfter s (pred n)
@@ -222,29 +290,53 @@ offer-byte s x n c = go (leb 1 n && leb n (x .lines)) (fixed (y .label)) (leb (l
 
     go : (t a b : Bool) → leb (length c) low ≡ b → (f : Bool)
         → cond t (cond a (against fixedLine 0 (y .label) y) (cond b (cond f (against 0 0 0 y) (against badContent 0 (y .label) y)) (against badByte low 0 y)))
-        (against noSuchLine 0 0 (afterAll (x .length))) .byte ≤ length c
+        (against noSuchLine 0 0 (afterAll bytes)) .byte ≤ length c
     go false a b e f = omega arith
     go true true b e f = omega arith
     go true false true e true = omega arith
     go true false true e false = omega arith
     go true false false e f = omega (arith, leb-false (length c) low e)
 
+pub offer-byte : (s : List ℕ) (t : Terms) (n : ℕ) (c : List ℕ) → offered s t n c .byte ≤ length c
+unfolding offered offeredHigh
+offer-byte s t n c = go (eqb (o .no) 0) (t .seven) (leb (length c) high) refl
+  where
+    o : Offer
+    o = offeredAt s (t .length) (t .lines) n c
+
+    high : ℕ
+    high = firstHigh c 0 (length c)
+
+    found : o .byte ≤ length c
+    found = at-byte s (t .length) (t .lines) n c
+
+    go : (a s b : Bool) → leb (length c) high ≡ b → cond a (cond s (cond b o (against highByte high 0 (oneLine 0 (o .at) (o .size)))) o) o .byte ≤ length c
+    go false s b e = found
+    go true false b e = found
+    go true true true e = found
+    go true true false e = omega (arith, leb-false (length c) high e)
+
 -- if nothing speaks against the content, the change is right, and the offer has the place and the size of the line
-pub offer-good : (s : List ℕ) (d : Parsed) (n : ℕ) (c : List ℕ) → read s ≡ done d → let o = offered s (shape (d .fields)) n c in
+pub offer-good : (s : List ℕ) (d : Parsed) (t : Terms) (n : ℕ) (c : List ℕ) → read s ≡ done d → Serves (d .fields) t c → let o = offered s t n c in
     o .no ≡ 0 → Change (d .fields) n c × Stands s (d .fields) (pred n) (labelAtLine (d .fields) (pred n)) (o .at) (o .size)
-offer-good s d n c e q =
+unfolding offered
+offer-good s d t n c e v q =
     let fs : List Field = d .fields in
     let x : OneLine = lineAfter s (pred n) in
-    let ch : Change fs n c = change fs n c (first-none (changeFaults fs n c) (offer-is s d n c e ∙ no-faults (offered s (shape fs) n c) (length fs) n q)) in
+    let ch : Change fs n c = change fs n c (one-back (changeFaults fs n c) (offer-is s d t n c e v ∙ no-faults (offered s t n c) (length fs) n q)) in
     let st = line-stands s d (pred n) e (omega (arith, ch .least, ch .most)) in
-    let same = to-same x c in
-    (ch, rw (to-line s (shape fs) n c (ch .least) (ch .most), same .same-at, same .same-size) (subst (λ (l : ℕ). Stands s fs (pred n) l (x .at) (x .size)) (st .label-so) st))
+    let kept = high-same (offeredAt s (t .length) (t .lines) n c) c (t .seven) (length fs) n in
+    let same = to-same x c in (
+      ch,
+      rw (kept .0, kept .1, to-line s (t .length) (t .lines) n c (ch .least) (omega (arith, ch .most, v .lines-so)), same .same-at, same .same-size)
+          (subst (λ (l : ℕ). Stands s fs (pred n) l (x .at) (x .size)) (st .label-so) st),
+    )
 
 -- for 19 the place is the set's length, else where the line stands
-pub offer-at : (s : List ℕ) (d : Parsed) (n : ℕ) (c : List ℕ) → read s ≡ done d → let o = offered s (shape (d .fields)) n c in
+at-place : (s : List ℕ) (d : Parsed) (n : ℕ) (c : List ℕ) → read s ≡ done d → let o = offeredAt s (size (d .fields)) (length (d .fields)) n c in
     o .at ≡ offset (d .fields) (offerLine o (length (d .fields)) n)
-unfolding offered
-offer-at s d n c e = go (leb 1 n && leb n (length fs)) refl
+unfolding offeredAt
+at-place s d n c e = go (leb 1 n && leb n (length fs)) refl
   where
     fs : List Field
     fs = d .fields
@@ -260,3 +352,11 @@ offer-at s d n c e = go (leb 1 n && leb n (length fs)) refl
         let same = to-same x c in
         rw (same .same-at, same .there) (line-stands s d (pred n) e (omega arith) .at-so)
     go false q = ap size (sym (take-all (length fs) fs (omega arith)))
+
+pub offer-at : (s : List ℕ) (d : Parsed) (t : Terms) (n : ℕ) (c : List ℕ) → read s ≡ done d → Serves (d .fields) t c → let o = offered s t n c in
+    o .at ≡ offset (d .fields) (offerLine o (length (d .fields)) n)
+unfolding offered
+offer-at s d t n c e v =
+    let fs : List Field = d .fields in
+    let kept = high-same (offeredAt s (size fs) (length fs) n c) c (t .seven) (length fs) n in
+    rw (v .length-so, v .lines-so, kept .0, kept .2) (at-place s d n c e)

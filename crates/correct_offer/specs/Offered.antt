@@ -1,18 +1,21 @@
--- The walks of `line_after` and `judge_offer`: the lines of a set by offsets, and the tests 19, 20, 6, 14 in the code's order.
--- What they mean for an accepted set is `line-stands` and `offer-is` in proofs/OfferLaws.
-use mathlib.Core.Bool.{cond, _&&_}
+-- The walks of `line_after`, `terms_of`, `judge_offer` and `judge_change`: the lines of a set by offsets, whether seven bits have to be asked for, and the tests 19, 20, 6, 14, 24
+-- in the code's order. What they mean for an accepted set is `line-stands` and `offer-is` in proofs/OfferLaws, and `content-served` and `part-served` in proofs/TermsLaws.
+use mathlib.Core.Bool.{Bool, cond, not, _&&_}
 use mathlib.Core.List.{List, [], _∷_}
 use Prim.Native.Nat.{ℕ, zero, suc, pred, _+_}
 use lib.ListN.{length}
 use lib.Dec.{leb, eqb}
 use Rattle.meaning.specs.declared.Shape.{Shape}
-use Rattle.meaning.specs.Refusals.{Spot, start, byte, Fault, badByte, badContent, noSuchLine, fixedLine}
+use Rattle.meaning.specs.Refusals.{Spot, start, byte, Fault, tellsByte, badByte, badContent, noSuchLine, fixedLine, highByte}
 use Rattle.meaning.specs.Lines.{lineLead, lineEnd}
 use Rattle.meaning.specs.FieldTable.{fitsLabel}
 use Rattle.meaning.specs.Corrections.{fixed}
 use Rattle.byte_low.specs.Low.{firstLow}
+use Rattle.byte_high.specs.High.{firstHigh}
 use Rattle.line_read.specs.Told.{toldLength, toldLabel}
+use Rattle.line_seven.specs.Seven.{highFor}
 use Rattle.correct_offer.specs.declared.OneLine.{OneLine}
+use Rattle.correct_offer.specs.declared.Terms.{Terms}
 use Rattle.correct_offer.specs.declared.Offer.{Offer}
 
 -- ---- one line
@@ -32,6 +35,16 @@ lineFrom s at (suc k) = let n = toldLength s at in cond (eqb n 0) noLine (lineFr
 unfoldable pub lineAfter : List ℕ → ℕ → OneLine
 lineAfter s k = lineFrom s 0 k
 
+-- ---- the terms
+
+-- seven bits have to be asked for: a byte of b is over 7Fh, and the set s holds 9206 with content 1
+unfoldable pub asksSeven : List ℕ → List ℕ → Bool
+asksSeven s b = not (leb (length b) (highFor s b))
+
+-- the terms of the set s of this shape, for new contents that lie in b
+abbrev pub termsOf : List ℕ → Shape → List ℕ → Terms
+termsOf s x b = record { length = x .length; lines = x .lines; seven = asksSeven s b }
+
 -- ---- what speaks against a content
 
 abbrev pub against : ℕ → ℕ → ℕ → OneLine → Offer
@@ -48,9 +61,19 @@ offeredTo x c =
     cond (fixed (x .label)) (against fixedLine 0 (x .label) x)
     (cond (leb (length c) low) (cond (fitsLabel (x .label) c) (against 0 0 0 x) (against badContent 0 (x .label) x)) (against badByte low 0 x))
 
--- a content for line number n of a set of this shape: 19 first
-unfoldable pub offered : List ℕ → Shape → ℕ → List ℕ → Offer
-offered s x n c = cond (leb 1 n && leb n (x .lines)) (offeredTo (lineAfter s (pred n)) c) (against noSuchLine 0 0 (afterAll (x .length)))
+-- a content for line number n of a set of this many bytes and lines: 19 first
+unfoldable pub offeredAt : List ℕ → ℕ → ℕ → ℕ → List ℕ → Offer
+offeredAt s bytes lines n c = cond (leb 1 n && leb n lines) (offeredTo (lineAfter s (pred n)) c) (against noSuchLine 0 0 (afterAll bytes))
+
+-- 24, if nothing else speaks against the content and seven bits have to be asked for
+unfoldable pub offeredHigh : Offer → List ℕ → Bool → Offer
+offeredHigh o c seven =
+    let high = firstHigh c 0 (length c) in
+    cond (eqb (o .no) 0) (cond seven (cond (leb (length c) high) o (against highByte high 0 (oneLine 0 (o .at) (o .size)))) o) o
+
+-- a content for line number n of a set with these terms
+unfoldable pub offered : List ℕ → Terms → ℕ → List ℕ → Offer
+offered s t n c = offeredHigh (offeredAt s (t .length) (t .lines) n c) c (t .seven)
 
 -- ---- the fault that an offer stands for
 
@@ -58,9 +81,9 @@ offered s x n c = cond (leb 1 n && leb n (x .lines)) (offeredTo (lineAfter s (pr
 abbrev pub offerLine : Offer → ℕ → ℕ → ℕ
 offerLine o lines n = cond (eqb (o .no) noSuchLine) lines (pred n)
 
--- where in that line: for 6 the byte of its content
+-- where in that line: for 6 and 24 the byte of its content
 abbrev pub offerSpot : Offer → Spot
-offerSpot o = cond (eqb (o .no) badByte) (byte (o .byte)) start
+offerSpot o = cond (tellsByte (o .no)) (byte (o .byte)) start
 
 -- the fault of an offer for line number n of a set of this many lines, or none
 unfoldable pub offerFaults : Offer → ℕ → ℕ → List Fault

@@ -13,6 +13,7 @@ use Rattle.meaning.specs.declared.Made.the-variants.{Done, Refused}
 use Rattle.meaning.specs.Refusals.{refusal, noRoom}
 use Rattle.meaning.specs.Lines.{leastByte}
 use Rattle.meaning.proofs.Bools.{and-left, and-right, none-of-length, byte-then}
+use Rattle.byte_low.specs.Seek.{firstNot}
 use Rattle.byte_low.specs.Low.{firstLow}
 use Rattle.byte_put.specs.Places.{over}
 use Rattle.byte_put.proofs.OverLaws.{Turned, here-fits, turned, over-none}
@@ -166,14 +167,14 @@ module _ (f c ns : List ℕ) (at : ℕ) where
 
 -- none from an offset on, or one
 low-none : (c : List ℕ) (at k : ℕ) → at + k ≡ length c → noLow (drop at c) ≡ true → firstLow c at k ≡ at + k
-unfolding firstLow
+unfolding firstNot
 low-none c at zero e h = omega arith
 low-none c at (suc k) e h =
     let p : leb leastByte (getD c at 0) && noLow (drop (at + 1) c) ≡ true = rw (byte-then c at (omega arith)) at h in
     rw (and-left (leb leastByte (getD c at 0)) (noLow (drop (at + 1) c)) p) (low-none c (at + 1) k (omega arith) (and-right (leb leastByte (getD c at 0)) _ p) ∙ omega arith)
 
 low-some : (c : List ℕ) (at k : ℕ) → at + k ≡ length c → noLow (drop at c) ≡ false → firstLow c at k < at + k
-unfolding firstLow
+unfolding firstNot
 low-some c at zero e h = absurd (true≢false (sym (ap noLow (drop-of-length-le c {i = at} (omega arith))) ∙ h))
 low-some c at (suc k) e h = go (λ z. low-some c (at + 1) k (omega arith) z) (leb leastByte (getD c at 0)) (rw (byte-then c at (omega arith)) at h)
   where

@@ -1,2 +1,3 @@
 -- The laws that the proofs of this crate and of later ones cite.
 pub mod HeadLaws
+pub mod HeadWalkLaws

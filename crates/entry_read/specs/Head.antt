@@ -3,7 +3,7 @@
 use mathlib.Core.Bool.{Bool, true, false, cond}
 use mathlib.Core.List.{List}
 use Prim.Native.Nat.{ℕ, zero, suc, _+_}
-use lib.ListN.{length}
+use lib.ListN.{length, take, drop}
 use lib.Dec.{leb}
 use Rattle.meaning.specs.Entries.{entryLead, twoBytesAt}
 use Rattle.entry_read.specs.declared.Head.{Head}
@@ -15,12 +15,16 @@ entryAt s at =
     cond (leb (at + entryLead) (length s))
     (cond (leb (at + (entryLead + twoBytesAt s at)) (length s)) (Whole (twoBytesAt s (at + 2)) (twoBytesAt s at)) Cut) Cut
 
--- what follows an entry that is whole, by the length of its content; none does after one that is cut
-abbrev pub afterHead : Head → (ℕ → Bool) → Bool
-afterHead (Whole k n) f = f n
-afterHead Cut f = false
+-- by the head of an entry
+abbrev pub byHead : {A : Type 0} → Head → A → (ℕ → ℕ → A) → A
+byHead (Whole l n) x f = f l n
+byHead Cut x f = x
+
+-- the n bytes after the head at an offset
+abbrev pub listContent : List ℕ → ℕ → ℕ → List ℕ
+listContent l at n = take n (drop (at + entryLead) l)
 
 -- the heads from an offset on lead to the end of the bytes, and there are no more than k
 unfoldable pub headsEnd : List ℕ → ℕ → ℕ → Bool
 headsEnd s at zero = leb (length s) at
-headsEnd s at (suc k) = cond (leb (length s) at) true (afterHead (entryAt s at) (λ n. headsEnd s (at + (entryLead + n)) k))
+headsEnd s at (suc k) = cond (leb (length s) at) true (byHead (entryAt s at) false (λ label n. headsEnd s (at + (entryLead + n)) k))

@@ -928,7 +928,7 @@ alike-changed-says : SaysAlikeChanged changed
 alike-changed-says = alike-changed
 
 alike-changed-met-by-idle : SaysAlikeChanged (λ fs n c. fs)
-alike-changed-met-by-idle fs n c st ch = record { labels-so = refl; profile-so = refl; length-so = refl }
+alike-changed-met-by-idle fs n c st ch = record { labels-so = refl; profile-so = refl; seven-so = refl; length-so = refl }
 
 standing-t : Standing tLines
 standing-t = accepted (take 101 tBuffer) (parsed tLines []) read-t .standing

@@ -13,6 +13,7 @@ use Rattle.meaning.specs.declared.Judged.{Judged}
 use Rattle.meaning.specs.declared.Known.{Known}
 use Rattle.meaning.specs.declared.Known.the-variants.{Of, Nothing}
 use Rattle.meaning.specs.declared.SetType.{SetType}
+use Rattle.meaning.specs.Limits.{maxLines}
 use Rattle.meaning.specs.Digits.{number, allDigits}
 use Rattle.meaning.specs.Field.{Field, field, contentAtLine}
 use Rattle.meaning.specs.Refusals.{Spot, start, Fault, atLine, ask, refusal, noStart, unknownSet, noSum, badSum, Reply, refused, done, verdict}
@@ -33,7 +34,7 @@ use Rattle.line_read.specs.Number.{numberAt}
 use Rattle.line_read.proofs.LineMeaning.{asNumber, number-is, read-line, reads-content, reads-on}
 use Rattle.line_scan.proofs.ScanMeaning.{scanSummary, scan-is}
 use Rattle.meaning.proofs.FirstLaws.{firstOf, Real, first-append, real-append, real-ask, first-none, or-assoc, or-none, or-bad, or-then}
-use Rattle.meaning.proofs.RealLaws.{startFaultsBy, real-starts, faultsAfterStart, real-after-start, ofType}
+use Rattle.meaning.proofs.RealLaws.{startFaultsBy, real-starts, faultsThenHigh, real-then-high, ofType}
 use Rattle.judge_start.specs.Sum.{sumWalk}
 use Rattle.judge_lines.proofs.PassLaws.{pass-found}
 use Rattle.judge.specs.Walks.{secondBy, secondWalk, asJudged, typedBy, firstBy, linesWalk, judgedScan, judgeWalk}
@@ -44,16 +45,16 @@ module _ (fs : List Field) (a b c : Bool) (e : startFaults fs ≡ startFaultsBy 
   real-set : Real (setFaults fs)
   unfolding setFaults ruleFaults sumFaults
   real-set =
-      rw e (real-append (startFaultsBy a b c ++ faultsAfterStart (profile fs) fs) _
-      (real-append (startFaultsBy a b c) (faultsAfterStart (profile fs) fs) (real-starts a b c) (real-after-start (profile fs) fs))
+      rw e (real-append (startFaultsBy a b c ++ faultsThenHigh (profile fs) fs) _
+      (real-append (startFaultsBy a b c) (faultsThenHigh (profile fs) fs) (real-starts a b c) (real-then-high (profile fs) fs))
       (real-ask (eqb (number (contentAtLine fs 1)) (size fs)) (atLine badSum 1 0) (λ z. omega arith)))
 
   set-found : firstOf (inSet fs) (setFaults fs)
-      ≡ orElse (firstOf (inSet fs) (startFaultsBy a b c)) (orElse (firstOf (inSet fs) (faultsAfterStart (profile fs) fs)) (firstOf (inSet fs) (sumFaults fs)))
+      ≡ orElse (firstOf (inSet fs) (startFaultsBy a b c)) (orElse (firstOf (inSet fs) (faultsThenHigh (profile fs) fs)) (firstOf (inSet fs) (sumFaults fs)))
   unfolding setFaults ruleFaults
   set-found =
-      let m : List Fault = faultsAfterStart (profile fs) fs in
-      rw e (first-append (inSet fs) (startFaultsBy a b c ++ m) (sumFaults fs) (real-append (startFaultsBy a b c) m (real-starts a b c) (real-after-start (profile fs) fs))
+      let m : List Fault = faultsThenHigh (profile fs) fs in
+      rw e (first-append (inSet fs) (startFaultsBy a b c ++ m) (sumFaults fs) (real-append (startFaultsBy a b c) m (real-starts a b c) (real-then-high (profile fs) fs))
       ∙ (ap (λ (x : Refusal). orElse x (firstOf (inSet fs) (sumFaults fs))) (first-append (inSet fs) (startFaultsBy a b c) m (real-starts a b c))
       ∙ sym (or-assoc (firstOf (inSet fs) (startFaultsBy a b c)) (firstOf (inSet fs) m) (firstOf (inSet fs) (sumFaults fs)))))
 
@@ -100,22 +101,22 @@ cond-when true x y z h = h refl
 cond-when false x y z h = refl
 
 second-is : (s : List ℕ) (settype : SetType) (total : ℕ) (f g : Field) (fs : List Field) (t : List ℕ) → Every Sound (f ∷ g ∷ fs) → s ≡ render (f ∷ g ∷ fs) t
-    → lineSize f ≡ inSet (f ∷ g ∷ fs) 1 start
+    → length (f ∷ g ∷ fs) ≤ maxLines → lineSize f ≡ inSet (f ∷ g ∷ fs) 1 start
     → secondWalk s settype (lineSize f) total (length (f ∷ g ∷ fs))
     ≡ cond (eqb (g .label) 8100)
-    (orElse (firstOf (inSet (f ∷ g ∷ fs)) (faultsAfterStart (ofType settype) (f ∷ g ∷ fs))) (firstOf (inSet (f ∷ g ∷ fs)) (ask (eqb (number (g .content)) total) (atLine badSum 1 0))))
+    (orElse (firstOf (inSet (f ∷ g ∷ fs)) (faultsThenHigh (ofType settype) (f ∷ g ∷ fs))) (firstOf (inSet (f ∷ g ∷ fs)) (ask (eqb (number (g .content)) total) (atLine badSum 1 0))))
     (refusal noSum (lineSize f) 0)
 unfolding secondWalk secondBy
-second-is s settype total f g fs t h w e =
+second-is s settype total f g fs t h w few e =
     let all : List Field = f ∷ g ∷ fs in
     let w′ = first-end s f t (g ∷ fs) (h .0) w in
     let p : Profile = ofType settype in
-    let P : Refusal = firstOf (inSet all) (faultsAfterStart p all) in
-    rw (le-leb 2 (length all) (omega arith), read-line s (lineSize f) g (render fs t) w′ (h .1 .0), pass-found s settype all t h w)
+    let P : Refusal = firstOf (inSet all) (faultsThenHigh p all) in
+    rw (le-leb 2 (length all) (omega arith), read-line s (lineSize f) g (render fs t) w′ (h .1 .0), pass-found s settype all t h w few)
     (cond-when (eqb (g .label) 8100) (orElse P (sumWalk s (lineSize f) total))
     (orElse P (firstOf (inSet all) (ask (eqb (number (g .content)) total) (atLine badSum 1 0)))) (refusal noSum (lineSize f) 0)
     (λ c. or-then P (λ z.
-    let none : faultsAfterStart p all ≡ [] = first-none (inSet all) (faultsAfterStart p all) (real-after-start p all) z in
+    let none : faultsThenHigh p all ≡ [] = first-none (inSet all) (faultsThenHigh p all) (real-then-high p all) z in
     let fit : fits p g ≡ true = second-fits p f g fs (append-none (rulesFrom p first 0 all) _ none .0) in
     sum-is s (lineSize f) total g (render fs t) (inSet all) p (h .1 .0) w′ e (subst (λ (l : ℕ). fits p (field l (g .content)) ≡ true) (eqb-true (g .label) 8100 c) fit))))
 
@@ -151,19 +152,19 @@ first-is : (s : List ℕ) (f : Field) (fs : List Field) (t : List ℕ) (total li
 unfolding linesWalk firstBy
 first-is s f fs t total lines h w = rw (read-line s 0 f (render fs t) w h, reads-content s 0 f (render fs t) h w)
 
-two-lines : (s : List ℕ) (f g : Field) (fs : List Field) (t : List ℕ) → Every Sound (f ∷ g ∷ fs) → s ≡ render (f ∷ g ∷ fs) t
+two-lines : (s : List ℕ) (f g : Field) (fs : List Field) (t : List ℕ) → Every Sound (f ∷ g ∷ fs) → s ≡ render (f ∷ g ∷ fs) t → length (f ∷ g ∷ fs) ≤ maxLines
     → linesWalk s (size (f ∷ g ∷ fs)) (length (f ∷ g ∷ fs)) ≡ judged (verdict (inSet (f ∷ g ∷ fs)) (setFaults (f ∷ g ∷ fs)) (parsed (f ∷ g ∷ fs) t))
 unfolding startFaults profile sumFaults
-two-lines s f g fs t h w =
+two-lines s f g fs t h w few =
     let all : List Field = f ∷ g ∷ fs in
     let a : Bool = eqb (f .label) 8000 in
     let k : Known = typeNamed (f .content) in
     let c : Bool = eqb (g .label) 8100 in
     let Q : Refusal = firstOf (inSet all) (ask (eqb (number (g .content)) (size all)) (atLine badSum 1 0)) in
     first-is s f (g ∷ fs) t (size all) (length all) (h .0) w
-    ∙ by-tests all (parsed all t) refl (setFaults all) (real-set all a (isKnown k) c refl) (lineSize f) (place-one f (g ∷ fs)) (firstOf (inSet all) (faultsAfterStart (profile all) all)) Q s a k c refl
-    (λ settype e. second-is s settype (size all) f g fs t h w (place-one f (g ∷ fs))
-    ∙ ap (λ (x : Known). cond c (orElse (firstOf (inSet all) (faultsAfterStart (record { setType = x }) all)) Q) (refusal noSum (lineSize f) 0)) (sym e))
+    ∙ by-tests all (parsed all t) refl (setFaults all) (real-set all a (isKnown k) c refl) (lineSize f) (place-one f (g ∷ fs)) (firstOf (inSet all) (faultsThenHigh (profile all) all)) Q s a k c refl
+    (λ settype e. second-is s settype (size all) f g fs t h w few (place-one f (g ∷ fs))
+    ∙ ap (λ (x : Known). cond c (orElse (firstOf (inSet all) (faultsThenHigh (record { setType = x }) all)) Q) (refusal noSum (lineSize f) 0)) (sym e))
     (set-found all a (isKnown k) c refl)
 
 one-line : (s : List ℕ) (f : Field) (t : List ℕ) → Every Sound (f ∷ []) → s ≡ render (f ∷ []) t
@@ -175,13 +176,13 @@ one-line s f t h w =
     let k : Known = typeNamed (f .content) in
     first-is s f [] t (size all) (length all) (h .0) w
     ∙ by-tests all (parsed all t) refl (setFaults all) (real-set all a (isKnown k) false refl) (lineSize f) (place-one f [])
-    (firstOf (inSet all) (faultsAfterStart (profile all) all)) (firstOf (inSet all) (sumFaults all)) s a k false refl
+    (firstOf (inSet all) (faultsThenHigh (profile all) all)) (firstOf (inSet all) (sumFaults all)) s a k false refl
     (λ settype e. refl) (set-found all a (isKnown k) false refl)
 
-lines-are : (s : List ℕ) (f : Field) (fs : List Field) (t : List ℕ) → Every Sound (f ∷ fs) → s ≡ render (f ∷ fs) t
+lines-are : (s : List ℕ) (f : Field) (fs : List Field) (t : List ℕ) → Every Sound (f ∷ fs) → s ≡ render (f ∷ fs) t → length (f ∷ fs) ≤ maxLines
     → linesWalk s (size (f ∷ fs)) (length (f ∷ fs)) ≡ judged (verdict (inSet (f ∷ fs)) (setFaults (f ∷ fs)) (parsed (f ∷ fs) t))
-lines-are s f [] t h w = one-line s f t h w
-lines-are s f (g ∷ fs) t h w = two-lines s f g fs t h w
+lines-are s f [] t h w few = one-line s f t h w
+lines-are s f (g ∷ fs) t h w few = two-lines s f g fs t h w few
 
 -- the walk answers what the definition says
 pub judge-is : (s : List ℕ) → judgeWalk s ≡ judge s
@@ -194,4 +195,4 @@ judge-is s = rw (scan-is s) (go (scan s) refl)
         let r = scanned s (d .fields) (d .rest) e in
         let w : s ≡ render (r .one ∷ r .others) (d .rest) = r .bytes ∙ ap (λ (x : List Field). render x (d .rest)) (r .all) in
         subst (λ (x : List Field). linesWalk s (size x) (length x) ≡ judged (verdict (inSet x) (setFaults x) (parsed x (d .rest)))) (sym (r .all))
-        (lines-are s (r .one) (r .others) (d .rest) (r .first-sound, later-sound (r .others) (r .others-later)) w)
+        (lines-are s (r .one) (r .others) (d .rest) (r .first-sound, later-sound (r .others) (r .others-later)) w (omega (arith, r .few)))

@@ -1,4 +1,4 @@
-// `judge`: what a set at the front of some bytes is, or its first refusal, 1 to 17, in the paper's order: line 1, line 2, all lines, the sum.
+// `judge`: what a set at the front of some bytes is, or its first refusal, 1 to 17 and 24, in the paper's order: line 1, line 2, all lines, the sum.
 // `judge` has no `requires`. The other functions are its parts; each contract cites a walk of specs/, and proofs/JudgeLaws says what the walks mean.
 ghost use mathlib.Core.Path.{_≡_};
 ghost use Rattle.meaning.specs.declared.Known.the-variants.{Of};
@@ -17,7 +17,7 @@ use meaning::Refusal;
 use meaning::SetType;
 use meaning::Shape;
 
-// 11 to 17, if line 1 names this type and ends at `at`, and line 2 is 8100.
+// 11 to 16, 24 and 17, if line 1 names this type and ends at `at`, and line 2 is 8100.
 fn summed(s: &[u8], settype: SetType, at: usize) -> Judged
     requires { ⌜ (lineAt (now s) 0 ≡ Read 8000 at) × (typeNamed (lineContent (now s) 0 at) ≡ Of settype) ⌝ }
     ensures { λ r. ⌜ r ≡ judgedScan (scanSet (now (s .entry))) (λ total lines. asJudged (ruledWalk (now (s .entry)) settype at total lines) settype total lines) ⌝ }
@@ -38,7 +38,7 @@ fn summed(s: &[u8], settype: SetType, at: usize) -> Judged
     }
 }
 
-// 10 to 17, if line 1 names this type and ends at `at`: of line 2 only the label is asked here, the pass reads it.
+// 10 to 17 and 24, if line 1 names this type and ends at `at`: of line 2 only the label is asked here, the pass reads it.
 fn second_line(s: &[u8], settype: SetType, at: usize) -> Judged
     requires { ⌜ (lineAt (now s) 0 ≡ Read 8000 at) × (typeNamed (lineContent (now s) 0 at) ≡ Of settype) ⌝ }
     ensures { λ r. ⌜ r ≡ judgedScan (scanSet (now (s .entry))) (λ total lines. typedBy (now (s .entry)) (Of settype) at total lines) ⌝ }
@@ -54,7 +54,7 @@ fn second_line(s: &[u8], settype: SetType, at: usize) -> Judged
     summed(s, settype, at)
 }
 
-// 8 to 17, if line 1 is read.
+// 8 to 17 and 24, if line 1 is read.
 fn first_line(s: &[u8], label: usize, size: usize) -> Judged
     requires { ⌜ lineAt (now s) 0 ≡ Read label size ⌝ }
     ensures { λ r. ⌜ r ≡ judgedScan (scanSet (now (s .entry))) (λ total lines. firstBy (now (s .entry)) label size total lines) ⌝ }

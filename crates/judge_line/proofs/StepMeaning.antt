@@ -1,6 +1,6 @@
--- One line over its content and flags finds what the rules of `meaning` find over fields and labels, and leaves the same state: 11 to 15, and 16 after the last line.
+-- One line over its content and flags finds what the rules of `meaning` find over fields and labels, and leaves the same state: 11 to 15, and 16 and 24 after the last line.
 use mathlib.Core.Path.{_≡_, refl, sym, ap, ap₂, _∙_, subst}
-use mathlib.Core.Bool.{Bool, true, false, cond, not, _||_}
+use mathlib.Core.Bool.{Bool, true, false, cond, not, _||_, true≢false}
 use mathlib.Core.List.{List, [], _∷_, _++_}
 use mathlib.Core.Option.{Option, none, some}
 use Prim.Native.Nat.{ℕ, _+_, _<_}
@@ -20,14 +20,16 @@ use Rattle.meaning.specs.Tables.{table, rowLabel, isPairLabel, setLevel, find}
 use Rattle.meaning.specs.Groups as G
 use Rattle.meaning.specs.Groups.{first, Role, unknown, strayed, atSetLevel, member, belongs, roleOf, role, next, after, labelFaults, noHeader, stays}
 use Rattle.meaning.specs.Missing.{lacking, among, openLacking, groupsLacking, missingFaults}
-use Rattle.meaning.specs.Rules.{Profile, roleIn, fits, current, contentFaults, contentRules, lineRules, rulesFrom}
+use Rattle.meaning.specs.Rules.{Profile, roleIn, fits, current, contentFaults, contentRules, lineRules, rulesFrom, sevenBit, highFaults}
 use Rattle.meaning.specs.Answers.{noRefusal, orElse}
 use Rattle.table_fields.specs.LabelNumbers.{labelNumber}
 use Rattle.table_find.specs.LookUp.{Found, At, NoRow, justRow}
 use Rattle.table_find.proofs.FindLaws.{find-is, found-number, row-below}
-use Rattle.judge_missing.specs.Lacks.{rowCount, Flagged, noFlags, seen, openLack, firstLack, lackAll, requiredLabels, setLack, finish}
-use Rattle.meaning.proofs.FirstLaws.{firstOf, first-append, or-assoc, or-none, or-bad}
-use Rattle.meaning.proofs.RealLaws.{real-label, real-line, real-rules, real-lacking, real-open, faultsAfterStart, ofType}
+use Rattle.judge_missing.specs.Lacks.{rowCount, Flagged, noFlags, seen, openLack, firstLack, lackAll, requiredLabels, setLack, finish, finishThen}
+use Rattle.meaning.proofs.FaultLaws.{append-none}
+use Rattle.meaning.proofs.FirstLaws.{firstOf, first-append, first-none, or-assoc, or-none, or-bad, or-then}
+use Rattle.meaning.proofs.RealLaws.{real-label, real-line, real-rules, real-lacking, real-open, faultsAfterStart, real-after-start, first-high, faultsThenHigh, first-then-high, ofType}
+use Rattle.meaning.proofs.SevenLaws.{seen-9206}
 use Rattle.judge_missing.proofs.FlagLaws.{Flags, flags-mark, flags-none, Agrees}
 use Rattle.judge_missing.proofs.LackMeaning.{set-lack, open-is}
 use Rattle.judge_line.specs.Steps.{rowOf, repeatedNo, placeNo, labelNo, versionNo, contentNo, lineNo, nextFlagged, staysIn, lackThen}
@@ -193,17 +195,25 @@ module _ (pl : ℕ → Spot → ℕ) (st : Flagged) (ms : G.State) (s : Agrees p
 
 -- ---- one line more
 
--- the rules over some lines, with places found by `pl`
-module _ (settype : SetType) (pl : ℕ → Spot → ℕ) where
+-- the rules over some lines, with places found by `pl`; `high` is what 24 finds in the set, asked after 16 if 9206 was seen at set level
+module _ (settype : SetType) (pl : ℕ → Spot → ℕ) (high : Refusal) where
   abbrev pub profileOf : Profile
   profileOf = record { setType = Of settype }
 
   -- 11 to 15 of the lines fs, then 16: set level, then groups and pairs
-  abbrev pub passFinds : G.State → ℕ → List Field → Refusal → Refusal
-  passFinds ms k fs lack =
+  abbrev lacksFound : G.State → ℕ → List Field → Refusal → Refusal
+  lacksFound ms k fs lack =
       orElse (firstOf pl (rulesFrom profileOf ms k fs))
       (orElse (firstOf pl (lacking (table settype) setLevel 0 (among (after (table settype) ms k (labels fs) .top))))
       (orElse lack (firstOf pl (groupsLacking (table settype) ms k (labels fs)))))
+
+  -- 24, if 9206 is among the labels of the lines fs or of those before them
+  abbrev highFound : G.State → ℕ → List Field → Refusal
+  highFound ms k fs = cond (elem 9206 (after (table settype) ms k (labels fs) .top)) high noRefusal
+
+  -- 11 to 16, then 24
+  abbrev pub passFinds : G.State → ℕ → List Field → Refusal → Refusal
+  passFinds ms k fs lack = orElse (lacksFound ms k fs lack) (highFound ms k fs)
 
   lack-joins : (st : Flagged) (ms : G.State) → Agrees pl st ms → (lack : Refusal) (b : Bool) (m : List Fault)
       → orElse (lackThen b settype st lack) (firstOf pl m) ≡ orElse lack (firstOf pl (cond b [] (openLacking (table settype) ms) ++ m))
@@ -252,20 +262,24 @@ module _ (settype : SetType) (pl : ℕ → Spot → ℕ) where
       rules : firstOf pl (lr ++ rest) ≡ orElse (numbered no at (f .label)) (firstOf pl rest)
       rules = first-append pl lr rest (real-line (roleIn profileOf ms f) profileOf ms k f) ∙ ap (λ (x : Refusal). orElse x (firstOf pl rest)) (sym (ls .number-so))
 
+      last : Refusal
+      last = highFound then (k + 1) fs
+
       go : (b : Bool) → eqb no 0 ≡ b → cond b (F (nextFlagged found st at (f .label)) (lackThen (staysIn found) settype st lack)) (refusal no at (f .label))
-          ≡ orElse (firstOf pl (lr ++ rest)) (orElse tops (orElse lack (firstOf pl (groups ++ more))))
+          ≡ orElse (orElse (firstOf pl (lr ++ rest)) (orElse tops (orElse lack (firstOf pl (groups ++ more))))) last
       go true q =
           let z : no ≡ 0 = eqb-true no 0 q in
           let r : firstOf pl (lr ++ rest) ≡ firstOf pl rest =
           rules ∙ (ap (λ (x : Refusal). orElse x (firstOf pl rest)) (numbered-none no at (f .label) z) ∙ or-none (firstOf pl rest)) in
           ih (nextFlagged found st at (f .label)) then (lackThen (staysIn found) settype st lack) (ls .state-so z)
-          ∙ ap₂ (λ (x y : Refusal). orElse x (orElse tops y)) (sym r)
+          ∙ ap₂ (λ (x y : Refusal). orElse (orElse x (orElse tops y)) last) (sym r)
           (ap (λ (b : Bool). orElse (lackThen b settype st lack) (firstOf pl more)) (ls .stays-so z) ∙ lack-joins st ms sm lack (stays o) more)
       go false q =
           let z : no ≡ 0 → ⊥ = eqb-false no 0 q in
           let r : firstOf pl (lr ++ rest) ≡ refusal no at (f .label) =
           rules ∙ (ap (λ (x : Refusal). orElse x (firstOf pl rest)) (numbered-bad no at (f .label) z) ∙ or-bad (refusal no at (f .label)) (firstOf pl rest) z) in
-          sym (ap (λ (x : Refusal). orElse x (orElse tops (orElse lack (firstOf pl (groups ++ more))))) r ∙ or-bad (refusal no at (f .label)) _ z)
+          sym (ap (λ (x : Refusal). orElse (orElse x (orElse tops (orElse lack (firstOf pl (groups ++ more))))) last) r
+          ∙ (ap (λ (x : Refusal). orElse x last) (or-bad (refusal no at (f .label)) _ z) ∙ or-bad (refusal no at (f .label)) last z))
 
   -- the same, with the line's row looked up
   pub pass-line : (f : Field) (fs : List Field) (at k : ℕ) (st : Flagged) (ms : G.State) (lack : Refusal) → Agrees pl st ms → at ≡ pl k start
@@ -279,23 +293,47 @@ module _ (settype : SetType) (pl : ℕ → Spot → ℕ) where
       pass-step f fs at k st ms lack sm (rowOf settype (f .label)) (line-agrees pl st ms sm k at e profileOf f settype (rowOf settype (f .label)) refl) F ih
 
   -- after the last line
-  pub pass-finish : (k : ℕ) (st : Flagged) (ms : G.State) (lack : Refusal) → 0 ≡ pl 0 start → Agrees pl st ms → finish settype st lack ≡ passFinds ms k [] lack
+  pub pass-finish : (k : ℕ) (st : Flagged) (ms : G.State) (lack : Refusal) → 0 ≡ pl 0 start → Agrees pl st ms → finishThen settype st lack high ≡ passFinds ms k [] lack
   unfolding finish setLack firstLack rulesFrom after groupsLacking
   pass-finish k st ms lack z sm =
       ap₂ orElse
+      (ap₂ orElse
       (ap (λ (has : ℕ → Bool). lackAll has (requiredLabels settype)) (λ i l. sm .top .same l i) ∙ set-lack (among (ms .top)) pl z settype)
       (ap (orElse lack) (open-is settype pl st ms sm))
-      ∙ sym (or-none _)
+      ∙ sym (or-none _))
+      (ap (λ (b : Bool). cond b high noRefusal) (sm .top .same 9206))
 
 -- ---- all lines of a set
 
--- what the pass finds over all lines of a set
-pub pass-finds : (settype : SetType) (pl : ℕ → Spot → ℕ) (fs : List Field) → passFinds settype pl first 0 fs noRefusal ≡ firstOf pl (faultsAfterStart (ofType settype) fs)
+-- 11 to 16 over all lines of a set
+lacks-found : (settype : SetType) (pl : ℕ → Spot → ℕ) (high : Refusal) (fs : List Field)
+    → lacksFound settype pl high first 0 fs noRefusal ≡ firstOf pl (faultsAfterStart (ofType settype) fs)
 unfolding missingFaults
-pass-finds settype pl fs =
+lacks-found settype pl high fs =
     let p : Profile = ofType settype in
     let tops : List Fault = lacking (table settype) setLevel 0 (among (after (table settype) first 0 (labels fs) .top)) in
     let groups : List Fault = groupsLacking (table settype) first 0 (labels fs) in
     ap (λ (x : Refusal). orElse (firstOf pl (rulesFrom p first 0 fs)) (orElse (firstOf pl tops) x)) (or-none (firstOf pl groups))
     ∙ (ap (orElse (firstOf pl (rulesFrom p first 0 fs))) (sym (first-append pl tops groups (real-lacking (table settype) setLevel 0 (among (after (table settype) first 0 (labels fs) .top)))))
     ∙ sym (first-append pl (rulesFrom p first 0 fs) (tops ++ groups) (real-rules p first 0 fs)))
+
+-- a set with seven bits has seen 9206, so 24 is asked whenever it counts
+high-found : (settype : SetType) (pl : ℕ → Spot → ℕ) (high : Refusal) (fs : List Field) → high ≡ firstOf pl (highFaults fs)
+    → highFound settype pl high first 0 fs ≡ firstOf pl (highFaults fs)
+high-found settype pl high fs e = go (elem 9206 (after (table settype) first 0 (labels fs) .top)) refl (sevenBit fs) refl
+  where
+    go : (b : Bool) → elem 9206 (after (table settype) first 0 (labels fs) .top) ≡ b → (c : Bool) → sevenBit fs ≡ c → cond b high noRefusal ≡ firstOf pl (highFaults fs)
+    go true q c z = e
+    go false q true z = absurd (true≢false (sym (seen-9206 settype first 0 fs z) ∙ q))
+    go false q false z = sym (first-high pl fs ∙ rw z)
+
+-- what the pass finds over all lines of a set, if `high` is 24 whenever 11 to 15 find nothing
+pub pass-finds : (settype : SetType) (pl : ℕ → Spot → ℕ) (high : Refusal) (fs : List Field) → (rulesFrom (ofType settype) first 0 fs ≡ [] → high ≡ firstOf pl (highFaults fs))
+    → passFinds settype pl high first 0 fs noRefusal ≡ firstOf pl (faultsThenHigh (ofType settype) fs)
+pass-finds settype pl high fs h =
+    let p : Profile = ofType settype in
+    ap (λ (x : Refusal). orElse x (highFound settype pl high first 0 fs)) (lacks-found settype pl high fs)
+    ∙ (or-then (firstOf pl (faultsAfterStart p fs)) (λ z.
+    let none : faultsAfterStart p fs ≡ [] = first-none pl (faultsAfterStart p fs) (real-after-start p fs) z in
+    high-found settype pl high fs (h (append-none (rulesFrom p first 0 fs) _ none .0)))
+    ∙ sym (first-then-high pl p fs))

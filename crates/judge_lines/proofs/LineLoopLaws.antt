@@ -1,17 +1,17 @@
 -- One loop scans the lines and judges them: at each line start it stands for the scan of the whole set, and for the pass over it (`Along`).
 use mathlib.Core.Path.{_≡_, refl, sym, ap, _∙_, subst}
-use mathlib.Core.Bool.{Bool}
+use mathlib.Core.Bool.{Bool, true, false, cond}
 use mathlib.Core.List.{List}
 use Prim.Native.Nat.{ℕ, suc, _+_, _-_, _≤_, _<_}
 use native.Mathlib.Nat.{zero-add, add-zero}
 use native.Mathlib.Omega.{arith}
-use lib.ListN.{length}
+use lib.ListN.{length, take}
 use borrow.Author.Tests.{eq-eqb, ne-eqb}
 use Rattle.meaning.specs.declared.Refusal.{Refusal}
 use Rattle.meaning.specs.declared.Known.the-variants.{Of}
 use Rattle.meaning.specs.declared.SetType.{SetType}
 use Rattle.meaning.specs.Limits.{maxLines}
-use Rattle.meaning.specs.Refusals.{refusal}
+use Rattle.meaning.specs.Refusals.{refusal, highByte}
 use Rattle.meaning.specs.Rules.{typeNamed}
 use Rattle.meaning.specs.Answers.{noRefusal}
 use Rattle.line_read.specs.declared.Line.{Line}
@@ -21,9 +21,11 @@ use Rattle.line_read.proofs.LineMeaning.{read-back}
 use Rattle.line_scan.specs.declared.Scan.{Scan}
 use Rattle.line_scan.specs.declared.Scan.the-variants.{Done, Refused}
 use Rattle.line_scan.specs.Scan.{Stops, scanFrom, scanSet}
-use Rattle.line_scan.proofs.ScanWalkLaws.{scan-done, scan-further, scan-first, stops-full, stops-unread, CountsFrom, scan-counts}
+use Rattle.line_scan.proofs.ScanWalkLaws.{scan-done, scan-further, scan-first, stops-full, stops-unread, CountsFrom, scan-counts, EndsFrom, scan-ends}
 use Rattle.line_scan.proofs.ScanMeaning.{ends-read}
-use Rattle.judge_missing.specs.Lacks.{Flagged, noFlags, noneSeen, finish, flaggedOf}
+use Rattle.line_seven.specs.Seven.{highInSet}
+use Rattle.judge_missing.specs.Lacks.{Flagged, noFlags, noneSeen, seen, finish, finishThen, flaggedOf}
+use Rattle.judge_missing.proofs.FinishLaws.{lacks-first, then-high}
 use Rattle.judge_line.specs.declared.Step.{Step}
 use Rattle.judge_line.specs.Steps.{rowOf, Stepped}
 use Rattle.judge_line.proofs.StartRows.{startGroup, startTop, start-step}
@@ -73,13 +75,15 @@ along-start s settype at q t {lack} e {top} f = rw (e, f) (record {
 
 module _ {s : List ℕ} {settype : SetType} {at k : ℕ} {st : Flagged} {lack : Refusal} (a : Along s settype at k st lack) {x : LineOrEnd} (h : StandsAt s at k x) where
   -- no line of the set is left
-  pub along-end : x ≡ LineOrEnd.End → finishedScan (finish settype st lack) (scanFrom s at k (maxLines - k)) ≡ passed s settype (scanSet s)
+  pub along-end : x ≡ LineOrEnd.End → finishedScan (λ total. finishThen settype st lack (highInSet (take total s))) (scanFrom s at k (maxLines - k)) ≡ passed s settype (scanSet s)
   unfolding passFrom
-  along-end e = go (scanFrom s at k (maxLines - k)) (subst (StandsAt s at k) e h) ∙ ap (passed s settype) (a .scan-so)
+  along-end e = go (scanFrom s at k (maxLines - k)) (subst (StandsAt s at k) e h) (scan-ends s (maxLines - k) at k) ∙ ap (passed s settype) (a .scan-so)
     where
-      go : (x : Scan) → Stops k x → finishedScan (finish settype st lack) x ≡ passed s settype x
-      go (Refused u) c = refl
-      go (Done total lines) c = ap (λ (x : Refusal). scanUnless x total lines) (a .pass-so 0 ∙ ap (passFrom s settype 0 noneSeen noRefusal) (add-zero k ∙ sym c))
+      go : (x : Scan) → Stops k x → EndsFrom s at k x → finishedScan (λ total. finishThen settype st lack (highInSet (take total s))) x ≡ passed s settype x
+      go (Refused u) c d = refl
+      go (Done total lines) c d =
+          ap (λ (n : ℕ). scanUnless (finishThen settype st lack (highInSet (take n s))) total lines) (d .1 c)
+          ∙ ap (λ (x : Refusal). scanUnless x total lines) (a .pass-so 0 ∙ ap (passFrom s settype 0 noneSeen noRefusal) (add-zero k ∙ sym c))
 
   module _ {l n : ℕ} (e : x ≡ LineOrEnd.Line l n) where
     found : StandsAt s at k (LineOrEnd.Line l n)
@@ -126,10 +130,34 @@ module _ {s : List ℕ} {settype : SetType} {at k : ℕ} {st : Flagged} {lack : 
 
 -- ---- after the last line
 
-pub unless-bad : (r q : Refusal) (total lines : ℕ) → r ≡ q → (r .no ≡ 0 → ⊥) → Refused r ≡ scanUnless q total lines
+pub unless-bad : (r : Refusal) (total lines : ℕ) → (r .no ≡ 0 → ⊥) → Refused r ≡ scanUnless r total lines
 unfolding scanUnless
-unless-bad r q total lines e g = rw (← e, ne-eqb (r .no) 0 g)
+unless-bad r total lines g = rw (ne-eqb (r .no) 0 g)
 
-pub unless-good : (r q : Refusal) (total lines : ℕ) → r ≡ q → r .no ≡ 0 → Done total lines ≡ scanUnless q total lines
+pub unless-good : (total lines : ℕ) → Done total lines ≡ scanUnless noRefusal total lines
 unfolding scanUnless
-unless-good r q total lines e g = rw (← e, g)
+unless-good total lines = refl
+
+-- 16, then what is found after it
+module _ (settype : SetType) (st : Flagged) (lack r high : Refusal) (e : r ≡ finish settype st lack) (total lines : ℕ) where
+  pub lacks-end : (r .no ≡ 0 → ⊥) → Refused r ≡ scanUnless (finishThen settype st lack high) total lines
+  lacks-end g = unless-bad r total lines g ∙ ap (λ (x : Refusal). scanUnless x total lines) (lacks-first settype st lack r high e g)
+
+  pub high-end : r .no ≡ 0 → (x : Scan) → x ≡ scanUnless (cond (seen (st .top) 9206) high noRefusal) total lines → x ≡ scanUnless (finishThen settype st lack high) total lines
+  high-end g x q = q ∙ ap (λ (y : Refusal). scanUnless y total lines) (then-high settype st lack r high e g)
+
+-- 24, if 9206 was seen
+module _ (high : Refusal) (b c : Bool) (q : b ≡ c) (total lines : ℕ) where
+  pub not-asked : b ≡ false → Done total lines ≡ scanUnless (cond c high noRefusal) total lines
+  not-asked z = unless-good total lines ∙ ap (λ (x : Bool). scanUnless (cond x high noRefusal) total lines) (sym z ∙ q)
+
+  module _ (z : b ≡ true) where
+    asked : scanUnless high total lines ≡ scanUnless (cond c high noRefusal) total lines
+    asked = ap (λ (x : Bool). scanUnless (cond x high noRefusal) total lines) (sym z ∙ q)
+
+    pub high-told : (r : Refusal) (at : ℕ) → r ≡ refusal highByte at 0 → refusal highByte at 0 ≡ high → Refused r ≡ scanUnless (cond c high noRefusal) total lines
+    high-told r at e f =
+        unless-bad r total lines (λ n. omega (arith, n, ap (λ (x : Refusal). x .no) e)) ∙ (ap (λ (x : Refusal). scanUnless x total lines) (e ∙ f) ∙ asked)
+
+    pub none-high : noRefusal ≡ high → Done total lines ≡ scanUnless (cond c high noRefusal) total lines
+    none-high f = unless-good total lines ∙ (ap (λ (x : Refusal). scanUnless x total lines) f ∙ asked)

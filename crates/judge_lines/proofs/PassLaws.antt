@@ -1,4 +1,4 @@
--- The pass over bytes and flags finds what the rules of `meaning` find over fields and labels: 11 to 16, by one induction over the fields.
+-- The pass over bytes and flags finds what the rules of `meaning` find over fields and labels: 11 to 16 and 24, by one induction over the fields.
 use mathlib.Core.Path.{_≡_, refl, sym, ap, ap₂, _∙_, subst}
 use mathlib.Core.Bool.{Bool}
 use mathlib.Core.List.{List, [], _∷_, cons≢nil}
@@ -10,6 +10,7 @@ use borrow.Author.Tests.{ne-eqb}
 use Rattle.meaning.specs.declared.Refusal.{Refusal}
 use Rattle.meaning.specs.declared.SetType.{SetType}
 use Rattle.meaning.specs.Field.{Field}
+use Rattle.meaning.specs.Limits.{maxLines}
 use Rattle.meaning.specs.Refusals.{start, refusal}
 use Rattle.meaning.specs.Lines.{lineLead, lineSize, size, offset, render}
 use Rattle.meaning.specs.Groups as G
@@ -18,11 +19,13 @@ use Rattle.meaning.specs.Answers.{noRefusal}
 use Rattle.meaning.specs.Reading.{inSet}
 use Rattle.meaning.proofs.Bools.{Every}
 use Rattle.meaning.proofs.FirstLaws.{firstOf}
-use Rattle.meaning.proofs.RealLaws.{faultsAfterStart, ofType}
-use Rattle.meaning.proofs.LineLaws.{Sound}
+use Rattle.meaning.proofs.RealLaws.{faultsThenHigh, ofType}
+use Rattle.meaning.proofs.LineLaws.{Sound, take-render}
 use Rattle.line_read.specs.declared.Line.the-variants.{Read}
 use Rattle.line_read.specs.Line.{lineAt, lineContent}
 use Rattle.line_read.proofs.LineMeaning.{read-line, read-back, reads-content, reads-on}
+use Rattle.line_seven.specs.Seven.{highInSet}
+use Rattle.line_seven.proofs.SevenMeaning.{high-in-set-is}
 use Rattle.judge_missing.specs.Lacks.{Flagged, noneSeen, flaggedOf}
 use Rattle.judge_missing.proofs.FlagLaws.{Agrees, none-agrees}
 use Rattle.judge_line.specs.declared.Step.{Step}
@@ -66,24 +69,36 @@ offset-next (x ∷ xs) (suc k) f fs e =
     let ih = offset-next xs k f fs e in
     (omega (arith, ih .0), ih .1)
 
-module _ (s : List ℕ) (settype : SetType) (all : List Field) where
+-- after the last line
+offset-end : (all : List Field) (k : ℕ) → drop k all ≡ [] → offset all k ≡ size all
+offset-end [] zero e = refl
+offset-end [] (suc k) e = refl
+offset-end (x ∷ xs) zero e = absurd (cons≢nil e)
+offset-end (x ∷ xs) (suc k) e = ap (λ (n : ℕ). lineSize x + n) (offset-end xs k e)
+
+module _ (s : List ℕ) (settype : SetType) (all : List Field) (high : Refusal) (found : highInSet (take (size all) s) ≡ high) where
   next-place : (at k : ℕ) (f : Field) (fs : List Field) → at ≡ inSet all k start → drop k all ≡ f ∷ fs → at + lineSize f ≡ inSet all (k + 1) start
   next-place at k f fs e d = rw add-one (omega (arith, e, offset-next all k f fs d .0))
 
   pub pass-is : (fs : List Field) (t : List ℕ) (at k : ℕ) (st : Flagged) (ms : G.State) (lack : Refusal) → Every Sound fs → drop at s ≡ render fs t → at ≤ length s
-      → at ≡ inSet all k start → drop k all ≡ fs → Agrees (inSet all) st ms → passFrom s settype at st lack (length fs) ≡ passFinds settype (inSet all) ms k fs lack
+      → at ≡ inSet all k start → drop k all ≡ fs → Agrees (inSet all) st ms → passFrom s settype at st lack (length fs) ≡ passFinds settype (inSet all) high ms k fs lack
   unfolding passFrom
-  pass-is [] t at k st ms lack h w b e d sm = pass-finish settype (inSet all) k st ms lack refl sm
+  pass-is [] t at k st ms lack h w b e d sm =
+      let end : at ≡ size all = omega (arith, e, offset-end all k d) in
+      rw (end, found) (pass-finish settype (inSet all) high k st ms lack refl sm)
   pass-is (f ∷ fs) t at k st ms lack h w b e d sm =
       let rd : lineAt s at ≡ Read (f .label) (lineSize f) = read-line s at f (render fs t) w (h .0) in
       let fit : at + lineSize f ≤ length s = read-back s at rd .within in
-      let go = pass-line settype (inSet all) f fs at k st ms lack sm e
+      let go = pass-line settype (inSet all) high f fs at k st ms lack sm e
       (λ st′ lack′. passFrom s settype (at + lineSize f) st′ lack′ (length fs))
       (λ st′ ms′ lack′ sm′. pass-is fs t (at + lineSize f) (k + 1) st′ ms′ lack′ (h .1) (reads-on s at f (render fs t) (h .0) w) fit
       (next-place at k f fs e d) (rw add-one (offset-next all k f fs d .1)) sm′) in
       rw (rd, reads-content s at f (render fs t) (h .0) w) go
 
--- What the pass over a set finds is the first fault of 11 to 16.
+-- What the pass over a set finds is the first fault of 11 to 16 and 24.
 pub pass-found : (s : List ℕ) (settype : SetType) (fs : List Field) (t : List ℕ) → Every Sound fs → s ≡ render fs t
-    → passSet s settype (length fs) ≡ firstOf (inSet fs) (faultsAfterStart (ofType settype) fs)
-pass-found s settype fs t h w = pass-is s settype fs fs t 0 0 noneSeen first noRefusal h w (omega arith) refl refl (none-agrees (inSet fs) refl) ∙ pass-finds settype (inSet fs) fs
+    → length fs ≤ maxLines → passSet s settype (length fs) ≡ firstOf (inSet fs) (faultsThenHigh (ofType settype) fs)
+pass-found s settype fs t h w c =
+    let alone : take (size fs) s ≡ render fs [] = ap (take (size fs)) w ∙ take-render fs t in
+    pass-is s settype fs (highInSet (render fs [])) (ap highInSet alone) fs t 0 0 noneSeen first noRefusal h w (omega arith) refl refl (none-agrees (inSet fs) refl)
+    ∙ pass-finds settype (inSet fs) (highInSet (render fs [])) fs (high-in-set-is (ofType settype) fs h c)

@@ -1,9 +1,10 @@
--- 11 to 16 as the code walks them over the lines of a set: over offsets, with the rows that were seen as flags. proofs/PassLaws ties them to the rules of `meaning`.
+-- 11 to 16, and 24, as the code walks them over the lines of a set: over offsets, with the rows that were seen as flags. proofs/PassLaws ties them to the rules of `meaning`.
 use mathlib.Core.Bool.{cond}
 use mathlib.Core.Path.{_≡_}
 use mathlib.Core.List.{List}
 use Prim.Native.Nat.{ℕ, zero, suc, _+_, _-_, _<_}
 use lib.Dec.{eqb}
+use lib.ListN.{take}
 use Rattle.meaning.specs.declared.Refusal.{Refusal}
 use Rattle.meaning.specs.declared.SetType.{SetType}
 use Rattle.meaning.specs.Limits.{maxLines}
@@ -15,7 +16,8 @@ use Rattle.line_read.specs.Line.{lineAt, lineContent}
 use Rattle.line_scan.specs.declared.Scan.{Scan}
 use Rattle.line_scan.specs.declared.Scan.the-variants.{Done}
 use Rattle.line_scan.specs.Scan.{scanFrom, Stops}
-use Rattle.judge_missing.specs.Lacks.{Flagged, noneSeen, finish}
+use Rattle.line_seven.specs.Seven.{highInSet}
+use Rattle.judge_missing.specs.Lacks.{Flagged, noneSeen, finishThen}
 use Rattle.judge_line.specs.Steps.{rowOf, lineNo, nextFlagged, staysIn, lackThen}
 use Rattle.judge_lines.specs.declared.LineOrEnd.{LineOrEnd}
 
@@ -26,9 +28,9 @@ abbrev pub afterLine : Line → (ℕ → ℕ → Refusal) → Refusal
 afterLine (Read l n) f = f l n
 afterLine (Refused r) f = r
 
--- the n lines from a line start on: 11 to 15 of each, and 16 after the last
+-- the n lines from a line start on: 11 to 15 of each, and after the last 16 and 24, in the bytes up to there
 unfoldable pub passFrom : List ℕ → SetType → ℕ → Flagged → Refusal → ℕ → Refusal
-passFrom s settype at st lack zero = finish settype st lack
+passFrom s settype at st lack zero = finishThen settype st lack (highInSet (take at s))
 passFrom s settype at st lack (suc n) =
     afterLine (lineAt s at) (λ l m.
     let rest = passFrom s settype (at + m) (nextFlagged (rowOf settype l) st at l) (lackThen (staysIn (rowOf settype l)) settype st lack) n in
@@ -54,9 +56,9 @@ abbrev pub StandsAt : List ℕ → ℕ → ℕ → LineOrEnd → Type 0
 StandsAt s at k (LineOrEnd.Line l n) = (k < maxLines) × (lineAt s at ≡ Read l n) × (l ≡ 8000 → ⊥)
 StandsAt s at k LineOrEnd.End = Stops k (scanFrom s at k (maxLines - k))
 
--- 16 after a scan that is done
-abbrev pub finishedScan : Refusal → Scan → Scan
-finishedScan r (Done total lines) = scanUnless r total lines
+-- what is found after the last line, by where the set ends, if a scan is done
+abbrev pub finishedScan : (ℕ → Refusal) → Scan → Scan
+finishedScan r (Done total lines) = scanUnless (r total) total lines
 finishedScan r (Scan.Refused q) = Scan.Refused q
 
 -- 1 to 7 as the scan found them, then the pass over the lines

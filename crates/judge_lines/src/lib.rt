@@ -1,18 +1,21 @@
-// The pass over the lines of a set of a known type, each read once: 11 to 15 of each line, then 16.
+// The pass over the lines of a set of a known type, each read once: 11 to 15 of each line, then 16, then 24.
 // Assumes of `pass` that line 1 was read and names the type, of `unless_unread` that the offset lies within the bytes and has at most 512 lines before it: only other crates here
 // call them, and they prove that. Each contract cites a walk of specs/; proofs/LineLoopLaws says what the loop stands for, proofs/PassLaws what the walks mean.
 ghost use mathlib.Core.Path.{_≡_};
+ghost use mathlib.Core.Bool.{cond};
 ghost use Prim.Native.Nat.{_+_, _-_, _≤_};
-ghost use lib.ListN.{length};
+ghost use lib.ListN.{length, take};
 ghost use Rattle.meaning.specs.declared.Known.the-variants.{Of};
 ghost use Rattle.meaning.specs.Limits.{maxLines};
 ghost use Rattle.meaning.specs.Rules.{typeNamed};
+ghost use Rattle.meaning.specs.Answers.{noRefusal};
 ghost use Rattle.line_read.specs.declared.Line.the-variants.{Read};
 ghost use Rattle.line_read.specs.Line.{lineAt, lineContent};
 ghost use Rattle.line_scan.specs.Scan.{scanFrom, scanSet};
-ghost use Rattle.judge_missing.specs.Lacks.{finish, flaggedOf};
+ghost use Rattle.judge_missing.specs.Lacks.{seen, finishThen, flaggedOf};
 ghost use Rattle.judge_line.specs.Steps.{rowOf, Stepped};
-ghost use Rattle.judge_lines.specs.Pass.{firstUnread, finishedScan, StandsAt, passed};
+ghost use Rattle.line_seven.specs.Seven.{highInSet};
+ghost use Rattle.judge_lines.specs.Pass.{firstUnread, scanUnless, finishedScan, StandsAt, passed};
 use judge_line::Step;
 use judge_missing::Group;
 use judge_missing::ROWS;
@@ -80,7 +83,29 @@ fn next_line(s: &[u8], at: usize, before: usize) -> LineOrEnd
     }
 }
 
-// After a line that is the last to be read: the set ends there, and 16 is asked, or the first refusal by 7 and 2 to 6 is given.
+// 24, HighByte, of a set of this many bytes and lines, if it has 9206: "place of the first such byte". The bytes before and after a content are never over 7Fh, so all bytes
+// of the set are searched at once.
+fn unless_high(s: &[u8], top: &[bool; ROWS], total: usize, lines: usize) -> Scan
+    requires { ⌜ total ≤ length (now s) ⌝ }
+    ensures { λ r. ⌜ r ≡ scanUnless (cond (seen (now (top .entry)) 9206) (highInSet (take total (now (s .entry)))) noRefusal) total lines ⌝ }
+{
+    if !judge_missing::has_9206(top) {
+        return Scan::Done {
+            length: total,
+            lines,
+        };
+    }
+    let high = line_seven::high_for(&s[..total], &s[..total]);
+    if high < total {
+        return Scan::Refused(Refusal::at(Refusal::HIGH_BYTE, high));
+    }
+    Scan::Done {
+        length: total,
+        lines,
+    }
+}
+
+// After a line that is the last to be read: the set ends there, and 16 and 24 are asked, or the first refusal by 7 and 2 to 6 is given.
 fn ended(
     s: &[u8],
     settype: SetType,
@@ -91,7 +116,7 @@ fn ended(
     before: usize,
 ) -> Scan
     requires { ⌜ (from ≤ length (now s)) × (before ≤ maxLines) ⌝ }
-    ensures { λ r. ⌜ r ≡ finishedScan (finish settype (flaggedOf group (now (members .entry)) (now (top .entry))) (group .lack)) (scanFrom (now (s .entry)) from before (maxLines - before)) ⌝ }
+    ensures { λ r. ⌜ r ≡ finishedScan (λ total. finishThen settype (flaggedOf group (now (members .entry)) (now (top .entry))) (group .lack) (highInSet (take total (now (s .entry))))) (scanFrom (now (s .entry)) from before (maxLines - before)) ⌝ }
 {
     match line_scan::scan_from(s, from, before) {
         Scan::Refused(unread) => Scan::Refused(unread),
@@ -100,12 +125,12 @@ fn ended(
             if r.no != 0 {
                 return Scan::Refused(r);
             }
-            Scan::Done { length, lines }
+            unless_high(s, top, length, lines)
         }
     }
 }
 
-// The lines of a set of this type, each read once: 11 to 15 of each, then 16. Line 1 ends at `start` and names the type: no rule refuses it. A refusal by 11 to 15 waits until the
+// The lines of a set of this type, each read once: 11 to 15 of each, then 16 and 24. Line 1 ends at `start` and names the type: no rule refuses it. A refusal by 11 to 15 waits until the
 // lines after it are read.
 pub fn pass(s: &[u8], settype: SetType, start: usize) -> Scan
     requires { ⌜ (lineAt (now s) 0 ≡ Read 8000 start) × (typeNamed (lineContent (now s) 0 start) ≡ Of settype) ⌝ }

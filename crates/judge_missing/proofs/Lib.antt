@@ -2,3 +2,4 @@
 pub mod HeaderLackLaws
 pub mod FlagLaws
 pub mod LackMeaning
+pub mod FinishLaws

@@ -112,6 +112,10 @@ setLack settype top = lackAll (seen top) (requiredLabels settype)
 unfoldable pub finish : SetType → Flagged → Refusal → Refusal
 finish settype st lack = orElse (setLack settype (st .top)) (firstLack settype (st .header) (st .place) (st .members) lack)
 
--- the same, from the parts that the code holds
+-- 16, and then what is found by 24 (`high`), if 9206 was seen at set level
+abbrev pub finishThen : SetType → Flagged → Refusal → Refusal → Refusal
+finishThen settype st lack high = orElse (finish settype st lack) (cond (seen (st .top) 9206) high noRefusal)
+
+-- the state, from the parts that the code holds
 abbrev pub flaggedOf : Group → List Bool → List Bool → Flagged
 flaggedOf g members top = record { header = g .header; place = g .place; members = members; top = top }

@@ -51,6 +51,9 @@ const NO_8462: usize = table_fields::NO_8462 as usize;
 
 const NO_9218: usize = table_fields::NO_9218 as usize;
 
+// The number of the label that 24 asks for.
+const NO_9206: usize = table_fields::NO_9206 as usize;
+
 // The open header or name (0: none), the place of its line, and what the first group that ended with a lack lacks (number 0: none so far).
 pub struct Group {
     pub header: usize,
@@ -74,6 +77,13 @@ pub fn mark(flags: &mut [bool; ROWS], i: usize)
     ensures { λ _. ⌜ now (flags .exit) ≡ set (now (flags .entry)) i true ⌝ }
 {
     flags[i] = true;
+}
+
+// 9206 was seen.
+pub fn has_9206(flags: &[bool; ROWS]) -> bool
+    ensures { λ r. ⌜ r ≡ seen (now (flags .entry)) 9206 ⌝ }
+{
+    has(flags, NO_9206)
 }
 
 // No label was seen.

@@ -20,15 +20,16 @@ use Rattle.meaning.proofs.Bools.{every-at}
 use Rattle.meaning.proofs.CorrectionLaws.{Change, Holds, Corrected, correct-makes, correct-only}
 use Rattle.keeps.specs.Makes.{NotFixed, NewLines, Corrects}
 use Rattle.keeps.proofs.TableFacts.{no-absurd}
+use Rattle.keeps.proofs.SevenExact.{has-seven, seven-has, plain-of, no-high-of}
 use Rattle.keeps.proofs.Exact.{every-of, accepted-keeps, keeps-accepted}
 
 -- ---- fixed lines
 
 pub not-fixed : (l : ℕ) → fixed l ≡ false → NotFixed l
-not-fixed l e = (λ q. no-absurd (ap fixed q) e, λ q. no-absurd (ap fixed q) e, λ q. no-absurd (ap fixed q) e)
+not-fixed l e = (λ q. no-absurd (ap fixed q) e, λ q. no-absurd (ap fixed q) e, λ q. no-absurd (ap fixed q) e, λ q. no-absurd (ap fixed q) e)
 
 pub fixed-not : (l : ℕ) → NotFixed l → fixed l ≡ false
-fixed-not l n = rw (ne-eqb l 8000 (n .0), ne-eqb l 8100 (n .1), ne-eqb l 9218 (n .2)) refl
+fixed-not l n = rw (ne-eqb l 8000 (n .0), ne-eqb l 8100 (n .1), ne-eqb l 9206 (n .2), ne-eqb l 9218 (n .3)) refl
 
 -- ---- the new lines
 
@@ -126,6 +127,7 @@ made-corrects b used n c out m =
       not-fixed = x;
       no-low-byte = λ i l. every-at (λ y. 32 ≤ y) c i 0 l (ch .high);
       content-fits = ch .right;
+      no-high-byte = λ h. no-high-of c (ch .plain (has-seven fs h));
       new-lines = changed-new fs n c (k .1 .rules .starts .0) (k .1 .rules .second-8100) (ch .least, ch .most) x;
       has-room = m .room;
       out-is = m .made;
@@ -142,6 +144,7 @@ corrects-made b used n c out m =
       free = fixed-not _ (m .not-fixed);
       high = every-of (λ y. 32 ≤ y) c 0 (m .no-low-byte);
       right = m .content-fits;
+      plain = λ b. plain-of c (m .no-high-byte (seven-has fs b));
     } in
     let e : m .new ≡ changed fs n c =
     new-changed fs n c (m .new) (m .keeps .rules .starts .0) (m .keeps .rules .second-8100) (m .line-there) (m .not-fixed) (m .new-lines) in

@@ -1,4 +1,4 @@
--- 8 to 16 find no fault in the lines of a set exactly when the lines keep the rules for sets of some type.
+-- 8 to 16 and 24 find no fault in the lines of a set exactly when the lines keep the rules for sets of some type.
 use mathlib.Core.Path.{_≡_, refl, sym, ap, _∙_, subst}
 use mathlib.Core.Bool.{Bool, true, false, cond, not, _||_}
 use mathlib.Core.List.{List, [], _∷_, _++_, cons≢nil}
@@ -22,12 +22,14 @@ use Rattle.meaning.specs.Tables.{setLevel, table}
 use Rattle.meaning.specs.Groups.{State, first, Role, unknown, strayed, atSetLevel, member, labelFaults}
 use Rattle.meaning.specs.Missing.{among, lacking, groupsLacking, missingFaults}
 use Rattle.meaning.specs.Rules.{typeNamed, Profile, profile, rowsOf, labelIs, startFaults, fits, current, contentFaults, contentRules, lineRules, roleIn, rulesFrom}
+use Rattle.meaning.specs.Rules.{highFaults}
 use Rattle.meaning.proofs.FaultLaws.{append-none, none-both, ask-last}
 use Rattle.meaning.proofs.SameLaws.{same-bytes, bytes-same}
 use Rattle.meaning.proofs.TypeLaws.{known-type, type-digits, type-named}
 use Rattle.meaning.proofs.RuleLaws.{line-fits, Ruled, begins-of}
-use Rattle.keeps.specs.Keeps.{StartsWith, ContentsFit, VersionIs0210, GroupHas, KeepsRules}
+use Rattle.keeps.specs.Keeps.{StartsWith, ContentsFit, VersionIs0210, GroupHas, SetComplete, GroupsComplete, Needs8421, Needs8437, NamesFollowed, KeepsRules}
 use Rattle.keeps.proofs.TableFacts.{le-cases}
+use Rattle.keeps.proofs.SevenExact.{seven-kept, kept-seven}
 use Rattle.keeps.proofs.StateLaws.{roleBehind, stateAt}
 use Rattle.keeps.proofs.LabelLaws.{table-kept, groups-kept, odds-kept, none-repeated-in-set, none-repeated-in-groups, labels-fine}
 use Rattle.keeps.proofs.LackLaws.{ClearTo, clear-all, no-lack, lack-none-all, after-all, set-has, groups-have, values-have-units}
@@ -83,6 +85,23 @@ version-current p f h = go (eqb (f .label) 9218) refl
     go : (b : Bool) → eqb (f .label) 9218 ≡ b → not b || sameBytes (f .content) (digits 2 2 ++ (point ∷ digits 2 10)) ≡ true
     go true e = rw (h (eqb-true _ _ e)) (bytes-same (digits 2 2 ++ (point ∷ digits 2 10)))
     go false e = refl
+
+-- nothing that is required is absent: what 16 asks, and no other rule
+pub record Complete (t : SetType) (fs : List Field) : Type 0 where
+  pub set-complete : SetComplete t fs
+  pub groups-complete : GroupsComplete t fs
+  pub needs-8421 : Needs8421 t fs
+  pub needs-8437 : Needs8437 t fs
+  pub names-followed : NamesFollowed fs
+
+pub complete-of : (t : SetType) (fs : List Field) → KeepsRules t fs → Complete t fs
+complete-of t fs r = record {
+  set-complete = r .set-complete;
+  groups-complete = r .groups-complete;
+  needs-8421 = r .needs-8421;
+  needs-8437 = r .needs-8437;
+  names-followed = r .names-followed;
+}
 
 module _ (t : SetType) (fs : List Field) where
   -- what is wrong with line k
@@ -169,12 +188,25 @@ module _ (t : SetType) (fs : List Field) where
   value-line h (inr (inl g)) = group-line h 8461 g
   value-line h (inr (inr g)) = group-line h 8462 g
 
-  pub typed-rules : StartsWith t fs → labelAtLine fs 1 ≡ 8100 → rulesFrom (typed t) first 0 fs ≡ [] → missingFaults (table t) (labels fs) ≡ [] → KeepsRules t fs
-  typed-rules s e a b =
-      let h : (k : ℕ) → k < length fs → faultsAt k ≡ [] = rules-each a in
-      let fine = labels-fine-at h in
+  pub typed-complete : rulesFrom (typed t) first 0 fs ≡ [] → missingFaults (table t) (labels fs) ≡ [] → Complete t fs
+  typed-complete a b =
+      let fine = labels-fine-at (rules-each a) in
       let m = missing-parts b in
       let clear : ClearTo t fs (length fs) = clear-all t fs (no-lack t fs (m .1)) in
+      record {
+        set-complete = set-has t fs fine (m .0);
+        groups-complete = groups-have t fs fine (length fs) clear;
+        needs-8421 = λ h g. values-have-units t fs fine (length fs) clear h (value-line h g) g;
+        needs-8437 = λ h g. has-8437-with-8438 t fs fine (length fs) clear h (group-line h 8438 g) g;
+        names-followed = names-have-odds t fs fine (length fs) clear;
+      }
+
+  pub typed-rules : StartsWith t fs → labelAtLine fs 1 ≡ 8100 → rulesFrom (typed t) first 0 fs ≡ [] → missingFaults (table t) (labels fs) ≡ [] → highFaults fs ≡ []
+      → KeepsRules t fs
+  typed-rules s e a b v =
+      let h : (k : ℕ) → k < length fs → faultsAt k ≡ [] = rules-each a in
+      let fine = labels-fine-at h in
+      let c = typed-complete a b in
       record {
         starts = s;
         second-8100 = e;
@@ -185,11 +217,12 @@ module _ (t : SetType) (fs : List Field) where
         not-repeated-in-groups = none-repeated-in-groups t fs fine;
         contents-fit = contents-so h;
         version = version-so h;
-        set-complete = set-has t fs fine (m .0);
-        groups-complete = groups-have t fs fine (length fs) clear;
-        needs-8421 = λ h g. values-have-units t fs fine (length fs) clear h (value-line h g) g;
-        needs-8437 = λ h g. has-8437-with-8438 t fs fine (length fs) clear h (group-line h 8438 g) g;
-        names-followed = names-have-odds t fs fine (length fs) clear;
+        seven-bits = seven-kept fs v;
+        set-complete = c .set-complete;
+        groups-complete = c .groups-complete;
+        needs-8421 = c .needs-8421;
+        needs-8437 = c .needs-8437;
+        names-followed = c .names-followed;
       }
 
 -- the lines of an accepted set keep the rules
@@ -204,7 +237,7 @@ ruled-keeps fs r =
       t,
       typed-rules t fs (b .first-label, c) (b .second-label)
           (subst (λ (q : Profile). rulesFrom q first 0 fs ≡ []) p (r .each-line))
-          (subst (λ (q : Profile). missingFaults (rowsOf q) (labels fs) ≡ []) p (r .none-missing)),
+          (subst (λ (q : Profile). missingFaults (rowsOf q) (labels fs) ≡ []) p (r .none-missing)) (r .none-high),
     )
 
 -- and lines that keep them have no fault
@@ -215,4 +248,5 @@ keeps-ruled t fs r =
       begins = begins-none t fs (r .starts) (r .second-8100);
       each-line = subst (λ (q : Profile). rulesFrom q first 0 fs ≡ []) (sym p) (each-rules t fs (faults-none t fs r));
       none-missing = subst (λ (q : Profile). missingFaults (rowsOf q) (labels fs) ≡ []) (sym p) (parts-missing t fs r);
+      none-high = kept-seven fs (r .seven-bits);
     }

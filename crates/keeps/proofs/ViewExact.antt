@@ -28,6 +28,7 @@ use Rattle.meaning.proofs.PieceLaws.{pieces-put, pieces-only}
 use Rattle.meaning.proofs.ViewLaws.{Allowed, sheet-lawful}
 use Rattle.keeps.specs.Keeps.{Keeps}
 use Rattle.keeps.specs.Makes.{entriesOf, PendingFor, LastFor, Shown, of-sheet, of-set, Views}
+use Rattle.keeps.proofs.SevenExact.{has-seven, seven-has, plain-of, no-high-of}
 use Rattle.keeps.proofs.Exact.{every-of, accepted-keeps, keeps-accepted}
 use Rattle.keeps.proofs.CorrectionExact.{not-fixed, fixed-not}
 
@@ -114,6 +115,7 @@ pending-of fs e a = record {
   not-fixed = not-fixed _ (a .asked .free);
   no-low-byte = λ i l. every-at (λ y. 32 ≤ y) (e .content) i 0 l (a .asked .high);
   content-fits = a .asked .right;
+  no-high-byte = λ h. no-high-of (e .content) (a .asked .plain (has-seven fs h));
 }
 
 allowed-of : (fs : List Field) (e : Field) → length fs ≤ 512 → PendingFor fs e → Allowed fs e
@@ -125,6 +127,7 @@ allowed-of fs e few p = record {
     free = fixed-not _ (p .not-fixed);
     high = every-of (λ y. 32 ≤ y) (e .content) 0 (p .no-low-byte);
     right = p .content-fits;
+    plain = λ b. plain-of (e .content) (p .no-high-byte (seven-has fs b));
   };
   label-fits = omega (arith, p .line-there .1);
   not-long = omega (arith, fits-short (profile fs) (field (labelAtLine fs (pred (e .label))) (e .content)) (p .content-fits) .few-bytes);

@@ -20,7 +20,7 @@ use Rattle.meaning.specs.declared.Shape.{Shape}
 use Rattle.meaning.specs.Limits.{maxLines, maxLineBytes, typeNumber}
 use Rattle.meaning.specs.Digits.{digits, number}
 use Rattle.meaning.specs.Field.{Field, noField, labelAtLine, contentAtLine}
-use Rattle.meaning.specs.Lines.{lengthDigits, labelDigits, lineLead, leastByte, lineSize, size, offset, render}
+use Rattle.meaning.specs.Lines.{lengthDigits, labelDigits, lineLead, leastByte, mostSevenBits, lineSize, size, offset, render}
 use Rattle.meaning.specs.Tables.{setLevel, repeats, M, table, find}
 use Rattle.meaning.specs.Kinds.{point}
 use Rattle.meaning.specs.FieldTable.{fitsLabel}
@@ -28,7 +28,7 @@ use Rattle.meaning.specs.FieldTable.{fitsLabel}
 -- ---- line and set
 
 -- "A line is three digits (its whole length), four digits (label), content, 0Dh 0Ah. Length = content + 9.": so `render` writes a field (Lines). It is such a line if label
--- and length have no more digits, "Content has 1 byte or more, so lengths run 010 to 999" and "Content bytes are 20h to FFh."
+-- and length have no more digits, "Content has 1 byte or more, so lengths run 010 to 999" and "Content bytes are 20h to FFh.", up to 7Fh if the set says so (`SevenBitsKept`).
 pub record WellFormed (f : Field) : Type 0 where
   pub four-digits : f .label ≤ 9999
   pub some-byte : 1 ≤ length (f .content)
@@ -129,6 +129,18 @@ ContentsFit fs = (k : ℕ) → k < length fs → fitsLabel (labelAtLine fs k) (c
 abbrev pub VersionIs0210 : List Field → Type 0
 VersionIs0210 fs = (k : ℕ) → k < length fs → labelAtLine fs k ≡ 9218 → contentAtLine fs k ≡ digits 2 2 ++ (point ∷ digits 2 10)
 
+-- "a set holds 9206 with content 1"
+abbrev pub HasSevenBits : List Field → Type 0
+HasSevenBits fs = (j : ℕ) × (j < length fs) × (labelAtLine fs j ≡ 9206) × (contentAtLine fs j ≡ digits 1 1)
+
+-- "no content byte .. may exceed 7Fh"
+abbrev pub NoHighByte : List ℕ → Type 0
+NoHighByte c = (i : ℕ) → i < length c → getD c i 0 ≤ mostSevenBits
+
+-- "If a set holds 9206 with content 1, no content byte anywhere in it may exceed 7Fh.": on no line
+abbrev pub SevenBitsKept : List Field → Type 0
+SevenBitsKept fs = HasSevenBits fs → (k : ℕ) → k < length fs → NoHighByte (contentAtLine fs k)
+
 -- ---- no "required label absent"
 
 -- "Required at set level: 8000, 8100, 9218, 3000 in all; 3101, 3102, 3103 also in 6301 and 6302; 8402 also in 6310.": they stand on some line
@@ -166,6 +178,8 @@ pub record KeepsRules (t : SetType) (fs : List Field) : Type 0 where
   -- field table
   pub contents-fit : ContentsFit fs
   pub version : VersionIs0210 fs
+  -- the character set
+  pub seven-bits : SevenBitsKept fs
   -- what is required
   pub set-complete : SetComplete t fs
   pub groups-complete : GroupsComplete t fs

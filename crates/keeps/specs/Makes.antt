@@ -16,15 +16,15 @@ use Rattle.meaning.specs.Field.{Field, field, noField, labelAtLine, contentAtLi
 use Rattle.meaning.specs.Lines.{leastByte, lineLead, size, offset, render}
 use Rattle.meaning.specs.Entries.{entryLead, entryThen}
 use Rattle.meaning.specs.FieldTable.{fitsLabel}
-use Rattle.keeps.specs.Keeps.{IsOdd, InGroup, KeepsRules, Keeps}
+use Rattle.keeps.specs.Keeps.{IsOdd, InGroup, HasSevenBits, NoHighByte, KeepsRules, Keeps}
 
--- "Content bytes are 20h to FFh."
+-- "Content bytes are 20h to FFh.": none is under 20h; for the other end see `Keeps.NoHighByte`
 abbrev pub NoLowByte : List ℕ → Type 0
 NoLowByte c = (i : ℕ) → i < length c → leastByte ≤ getD c i 0
 
--- 20, the other way round: "line is 8000, 8100 or 9218"
+-- 20, the other way round: "line is 8000, 8100 or 9218"; "9206 joins the lines that can't be corrected"
 abbrev pub NotFixed : ℕ → Type 0
-NotFixed l = (l ≢ 8000) × (l ≢ 8100) × (l ≢ 9218)
+NotFixed l = (l ≢ 8000) × (l ≢ 8100) × (l ≢ 9206) × (l ≢ 9218)
 
 -- "8100 has five digits, the sum of all line lengths of the set, its own included."
 abbrev pub sumLineOf : List Field → Field
@@ -94,7 +94,7 @@ pub record Writes (l : List ℕ) (room : ℕ) (out : List ℕ) : Type 0 where
   pub entries-right : (k : ℕ) → k < length (first-entry ∷ others) → EntryRight (getD (first-entry ∷ others) k noField)
   -- "8100 has no entry. The writer adds it as line 2."
   pub lines-are : lines ≡ first-entry ∷ sumLineOf lines ∷ others
-  -- 8, 9, 11 to 16
+  -- 8, 9, 11 to 16, 24
   pub rules : KeepsRules set-type lines
   -- 22
   pub has-room : size lines ≤ room
@@ -125,6 +125,8 @@ pub record Corrects (b : List ℕ) (used n : ℕ) (c out : List ℕ) : Type 0 wh
   -- 6, 14
   pub no-low-byte : NoLowByte c
   pub content-fits : fitsLabel (labelAtLine lines (pred n)) c ≡ true
+  -- 24
+  pub no-high-byte : HasSevenBits lines → NoHighByte c
   -- 22. "or over 99,999" is left out: 512 lines whose contents fit never have that many bytes (`ruled-total`, SizeLaws in `meaning`). In `Writes` it stands, and decides as little.
   pub new-lines : NewLines lines n c new
   pub has-room : size new ≤ length b
@@ -132,12 +134,14 @@ pub record Corrects (b : List ℕ) (used n : ℕ) (c out : List ℕ) : Type 0 wh
 
 -- ---- views
 
--- an entry of a sheet that is not refused by 19, 20, 6 or 14: it names a line that may be corrected, and gives a content that fits there
+-- an entry of a sheet that is not refused by 19, 20, 6, 14 or 24: it names a line that may be corrected, and gives a content that fits there and, if
+-- the set holds 9206 with content 1, has no byte over 7Fh
 pub record PendingFor (lines : List Field) (e : Field) : Type 0 where
   pub line-there : (1 ≤ e .label) × (e .label ≤ length lines)
   pub not-fixed : NotFixed (labelAtLine lines (pred (e .label)))
   pub no-low-byte : NoLowByte (e .content)
   pub content-fits : fitsLabel (labelAtLine lines (pred (e .label))) (e .content) ≡ true
+  pub no-high-byte : HasSevenBits lines → NoHighByte (e .content)
 
 -- "the last for a line counts": entry k is the last for line n
 abbrev pub LastFor : List Field → ℕ → ℕ → Type 0
@@ -159,7 +163,7 @@ pub record Views (s h : List ℕ) (n : ℕ) (v : Viewed) : Type 0 where
   pub keeps : Keeps s set-type lines []
   -- 19
   pub line-there : (1 ≤ n) × (n ≤ length lines)
-  -- 21, and then 19, 20, 6, 14 of each entry
+  -- 21, and then 19, 20, 6, 14, 24 of each entry
   pub sheet-is : h ≡ entriesOf entries
   pub each-right : (k : ℕ) → k < length entries → PendingFor lines (getD entries k noField)
   pub shown : Shown lines entries n v

@@ -89,6 +89,32 @@ scan-counts s (suc k) at n = go (endsAt s at) (lineAt s at) (λ m. scan-counts s
     go false (Read l m) h = fewer (scanFrom s (at + m) (n + 1) k) (h m)
     go false (Line.Refused r) h = tt
 
+-- ---- where it ends
+
+-- a scan from an offset, which has n lines before it, ends within the bytes; and at that offset, if it reads no more
+abbrev pub EndsFrom : List ℕ → ℕ → ℕ → Scan → Type 0
+EndsFrom s at n (Done total lines) = (at ≤ length s → total ≤ length s) × (lines ≡ n → total ≡ at)
+EndsFrom s at n (Refused r) = Unit
+
+pub scan-ends : (s : List ℕ) (k at n : ℕ) → EndsFrom s at n (scanFrom s at n k)
+unfolding scanFrom
+scan-ends s zero at n = go (endsAt s at)
+  where
+    go : (b : Bool) → EndsFrom s at n (cond b (Done at n) (Refused (refusal tooManyLines at 0)))
+    go true = (λ h. h, λ e. refl)
+    go false = tt
+scan-ends s (suc k) at n = go (endsAt s at) (lineAt s at) refl (λ m. scan-ends s k (at + m) (n + 1)) (λ m. scan-counts s k (at + m) (n + 1))
+  where
+    further : (m : ℕ) → at + m ≤ length s → (x : Scan) → EndsFrom s (at + m) (n + 1) x → CountsFrom (n + 1) x → EndsFrom s at n x
+    further m w (Done total lines) h c = (λ g. h .0 w, λ e. absurd (omega arith))
+    further m w (Refused r) h c = tt
+
+    go : (b : Bool) (l : Line) → lineAt s at ≡ l → ((m : ℕ) → EndsFrom s (at + m) (n + 1) (scanFrom s (at + m) (n + 1) k))
+        → ((m : ℕ) → CountsFrom (n + 1) (scanFrom s (at + m) (n + 1) k)) → EndsFrom s at n (cond b (Done at n) (scanAfter l (λ m. scanFrom s (at + m) (n + 1) k)))
+    go true l e h c = (λ g. g, λ q. refl)
+    go false (Read l m) e h c = further m (read-back s at e .within) (scanFrom s (at + m) (n + 1) k) (h m) (c m)
+    go false (Line.Refused r) e h c = tt
+
 -- ---- line 1
 
 -- the scan of a set whose line 1 is read

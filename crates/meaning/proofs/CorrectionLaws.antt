@@ -9,21 +9,23 @@ use lib.ListN.{length, take, drop, getD, set, length-append, length-set, length-
 use lib.Seq.{set-comm, getD-set-other, take-at}
 use borrow.Author.Tests.{leb-true, le-leb, eq-eqb}
 use Rattle.meaning.specs.Limits.{maxLines, maxSetBytes}
+use Rattle.meaning.specs.Digits.{digits}
 use Rattle.meaning.specs.Field.{Field, field, labels, noField, labelAtLine, isNil}
 use Rattle.meaning.specs.Refusals.{Fault, done, thenTo, verdict, refusal, badUse}
 use Rattle.meaning.specs.Pieces.{Parsed, parsed}
-use Rattle.meaning.specs.Lines.{lineSize, size, render, lowBytes}
-use Rattle.meaning.specs.Rules.{Profile, profile, fits, sumFaults}
+use Rattle.meaning.specs.Lines.{lineSize, size, render, lowBytes, highBytes}
+use Rattle.meaning.specs.Rules.{Profile, profile, fits, sevenBit, sumFaults}
 use Rattle.meaning.specs.Reading.{read}
-use Rattle.meaning.specs.Lists.{sumField, setWithRoom}
+use Rattle.meaning.specs.Lists.{sumDigits, sumField, setWithRoom}
 use Rattle.meaning.specs.Corrections.{fixed, aloneFaults, changeFaults, inChange, recontent, resum, changed, correctLines, correct}
 use Rattle.meaning.specs.Answers.{bytesLeft}
 use Rattle.meaning.proofs.Bools.{nil-is, and-left, and-right, not-true, Every, every-set, every-at}
-use Rattle.meaning.proofs.DigitLaws.{number-digits}
-use Rattle.meaning.proofs.FaultLaws.{ask-none, ask-last, append-none, High, lows-back, lows-none, done-same, cond-done, thenTo-done, verdict-done, withRoom-done}
+use Rattle.meaning.proofs.DigitLaws.{number-digits, digits-all, plain-digits}
+use Rattle.meaning.proofs.FaultLaws.{ask-none, append-none, High, lows-back, lows-none, Plain, highs-none, highs-back, if-none, if-back, done-same, cond-done, thenTo-done}
+use Rattle.meaning.proofs.FaultLaws.{verdict-done, withRoom-done}
 use Rattle.meaning.proofs.LineLaws.{Sound, NoStart, length-render}
 use Rattle.meaning.proofs.FieldLaws.{fits-short, fits-sum}
-use Rattle.meaning.proofs.RuleLaws.{Fit, not-version, labels-keep, profile-keep, Ruled, ruled, unruled, ruled-keep, begins-of}
+use Rattle.meaning.proofs.RuleLaws.{Fit, not-version, labels-keep, profile-keep, seven-keep, Ruled, ruled, unruled, ruled-keep, begins-of}
 use Rattle.meaning.proofs.SetLaws.{Standing, accepted, read-render}
 use Rattle.meaning.proofs.SizeLaws.{ruled-total}
 
@@ -74,6 +76,7 @@ pub record Change (fs : List Field) (n : ℕ) (c : List ℕ) : Type 0 where
   pub free : fixed (labelAtLine fs (pred n)) ≡ false
   pub high : High c
   pub right : fits (profile fs) (field (labelAtLine fs (pred n)) c) ≡ true
+  pub plain : sevenBit fs ≡ true → Plain c
 
 pub change : (fs : List Field) (n : ℕ) (c : List ℕ) → changeFaults fs n c ≡ [] → Change fs n c
 unfolding changeFaults
@@ -81,18 +84,21 @@ change fs n c e =
     let x = ask-none (leb 1 n && leb n (length fs)) _ _ e in
     let y = ask-none (not (fixed (labelAtLine fs (pred n)))) _ _ (x .1) in
     let z = append-none (lowBytes (pred n) 0 c) _ (y .1) in
+    let w = ask-none (fits (profile fs) (field (labelAtLine fs (pred n)) c)) _ _ (z .1) in
     record {
       least = leb-true 1 n (and-left (leb 1 n) _ (x .0));
       most = leb-true n (length fs) (and-right (leb 1 n) _ (x .0));
       free = not-true _ (y .0);
       high = lows-back (pred n) 0 c (z .0);
-      right = ask-last (fits (profile fs) (field (labelAtLine fs (pred n)) c)) _ (z .1);
+      right = w .0;
+      plain = λ b. highs-back (pred n) 0 c (if-back (sevenBit fs) (highBytes (pred n) 0 c) (w .1) b);
     }
 
 pub no-change-faults : (fs : List Field) (n : ℕ) (c : List ℕ) → Change fs n c → changeFaults fs n c ≡ []
 unfolding changeFaults
 no-change-faults fs n c ch =
     rw (le-leb 1 n (ch .least), le-leb n (length fs) (ch .most), ch .free, lows-none (pred n) 0 c (ch .high), ch .right)
+    (if-none (sevenBit fs) (highBytes (pred n) 0 c) (λ b. highs-none (pred n) 0 c (ch .plain b)))
 
 not-fixed : (l m : ℕ) → fixed m ≡ true → fixed l ≡ false → l ≡ m → ⊥
 not-fixed l m t e q = true≢false (sym t ∙ (ap fixed (sym q) ∙ e))
@@ -108,14 +114,20 @@ pub record Upright (fs : List Field) : Type 0 where
 pub upright : (fs : List Field) → Standing fs → Upright fs
 upright fs st = record { sound = st .sound; alone = st .alone; few = st .few; rules = ruled fs (st .right) .0 }
 
--- what a correction depends on: the labels, the profile and the number of lines
+-- what a correction depends on: the labels, the profile, whether the set has seven bits, and the number of lines
 pub record Alike (fs gs : List Field) : Type 0 where
   pub labels-so : labels gs ≡ labels fs
   pub profile-so : profile gs ≡ profile fs
+  pub seven-so : sevenBit gs ≡ sevenBit fs
   pub length-so : length gs ≡ length fs
 
 alike-then : (fs gs hs : List Field) → Alike fs gs → Alike gs hs → Alike fs hs
-alike-then fs gs hs a b = record { labels-so = b .labels-so ∙ a .labels-so; profile-so = b .profile-so ∙ a .profile-so; length-so = b .length-so ∙ a .length-so }
+alike-then fs gs hs a b = record {
+  labels-so = b .labels-so ∙ a .labels-so;
+  profile-so = b .profile-so ∙ a .profile-so;
+  seven-so = b .seven-so ∙ a .seven-so;
+  length-so = b .length-so ∙ a .length-so;
+}
 
 label-same : (fs gs : List Field) (k : ℕ) → labels gs ≡ labels fs → labelAtLine gs k ≡ labelAtLine fs k
 label-same fs gs k e =
@@ -126,25 +138,26 @@ change-same fs gs m d a x =
     let p : profile gs ≡ profile fs = a .profile-so in
     let l : length gs ≡ length fs = a .length-so in
     let q : labelAtLine gs (pred m) ≡ labelAtLine fs (pred m) = label-same fs gs (pred m) (a .labels-so) in
-    record { least = x .least; most = rw l (x .most); free = rw q (x .free); high = x .high; right = rw (q, p) (x .right) }
+    record { least = x .least; most = rw l (x .most); free = rw q (x .free); high = x .high; right = rw (q, p) (x .right); plain = λ b. x .plain (sym (a .seven-so) ∙ b) }
 
 alone-set : (fs : List Field) (k : ℕ) (g : Field) → (0 ≡ k → ⊥) → NoStart g → Every NoStart (drop 1 fs) → Every NoStart (drop 1 (set fs k g))
 alone-set [] k g n p h = tt
 alone-set (f ∷ fs) zero g n p h = absurd (n refl)
 alone-set (f ∷ fs) (suc k) g n p h = every-set NoStart fs k g p h
 
--- one line for another with the same label
-module _ (fs : List Field) (i : ℕ) (g : Field) (up : Upright fs) (e : g .label ≡ labelAtLine fs i) (nz : 0 ≡ i → ⊥) (sg : Sound g) (ns : NoStart g) (fg : Fit (profile fs) g) where
+-- one line for another with the same label; 9206 stays as it is, so a set keeps its seven bits
+module _ (fs : List Field) (i : ℕ) (g : Field) (up : Upright fs) (e : g .label ≡ labelAtLine fs i) (nz : 0 ≡ i → ⊥) (sg : Sound g) (ns : NoStart g)
+    (nc : g .label ≡ 9206 → ⊥) (fg : Fit (profile fs) g) (pg : sevenBit fs ≡ true → Plain (g .content)) where
   upright-set : Upright (set fs i g)
   upright-set = record {
     sound = every-set Sound fs i g sg (up .sound);
     alone = alone-set fs i g nz ns (up .alone);
     few = rw length-set (up .few);
-    rules = ruled-keep fs i g e nz fg (up .rules);
+    rules = ruled-keep fs i g e nz nc fg pg (up .rules);
   }
 
   alike-set : Alike fs (set fs i g)
-  alike-set = record { labels-so = labels-keep fs i g e; profile-so = profile-keep fs i g nz; length-so = length-set fs i g }
+  alike-set = record { labels-so = labels-keep fs i g e; profile-so = profile-keep fs i g nz; seven-so = seven-keep fs i g e nc; length-so = length-set fs i g }
 
 -- one content for another
 module _ (fs : List Field) (n : ℕ) (c : List ℕ) (up : Upright fs) (ch : Change fs n c) where
@@ -164,10 +177,10 @@ module _ (fs : List Field) (n : ℕ) (c : List ℕ) (up : Upright fs) (ch : Chan
       record { label-fits = l .label-fits; some-byte = s .some-byte; not-long = omega (arith, s .few-bytes); no-low = ch .high }
 
   pub upright-recontent : Upright (recontent fs (pred n) c)
-  upright-recontent = upright-set fs (pred n) _ up refl not-first new-sound (not-fixed _ 8000 refl (ch .free)) new-fit
+  upright-recontent = upright-set fs (pred n) _ up refl not-first new-sound (not-fixed _ 8000 refl (ch .free)) (not-fixed _ 9206 refl (ch .free)) new-fit (ch .plain)
 
   pub alike-recontent : Alike fs (recontent fs (pred n) c)
-  alike-recontent = alike-set fs (pred n) _ up refl not-first new-sound (not-fixed _ 8000 refl (ch .free)) new-fit
+  alike-recontent = alike-set fs (pred n) _ up refl not-first new-sound (not-fixed _ 8000 refl (ch .free)) (not-fixed _ 9206 refl (ch .free)) new-fit (ch .plain)
 
 -- ---- the sum brought up to date
 
@@ -192,6 +205,9 @@ sum-right (f ∷ x ∷ fs) h l = rw (eq-eqb _ _ (number-digits 5 (lineSize f + (
 pub sum-sound : (m : ℕ) → Sound (sumField m)
 sum-sound m = omega arith
 
+sum-plain : (m : ℕ) → Plain (sumField m .content)
+sum-plain m = plain-digits (digits sumDigits m) (digits-all sumDigits m)
+
 sum-fit : (p : Profile) (m : ℕ) → Fit p (sumField m)
 sum-fit p m = record { right = fits-sum p m; version-right = not-version p (sumField m) (λ q. omega arith) }
 
@@ -206,11 +222,13 @@ module _ (fs : List Field) (up : Upright fs) where
 
   upright-resum : Upright (resum fs)
   upright-resum = rw (resum-is fs two)
-      (upright-set fs 1 (sumField (sumOf fs)) up (sym (begins-of fs (up .rules .begins) .second-label)) (λ q. omega arith) (sum-sound _) (λ q. omega arith) (sum-fit (profile fs) _))
+      (upright-set fs 1 (sumField (sumOf fs)) up (sym (begins-of fs (up .rules .begins) .second-label)) (λ q. omega arith) (sum-sound _)
+      (λ q. omega arith) (λ q. omega arith) (sum-fit (profile fs) _) (λ b. sum-plain _))
 
   pub alike-resum : Alike fs (resum fs)
   alike-resum = rw (resum-is fs two)
-      (alike-set fs 1 (sumField (sumOf fs)) up (sym (begins-of fs (up .rules .begins) .second-label)) (λ q. omega arith) (sum-sound _) (λ q. omega arith) (sum-fit (profile fs) _))
+      (alike-set fs 1 (sumField (sumOf fs)) up (sym (begins-of fs (up .rules .begins) .second-label)) (λ q. omega arith) (sum-sound _)
+      (λ q. omega arith) (λ q. omega arith) (sum-fit (profile fs) _) (λ b. sum-plain _))
 
   -- "over 99,999" never decides
   pub total-resum : size (resum fs) ≤ maxSetBytes
@@ -228,7 +246,7 @@ module _ (fs : List Field) (up : Upright fs) where
 pub still-standing : (fs : List Field) (n : ℕ) (c : List ℕ) → Standing fs → Change fs n c → Standing (changed fs n c)
 still-standing fs n c st ch = standing-resum (recontent fs (pred n) c) (upright-recontent fs n c (upright fs st) ch)
 
--- with the same labels, the same profile and as many lines
+-- with the same labels, the same profile, seven bits or not as before, and as many lines
 pub alike-changed : (fs : List Field) (n : ℕ) (c : List ℕ) → Standing fs → Change fs n c → Alike fs (changed fs n c)
 alike-changed fs n c st ch =
     let up : Upright fs = upright fs st in

@@ -1,9 +1,10 @@
 -- The open points that docs/DECISIONS.md decides, each with inputs that show the decision, and the order of the rules if two apply: a table and a theorem for each part.
--- B1 to B53 are the names in docs/DECISIONS.md, which says where a point is shown that is not named here. Contents alone (B25 to B27) are in FieldExamples, sets of 512 lines and lists of
--- over 511 entries (B28) in LongSets, both in crate `examples`.
+-- B1 to B53 and E2a to E2d are the names in docs/DECISIONS.md, which says where a point is shown that is not named here. Contents alone (B25 to B27) are in FieldExamples,
+-- sets of 512 lines and lists of over 511 entries (B28) in LongSets, both in crate `examples`.
 use mathlib.Core.Path.{_≡_, refl}
 use mathlib.Core.List.{List, [], _∷_, _++_}
 use Prim.Native.Nat.{ℕ}
+use Prim.Native.String.{String}
 use lib.ListN.{replicate}
 use Rattle.meaning.specs.Field.{Field, field}
 use Rattle.meaning.specs.Computes.{computes}
@@ -235,3 +236,70 @@ views =
 views-decided : asked views ≡ expected views
 unfolding computes answer views p
 views-decided = refl
+
+-- ---- seven bits (request E2)
+
+-- the entries of a 6300 set of five lines: in the set 9206, with this content, stands at 27 and the patient's number at 51
+set9206 : String → List ℕ → List Field
+set9206 one c = line 8000 "6300" ∷ line 9206 one ∷ line 9218 "02.10" ∷ field 3000 c ∷ []
+
+-- a 6310 set that holds 9206 with content 1, with lines before and after it; the first line after it is at 65 if none stands before it
+seven : List Field → List Field → List ℕ
+seven earlier later = setOf (line 8000 "6310" ∷ earlier ++ (line 9206 "1" ∷ line 9218 "02.10" ∷ line 8402 "EKG01" ∷ later))
+
+sevens : List Example
+unfolding b set9206 seven
+sevens =
+    -- E2a: at the first byte over 7Fh, without a label; 7Fh is none. On the first line that can have one, before 9206; on a line between others, in its content; on the last; in a group
+    example (judging (seven [] (line 3000 "7" ∷ field 6220 (127 ∷ 32 ∷ []) ∷ []))) (accepted 86 7 6310)
+    ∷ example (judging (seven (field 3000 (128 ∷ []) ∷ []) (line 6220 "x" ∷ []))) (refusedBy 24 34 0)
+    ∷ example (judging (seven [] (line 3000 "7" ∷ field 6220 (127 ∷ 128 ∷ 255 ∷ []) ∷ field 6220 (255 ∷ []) ∷ []))) (refusedBy 24 83 0)
+    ∷ example (judging (seven [] (line 3000 "7" ∷ line 6220 "x" ∷ field 6220 (255 ∷ []) ∷ []))) (refusedBy 24 92 0)
+    ∷ example (judging (seven [] (line 3000 "7" ∷ line 8410 "A" ∷ field 8411 (65 ∷ 228 ∷ []) ∷ line 6220 "x" ∷ []))) (refusedBy 24 93 0)
+    -- without 9206, or if it says 2 or 3, every byte up to FFh is fine; so is what follows the set
+    ∷ example (judging (b (field 6220 (128 ∷ 255 ∷ []) ∷ []))) (accepted 76 6 6310)
+    ∷ example (judging (setOf (set9206 "2" (128 ∷ 255 ∷ [])))) (accepted 62 5 6300)
+    ∷ example (judging (setOf (set9206 "3" (128 ∷ 255 ∷ [])))) (accepted 62 5 6300)
+    ∷ example (judging (seven [] (line 3000 "7" ∷ []) ++ setOf (set9206 "2" (255 ∷ [])))) (accepted 75 6 6310)
+    -- E2c: 6, 14 and 16 before 24, 24 before 17
+    ∷ example (judging (setOf (set9206 "1" (200 ∷ 31 ∷ [])))) (refusedBy 6 59 0)
+    ∷ example (judging (setOf (set9206 "1" (replicate 11 200)))) (refusedBy 14 51 3000)
+    ∷ example (judging (setOf (line 8000 "6300" ∷ line 9206 "1" ∷ field 3000 (200 ∷ []) ∷ []))) (refusedBy 16 0 9218)
+    ∷ example (judging (seven [] (field 3000 (200 ∷ []) ∷ line 8410 "A" ∷ line 8420 "1" ∷ []))) (refusedBy 16 75 8421)
+    ∷ example (judging (text "01380006300\r\n014810000099\r\n01092061\r\n014921802.10\r\n0113000M" ++ (129 ∷ 13 ∷ 10 ∷ []))) (refusedBy 24 59 0)
+    -- E2d
+    ∷ example (judging (seven [] (field 3000 (200 ∷ []) ∷ line 9206 "2" ∷ []))) (refusedBy 13 75 9206)
+    -- index and list refuse as the set does, before 22
+    ∷ example (indexing (setOf (set9206 "1" (77 ∷ 128 ∷ []))) 4) (refusedBy 24 59 0)
+    ∷ example (listing (setOf (set9206 "1" (77 ∷ 128 ∷ []))) 9) (refusedBy 24 59 0)
+    -- the writer: the place is in the list; 16 before 24, 24 before 22
+    ∷ example (writing (entriesOf (set9206 "1" (77 ∷ 128 ∷ []))) 62) (refusedBy 24 27 0)
+    ∷ example (writing (entriesOf (set9206 "1" (77 ∷ 128 ∷ []))) 0) (refusedBy 24 27 0)
+    ∷ example (writing (entriesOf (line 8000 "6300" ∷ field 3000 (128 ∷ []) ∷ line 9218 "02.10" ∷ line 9206 "1" ∷ [])) 62) (refusedBy 24 12 0)
+    ∷ example (writing (entriesOf (line 8000 "6300" ∷ line 9206 "1" ∷ field 3000 (128 ∷ []) ∷ [])) 62) (refusedBy 16 0 9218)
+    ∷ example (writing (entriesOf (set9206 "1" (77 ∷ 127 ∷ []))) 62) (holds 62 (setOf (set9206 "1" (77 ∷ 127 ∷ []))))
+    ∷ example (writing (entriesOf (set9206 "2" (77 ∷ 128 ∷ []))) 62) (holds 62 (setOf (set9206 "2" (77 ∷ 128 ∷ []))))
+    -- E2b: 9206 is fixed, whatever it holds
+    ∷ example (correcting (setOf (set9206 "1" (text "7"))) 9 61 3 (text "2")) (refusedBy 20 27 9206)
+    ∷ example (correcting (setOf (set9206 "2" (text "7"))) 9 61 3 (text "1")) (refusedBy 20 27 9206)
+    ∷ example (correcting (setOf (set9206 "3" (text "7"))) 9 61 3 (text "1")) (refusedBy 20 27 9206)
+    -- a correction: the place is in the new content; 6 and 14 before 24, 24 before 22
+    ∷ example (correcting (setOf (set9206 "1" (text "7"))) 9 61 5 (56 ∷ 128 ∷ 255 ∷ [])) (refusedBy 24 1 0)
+    ∷ example (correcting (setOf (set9206 "1" (text "7"))) 9 61 5 (200 ∷ 31 ∷ [])) (refusedBy 6 1 0)
+    ∷ example (correcting (setOf (set9206 "1" (text "7"))) 9 61 5 (replicate 11 128)) (refusedBy 14 51 3000)
+    ∷ example (correcting (setOf (set9206 "1" (text "7"))) 0 61 5 (56 ∷ 128 ∷ [])) (refusedBy 24 1 0)
+    ∷ example (correcting (setOf (set9206 "1" (text "7"))) 0 61 5 (56 ∷ 127 ∷ [])) (refusedBy 22 62 0)
+    ∷ example (correcting (setOf (set9206 "1" (text "7"))) 2 61 5 (56 ∷ 127 ∷ [])) (holds 62 (setOf (set9206 "1" (56 ∷ 127 ∷ [])) ++ (0 ∷ [])))
+    ∷ example (correcting (setOf (set9206 "2" (text "7"))) 2 61 5 (56 ∷ 128 ∷ [])) (holds 62 (setOf (set9206 "2" (56 ∷ 128 ∷ [])) ++ (0 ∷ [])))
+    ∷ example (correcting (setOf (set9206 "1" (128 ∷ []))) 9 61 5 (text "7")) (refusedBy 24 58 0)
+    -- an entry of a sheet: the place is in the sheet; 20 and 14 before 24; an entry that does not count is asked, too
+    ∷ example (viewing (setOf (set9206 "1" (text "7"))) (entriesOf (line 5 "8" ∷ field 5 (56 ∷ 128 ∷ []) ∷ line 5 "9" ∷ [])) 5) (refusedBy 24 10 0)
+    ∷ example (viewing (setOf (set9206 "1" (text "7"))) (entriesOf (line 5 "8" ∷ field 3 (128 ∷ []) ∷ [])) 5) (refusedBy 20 5 9206)
+    ∷ example (viewing (setOf (set9206 "1" (text "7"))) (entriesOf (line 5 "8" ∷ field 5 (replicate 11 128) ∷ [])) 5) (refusedBy 14 5 3000)
+    ∷ example (viewing (setOf (set9206 "1" (text "7"))) (entriesOf (field 5 (56 ∷ 127 ∷ []) ∷ [])) 5) (shows 1 (56 ∷ 127 ∷ []))
+    ∷ example (viewing (setOf (set9206 "2" (text "7"))) (entriesOf (field 5 (56 ∷ 128 ∷ []) ∷ [])) 5) (shows 1 (56 ∷ 128 ∷ []))
+    ∷ example (viewing (setOf (set9206 "1" (128 ∷ []))) [] 5) (refusedBy 24 58 0) ∷ []
+
+sevens-decided : asked sevens ≡ expected sevens
+unfolding computes answer sevens b set9206 seven
+sevens-decided = refl

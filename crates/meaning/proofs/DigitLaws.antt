@@ -9,7 +9,8 @@ use lib.Dec.{leb}
 use lib.ListN.{length, length-append}
 use borrow.Author.Tests.{leb-true, le-leb}
 use Rattle.meaning.specs.Digits.{digits, digit, allDigits, numberFrom, number}
-use Rattle.meaning.proofs.Bools.{and-left, and-right}
+use Rattle.meaning.specs.Lines.{mostSevenBits}
+use Rattle.meaning.proofs.Bools.{and-left, and-right, Every}
 
 numberFrom-snoc : (a : ℕ) (xs : List ℕ) (d : ℕ) → numberFrom a (xs ++ (d ∷ [])) ≡ numberFrom a xs * 10 + (d - 48)
 numberFrom-snoc a [] d = refl
@@ -54,6 +55,13 @@ last-digit n = rw (le-leb 48 (48 + n % 10) (omega arith), le-leb (48 + n % 10) 5
 pub digits-all : (k n : ℕ) → allDigits (digits k n) ≡ true
 digits-all zero n = refl
 digits-all (suc k) n = all-append (digits k (n / 10)) ((48 + n % 10) ∷ []) (digits-all k (n / 10)) (last-digit n)
+
+-- a digit is no byte over 7Fh
+pub plain-digits : (c : List ℕ) → allDigits c ≡ true → Every (λ b. b ≤ mostSevenBits) c
+plain-digits [] e = tt
+plain-digits (b ∷ bs) e =
+    let d : (48 ≤ b) × (b ≤ 57) = digit-bounds b (and-left (digit b) (allDigits bs) e) in
+    (omega (arith, d .1), plain-digits bs (and-right (digit b) (allDigits bs) e))
 
 pub length-digits : (k n : ℕ) → length (digits k n) ≡ k
 length-digits zero n = refl

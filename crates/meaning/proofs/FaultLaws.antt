@@ -1,14 +1,15 @@
 -- Lists of faults that are empty, and replies that are not refusals: what each part then is.
-use mathlib.Core.Path.{_≡_, refl}
-use mathlib.Core.Bool.{Bool, true, false, cond}
+use mathlib.Core.Path.{_≡_, refl, sym}
+use mathlib.Core.Bool.{Bool, true, false, cond, true≢false}
 use mathlib.Core.List.{List, [], _∷_, _++_, cons≢nil}
 use Prim.Native.Nat.{ℕ, suc, _≤_}
 use native.Mathlib.Omega.{arith}
 use lib.Dec.{leb}
+use lib.ListN.{take}
 use borrow.Author.Tests.{leb-true, le-leb}
 use Rattle.meaning.specs.declared.Refusal.{Refusal}
-use Rattle.meaning.specs.Refusals.{Spot, Fault, atByte, badByte, ask, Reply, refused, done, thenTo, verdict, withRoom}
-use Rattle.meaning.specs.Lines.{lowBytes, leastByte}
+use Rattle.meaning.specs.Refusals.{Spot, Fault, atByte, badByte, highByte, ask, Reply, refused, done, thenTo, verdict, withRoom}
+use Rattle.meaning.specs.Lines.{lowBytes, leastByte, highBytes, mostSevenBits}
 use Rattle.meaning.proofs.Bools.{Every}
 
 -- ---- no fault
@@ -45,6 +46,37 @@ lows-back k i [] e = tt
 lows-back k i (b ∷ bs) e =
     let p : (leb leastByte b ≡ true) × (lowBytes k (suc i) bs ≡ []) = ask-none (leb leastByte b) (atByte badByte k i) (lowBytes k (suc i) bs) e in
     (leb-true leastByte b (p .0), lows-back k (suc i) bs (p .1))
+
+-- no byte of a content is over 7Fh
+abbrev pub Plain : List ℕ → Type 0
+Plain c = Every (λ b. b ≤ mostSevenBits) c
+
+pub highs-none : (k i : ℕ) (c : List ℕ) → Plain c → highBytes k i c ≡ []
+highs-none k i [] h = refl
+highs-none k i (b ∷ bs) h = rw (le-leb b mostSevenBits (h .0)) (highs-none k (suc i) bs (h .1))
+
+pub highs-back : (k i : ℕ) (c : List ℕ) → highBytes k i c ≡ [] → Plain c
+highs-back k i [] e = tt
+highs-back k i (b ∷ bs) e =
+    let p : (leb b mostSevenBits ≡ true) × (highBytes k (suc i) bs ≡ []) = ask-none (leb b mostSevenBits) (atByte highByte k i) (highBytes k (suc i) bs) e in
+    (leb-true b mostSevenBits (p .0), highs-back k (suc i) bs (p .1))
+
+-- if a test decides whether these faults are given
+pub if-none : (b : Bool) (xs : List Fault) → (b ≡ true → xs ≡ []) → cond b xs [] ≡ []
+if-none true xs h = h refl
+if-none false xs h = refl
+
+pub if-back : (b : Bool) (xs : List Fault) → cond b xs [] ≡ [] → b ≡ true → xs ≡ []
+if-back true xs e q = e
+if-back false xs e q = absurd (true≢false (sym q))
+
+-- if only the first of these faults is given
+pub one-none : (xs : List Fault) → xs ≡ [] → take 1 xs ≡ []
+one-none xs e = rw e
+
+pub one-back : (xs : List Fault) → take 1 xs ≡ [] → xs ≡ []
+one-back [] e = refl
+one-back (x ∷ xs) e = absurd (cons≢nil e)
 
 -- ---- done, not refused
 

@@ -4,6 +4,7 @@ use mathlib.Core.Bool.{Bool, true, false, cond}
 use mathlib.Core.List.{List, [], _∷_, _++_}
 use Prim.Native.Nat.{ℕ}
 use lib.Dec.{eqb}
+use lib.ListN.{take}
 use borrow.Author.Tests.{eqb-true, eqb-false, ne-eqb}
 use Rattle.meaning.specs.declared.Refusal.{Refusal}
 use Rattle.meaning.specs.Refusals.{Spot, Fault, ask, refusal}
@@ -45,6 +46,11 @@ first-rule pl false x r = refl
 pub first-none : (pl : ℕ → Spot → ℕ) (xs : List Fault) → Real xs → firstOf pl xs .no ≡ 0 → xs ≡ []
 first-none pl [] h e = refl
 first-none pl (x ∷ xs) h e = absurd (h e)
+
+-- the first of the first fault alone
+pub first-one : (pl : ℕ → Spot → ℕ) (xs : List Fault) → firstOf pl (take 1 xs) ≡ firstOf pl xs
+first-one pl [] = refl
+first-one pl (x ∷ xs) = refl
 
 pub or-assoc : (a b c : Refusal) → orElse a (orElse b c) ≡ orElse (orElse a b) c
 unfolding orElse

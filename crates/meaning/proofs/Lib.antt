@@ -19,6 +19,8 @@ pub mod WithinLaws
 pub mod SizeLaws
 pub mod CorrectionLaws
 pub mod WriterLaws
+pub mod SevenLaws
+pub mod SpotLaws
 pub mod PlaceLaws
 pub mod ViewLaws
 pub mod Asking

@@ -1,4 +1,5 @@
--- Which numbers each call can refuse with: judging 1 to 17; index and list these and 22; the writer 1, 6 to 9, 11 to 16, 21, 22; a correction 1 to 20 and 22; a view 1 to 21.
+-- Which numbers each call can refuse with: judging 1 to 17 and 24; index and list these and 22; the writer 1, 6 to 9, 11 to 16, 21, 22, 24; a correction 1 to 20, 22, 24;
+-- a view 1 to 21 and 24.
 use mathlib.Core.Path.{_≡_, refl}
 use mathlib.Core.Bool.{Bool, true, false, cond, not, _&&_, _||_}
 use mathlib.Core.List.{List, [], _∷_, _++_}
@@ -11,15 +12,15 @@ use Rattle.meaning.specs.Digits.{number}
 use Rattle.meaning.specs.Field.{Field, field, elem, isNil, labels, labelAtLine, contentAtLine}
 use Rattle.meaning.specs.Refusals.{Spot, Fault, atLine, atByte, ask, Reply, refused, done, thenTo, verdict, withRoom, empty, badLength, cutLine}
 use Rattle.meaning.specs.Refusals.{badEnd, badLabel, badByte, tooManyLines, noStart, unknownSet, noSum, notInSet, stray, repeated, badContent}
-use Rattle.meaning.specs.Refusals.{otherVersion, missing, badSum, badUse, noSuchLine, fixedLine, badList, noRoom}
+use Rattle.meaning.specs.Refusals.{otherVersion, missing, badSum, badUse, noSuchLine, fixedLine, badList, noRoom, highByte, numbers}
 use Rattle.meaning.specs.Pieces.{Form, Parsed, andBefore, pieceThen, pieces, putAll}
-use Rattle.meaning.specs.Lines.{leastByte, lowBytes, contentAt, lineFaults, lineForm, lengthOk, wholeOk, endOk, labelOk, size, render}
+use Rattle.meaning.specs.Lines.{leastByte, lowBytes, mostSevenBits, highBytes, contentAt, lineFaults, lineForm, lengthOk, wholeOk, endOk, labelOk, size, render}
 use Rattle.meaning.specs.Entries.{entryOk, entryWhole, entryLabel, entryContent, entryField, entryWidth, entryFaults, entryForm, listSize}
 use Rattle.meaning.specs.Groups.{State, first, Role, unknown, strayed, atSetLevel, member, role, next, after, labelFaults, noHeader, stays}
 use Rattle.meaning.specs.Tables.{setLevel, find}
 use Rattle.meaning.specs.Missing.{needed, rowsUnder, ascending, missingLabel, lackingOf, lacking, among, openLacking, groupsLacking, missingFaults}
 use Rattle.meaning.specs.Rules.{Profile, profile, rowsOf, roleIn, labelIs, typeKnown, startFaults, fits, current, contentFaults, contentRules}
-use Rattle.meaning.specs.Rules.{lineRules, rulesFrom, sumFaults, ruleFaults, setFaults}
+use Rattle.meaning.specs.Rules.{lineRules, rulesFrom, sevenBit, highFrom, highFaults, sumFaults, ruleFaults, setFaults}
 use Rattle.meaning.specs.Reading.{scan, inSet, byRules, read}
 use Rattle.meaning.specs.Index.{indexOf, index}
 use Rattle.meaning.specs.Lists.{withoutSum, withSum, list, inList, setWithRoom, written, write}
@@ -50,6 +51,10 @@ module _ (P : ℕ → Type 0) where
   given-cond : (t : Bool) (a b : List Fault) → Given a → Given b → Given (cond t a b)
   given-cond true a b h k = h
   given-cond false a b h k = k
+
+  given-one : (xs : List Fault) → Given xs → Given (take 1 xs)
+  given-one [] h = tt
+  given-one (x ∷ xs) h = (h .0, tt)
 
   numbered-then : {A B : Type 0} (r : Reply A) (k : A → Reply B) → Numbered r → ((a : A) → Numbered (k a)) → Numbered (thenTo r k)
   numbered-then (refused r) k h f = h
@@ -105,18 +110,33 @@ module _ (P : ℕ → Type 0) where
     n14 : P badContent
     n15 : P otherVersion
     n16 : P missing
+    n24 : P highByte
 
   record ChangeNumbers : Type 0 where
     n19 : P noSuchLine
     n20 : P fixedLine
     n6 : P badByte
     n14 : P badContent
+    n24 : P highByte
 
   -- ---- the faults of each rule
 
   given-lows : P badByte → (k i : ℕ) (c : List ℕ) → Given (lowBytes k i c)
   given-lows p k i [] = tt
   given-lows p k i (b ∷ c) = given-rule (leb leastByte b) (atByte badByte k i) (lowBytes k (suc i) c) p (given-lows p k (suc i) c)
+
+  given-highs : P highByte → (k i : ℕ) (c : List ℕ) → Given (highBytes k i c)
+  given-highs p k i [] = tt
+  given-highs p k i (b ∷ c) = given-rule (leb b mostSevenBits) (atByte highByte k i) (highBytes k (suc i) c) p (given-highs p k (suc i) c)
+
+  given-high-from : P highByte → (k : ℕ) (fs : List Field) → Given (highFrom k fs)
+  unfolding highFrom
+  given-high-from p k [] = tt
+  given-high-from p k (f ∷ fs) = given-append (highBytes k 0 (f .content)) _ (given-highs p k 0 (f .content)) (given-high-from p (k + 1) fs)
+
+  given-high : P highByte → (fs : List Field) → Given (highFaults fs)
+  unfolding highFaults
+  given-high p fs = given-cond (sevenBit fs) (take 1 (highFrom 0 fs)) [] (given-one (highFrom 0 fs) (given-high-from p 0 fs)) tt
 
   given-line : LineNumbers → (s : List ℕ) → Given (lineFaults s)
   unfolding lineFaults
@@ -205,7 +225,9 @@ module _ (P : ℕ → Type 0) where
       let l : ℕ = labelAtLine fs (pred n) in
       given-rule (leb 1 n && leb n (length fs)) (atLine noSuchLine (length fs) 0) _ (p .n19)
       (given-rule (not (fixed l)) (atLine fixedLine (pred n) l) _ (p .n20)
-      (given-append (lowBytes (pred n) 0 c) _ (given-lows (p .n6) (pred n) 0 c) (given-ask (fits (profile fs) (field l c)) (atLine badContent (pred n) l) (p .n14))))
+      (given-append (lowBytes (pred n) 0 c) _ (given-lows (p .n6) (pred n) 0 c)
+      (given-rule (fits (profile fs) (field l c)) (atLine badContent (pred n) l) _ (p .n14)
+      (given-cond (sevenBit fs) (highBytes (pred n) 0 c) [] (given-highs (p .n24) (pred n) 0 c) tt))))
 
   given-pending : P badList → ChangeNumbers → (fs : List Field) (s : List ℕ) → Given (sheetEntryFaults fs s)
   unfolding sheetEntryFaults
@@ -232,7 +254,8 @@ module _ (P : ℕ → Type 0) where
           numbered-verdict (inSet fs) (setFaults fs) d
           (given-append (ruleFaults fs) (sumFaults fs)
           (given-append (startFaults fs) _ (given-start q n10 fs)
-          (given-append (rulesFrom (profile fs) first 0 fs) _ (given-rules q (profile fs) first 0 fs) (given-missing (q .n16) (rowsOf (profile fs)) (labels fs))))
+          (given-append (rulesFrom (profile fs) first 0 fs) _ (given-rules q (profile fs) first 0 fs)
+          (given-append (missingFaults (rowsOf (profile fs)) (labels fs)) _ (given-missing (q .n16) (rowsOf (profile fs)) (labels fs)) (given-high (q .n24) fs))))
           (given-ask (eqb (number (contentAtLine fs 1)) (size fs)) (atLine badSum 1 0) n17))
 
   numbered-index : ((s : List ℕ) → Numbered (read s)) → P noRoom → (s : List ℕ) (room : ℕ) → Numbered (index s room)
@@ -275,7 +298,8 @@ module _ (P : ℕ → Type 0) where
       numbered-then (verdict (inList (f ∷ fs)) (ruleFaults all) all) (λ gs. setWithRoom gs room)
       (numbered-verdict (inList (f ∷ fs)) (ruleFaults all) all
       (given-append (startFaults all) _ (given-start-with p f fs)
-      (given-append (rulesFrom (profile all) first 0 all) _ (given-rules p (profile all) first 0 all) (given-missing (p .n16) (rowsOf (profile all)) (labels all)))))
+      (given-append (rulesFrom (profile all) first 0 all) _ (given-rules p (profile all) first 0 all)
+      (given-append (missingFaults (rowsOf (profile all)) (labels all)) _ (given-missing (p .n16) (rowsOf (profile all)) (labels all)) (given-high (p .n24) all)))))
       (λ gs. numbered-set n22 gs room)
 
   -- a list of some bytes has a first entry
@@ -301,22 +325,26 @@ module _ (P : ℕ → Type 0) where
 
 -- ---- which numbers
 
+-- the numbers by name, as paper and requests count them
+all-numbers : numbers ≡ 1 ∷ 2 ∷ 3 ∷ 4 ∷ 5 ∷ 6 ∷ 7 ∷ 8 ∷ 9 ∷ 10 ∷ 11 ∷ 12 ∷ 13 ∷ 14 ∷ 15 ∷ 16 ∷ 17 ∷ 18 ∷ 19 ∷ 20 ∷ 21 ∷ 22 ∷ 23 ∷ 24 ∷ []
+all-numbers = refl
+
 -- n is one of ns
 abbrev pub OneOf : List ℕ → ℕ → Type 0
 OneOf ns n = elem n ns ≡ true
 
 abbrev pub readNumbers : List ℕ
-readNumbers = 1 ∷ 2 ∷ 3 ∷ 4 ∷ 5 ∷ 6 ∷ 7 ∷ 8 ∷ 9 ∷ 10 ∷ 11 ∷ 12 ∷ 13 ∷ 14 ∷ 15 ∷ 16 ∷ 17 ∷ []
+readNumbers = 1 ∷ 2 ∷ 3 ∷ 4 ∷ 5 ∷ 6 ∷ 7 ∷ 8 ∷ 9 ∷ 10 ∷ 11 ∷ 12 ∷ 13 ∷ 14 ∷ 15 ∷ 16 ∷ 17 ∷ 24 ∷ []
 
 abbrev pub writeNumbers : List ℕ
-writeNumbers = 1 ∷ 6 ∷ 7 ∷ 8 ∷ 9 ∷ 11 ∷ 12 ∷ 13 ∷ 14 ∷ 15 ∷ 16 ∷ 21 ∷ 22 ∷ []
+writeNumbers = 1 ∷ 6 ∷ 7 ∷ 8 ∷ 9 ∷ 11 ∷ 12 ∷ 13 ∷ 14 ∷ 15 ∷ 16 ∷ 21 ∷ 22 ∷ 24 ∷ []
 
--- judging: 1 to 17, and whatever else a call gives
+-- judging: 1 to 17 and 24, and whatever else a call gives
 module _ (more : List ℕ) where
   reads-so : (s : List ℕ) → Numbered (OneOf (readNumbers ++ more)) (read s)
   unfolding elem
   reads-so = numbered-read (OneOf (readNumbers ++ more)) refl refl (record { n2 = refl; n3 = refl; n4 = refl; n5 = refl; n6 = refl }) refl
-      (record { n8 = refl; n9 = refl; n11 = refl; n12 = refl; n13 = refl; n14 = refl; n15 = refl; n16 = refl }) refl
+      (record { n8 = refl; n9 = refl; n11 = refl; n12 = refl; n13 = refl; n14 = refl; n15 = refl; n16 = refl; n24 = refl }) refl
 
 pub read-numbers : (s : List ℕ) → Numbered (OneOf readNumbers) (read s)
 read-numbers = reads-so []
@@ -332,12 +360,12 @@ list-numbers = numbered-list _ (reads-so (22 ∷ [])) refl
 pub write-numbers : (l : List ℕ) (room : ℕ) → Numbered (OneOf writeNumbers) (write l room)
 unfolding elem
 write-numbers = numbered-write (OneOf writeNumbers) refl refl refl refl
-    (record { n8 = refl; n9 = refl; n11 = refl; n12 = refl; n13 = refl; n14 = refl; n15 = refl; n16 = refl }) refl
+    (record { n8 = refl; n9 = refl; n11 = refl; n12 = refl; n13 = refl; n14 = refl; n15 = refl; n16 = refl; n24 = refl }) refl
 
 pub correct-numbers : (b : List ℕ) (used n : ℕ) (c : List ℕ) → Numbered (OneOf (readNumbers ++ (18 ∷ 19 ∷ 20 ∷ 22 ∷ []))) (correct b used n c)
 unfolding elem
-correct-numbers = numbered-correct _ (reads-so (18 ∷ 19 ∷ 20 ∷ 22 ∷ [])) refl (record { n19 = refl; n20 = refl; n6 = refl; n14 = refl }) refl
+correct-numbers = numbered-correct _ (reads-so (18 ∷ 19 ∷ 20 ∷ 22 ∷ [])) refl (record { n19 = refl; n20 = refl; n6 = refl; n14 = refl; n24 = refl }) refl
 
 pub view-numbers : (s h : List ℕ) (n : ℕ) → Numbered (OneOf (readNumbers ++ (18 ∷ 19 ∷ 20 ∷ 21 ∷ []))) (viewing s h n)
 unfolding elem
-view-numbers = numbered-view _ (reads-so (18 ∷ 19 ∷ 20 ∷ 21 ∷ [])) refl refl (record { n19 = refl; n20 = refl; n6 = refl; n14 = refl }) refl
+view-numbers = numbered-view _ (reads-so (18 ∷ 19 ∷ 20 ∷ 21 ∷ [])) refl refl (record { n19 = refl; n20 = refl; n6 = refl; n14 = refl; n24 = refl }) refl

@@ -1,19 +1,23 @@
--- Every fault that a rule of a set gives has a number, so that the first of them is a refusal: 8 to 10, 11 to 15 of each line, 16.
+-- Every fault that a rule of a set gives has a number, so that the first of them is a refusal: 8 to 10, 11 to 15 of each line, 16, 24.
+use mathlib.Core.Path.{_≡_, refl, sym, ap, _∙_}
 use mathlib.Core.Bool.{Bool, true, false, cond, not, _&&_, _||_}
-use mathlib.Core.List.{List, [], _∷_, _++_}
-use Prim.Native.Nat.{ℕ, _+_}
+use mathlib.Core.List.{List, [], _∷_, _++_, append-assoc}
+use Prim.Native.Nat.{ℕ, suc, _+_}
 use native.Mathlib.Omega.{arith}
-use lib.Dec.{eqb}
+use lib.Dec.{leb, eqb}
+use lib.ListN.{take}
 use Rattle.meaning.specs.declared.Row.{Row}
 use Rattle.meaning.specs.declared.Known.the-variants.{Of}
 use Rattle.meaning.specs.declared.SetType.{SetType}
 use Rattle.meaning.specs.Field.{Field, labels, elem}
-use Rattle.meaning.specs.Refusals.{Fault, atLine, ask, noStart, unknownSet, noSum, repeated, badContent, otherVersion, missing}
+use Rattle.meaning.specs.Refusals.{Spot, Fault, atLine, atByte, ask, noStart, unknownSet, noSum, repeated, badContent, otherVersion, missing, highByte}
+use Rattle.meaning.specs.Lines.{mostSevenBits, highBytes}
 use Rattle.meaning.specs.Tables.{setLevel, find}
 use Rattle.meaning.specs.Groups.{State, first, Role, unknown, strayed, atSetLevel, member, role, next, after, labelFaults, noHeader, stays}
 use Rattle.meaning.specs.Missing.{needed, rowsUnder, ascending, missingLabel, lackingOf, lacking, among, openLacking, groupsLacking, missingFaults}
-use Rattle.meaning.specs.Rules.{Profile, rowsOf, roleIn, fits, current, contentFaults, contentRules, lineRules, rulesFrom}
-use Rattle.meaning.proofs.FirstLaws.{Real, real-append, real-ask, real-rule}
+use Rattle.meaning.specs.Rules.{Profile, rowsOf, roleIn, fits, current, contentFaults, contentRules, lineRules, rulesFrom, sevenBit, highFrom, highFaults}
+use Rattle.meaning.specs.Answers.{noRefusal, orElse}
+use Rattle.meaning.proofs.FirstLaws.{firstOf, Real, first-append, first-one, real-append, real-ask, real-rule}
 
 -- ---- 8 to 10
 
@@ -98,6 +102,49 @@ faultsAfterStart p fs = rulesFrom p first 0 fs ++ missingFaults (rowsOf p) (labe
 
 pub real-after-start : (p : Profile) (fs : List Field) → Real (faultsAfterStart p fs)
 real-after-start p fs = real-append (rulesFrom p first 0 fs) _ (real-rules p first 0 fs) (real-missing (rowsOf p) (labels fs))
+
+-- ---- 24, and 11 to 16 before it
+
+pub real-high-bytes : (k i : ℕ) (c : List ℕ) → Real (highBytes k i c)
+real-high-bytes k i [] = tt
+real-high-bytes k i (b ∷ c) = real-rule (leb b mostSevenBits) (atByte highByte k i) (highBytes k (suc i) c) (λ z. omega arith) (real-high-bytes k (suc i) c)
+
+pub real-high-from : (k : ℕ) (fs : List Field) → Real (highFrom k fs)
+unfolding highFrom
+real-high-from k [] = tt
+real-high-from k (f ∷ fs) = real-append (highBytes k 0 (f .content)) (highFrom (k + 1) fs) (real-high-bytes k 0 (f .content)) (real-high-from (k + 1) fs)
+
+pub real-high : (fs : List Field) → Real (highFaults fs)
+unfolding highFaults
+real-high fs = go (sevenBit fs) (highFrom 0 fs) (real-high-from 0 fs)
+  where
+    go : (b : Bool) (xs : List Fault) → Real xs → Real (cond b (take 1 xs) [])
+    go false xs h = tt
+    go true [] h = tt
+    go true (x ∷ xs) h = h
+
+-- the first byte over 7Fh of all lines, if the set has seven bits
+pub first-high : (pl : ℕ → Spot → ℕ) (fs : List Field) → firstOf pl (highFaults fs) ≡ cond (sevenBit fs) (firstOf pl (highFrom 0 fs)) noRefusal
+unfolding highFaults
+first-high pl fs = go (sevenBit fs)
+  where
+    go : (b : Bool) → firstOf pl (cond b (take 1 (highFrom 0 fs)) []) ≡ cond b (firstOf pl (highFrom 0 fs)) noRefusal
+    go true = first-one pl (highFrom 0 fs)
+    go false = refl
+
+-- 11 to 16 of all lines, then 24: the rules that follow 8 to 10 in reader and writer
+abbrev pub faultsThenHigh : Profile → List Field → List Fault
+faultsThenHigh p fs = rulesFrom p first 0 fs ++ (missingFaults (rowsOf p) (labels fs) ++ highFaults fs)
+
+pub real-then-high : (p : Profile) (fs : List Field) → Real (faultsThenHigh p fs)
+real-then-high p fs =
+    real-append (rulesFrom p first 0 fs) _ (real-rules p first 0 fs) (real-append (missingFaults (rowsOf p) (labels fs)) (highFaults fs) (real-missing (rowsOf p) (labels fs)) (real-high fs))
+
+pub first-then-high : (pl : ℕ → Spot → ℕ) (p : Profile) (fs : List Field)
+    → firstOf pl (faultsThenHigh p fs) ≡ orElse (firstOf pl (faultsAfterStart p fs)) (firstOf pl (highFaults fs))
+first-then-high pl p fs =
+    ap (firstOf pl) (sym (append-assoc (rulesFrom p first 0 fs) (missingFaults (rowsOf p) (labels fs)) (highFaults fs)))
+    ∙ first-append pl (faultsAfterStart p fs) (highFaults fs) (real-after-start p fs)
 
 -- what line 1 chooses if it names this type
 abbrev pub ofType : SetType → Profile

@@ -1,6 +1,6 @@
--- The rules when one content is replaced: those that see labels and profile alone hold as before, and the new content must fit by itself.
+-- The rules when one content is replaced: those that see labels, profile and what 9206 says alone hold as before, and the new content must fit by itself.
 use mathlib.Core.Path.{_≡_, refl, sym, ap, _∙_}
-use mathlib.Core.Bool.{true}
+use mathlib.Core.Bool.{Bool, true, false, _||_}
 use mathlib.Core.List.{List, [], _∷_, cons≢nil}
 use Prim.Native.Nat.{ℕ, zero, suc, _+_}
 use lib.ListN.{set, List·getD-map}
@@ -8,11 +8,12 @@ use lib.Seq.{map-set-same, getD-set-other}
 use borrow.Author.Tests.{ne-eqb, eqb-true}
 use Rattle.meaning.specs.Field.{Field, labels, noField, labelAtLine, contentAtLine}
 use Rattle.meaning.specs.Refusals.{atLine, unknownSet, noSum}
+use Rattle.meaning.specs.Lines.{highBytes}
 use Rattle.meaning.specs.Groups.{State, first, Role, unknown, strayed, atSetLevel, member, next, labelFaults}
 use Rattle.meaning.specs.Missing.{missingFaults}
 use Rattle.meaning.specs.Rules.{labelIs, typeKnown, Profile, profile, rowsOf, roleIn, startFaults, fits, current, contentFaults, contentRules}
-use Rattle.meaning.specs.Rules.{lineRules, rulesFrom, sumFaults, ruleFaults, setFaults}
-use Rattle.meaning.proofs.FaultLaws.{append-none, none-both, ask-none, ask-last, cond-none}
+use Rattle.meaning.specs.Rules.{lineRules, rulesFrom, saysSevenBit, sevenBit, highFrom, highFaults, sumFaults, ruleFaults, setFaults}
+use Rattle.meaning.proofs.FaultLaws.{append-none, none-both, ask-none, ask-last, cond-none, Plain, highs-none, if-none, if-back, one-none, one-back}
 
 -- ---- one line
 
@@ -81,23 +82,61 @@ start-keep : (fs : List Field) (i : ℕ) (g : Field) → g .label ≡ labelAtLin
 unfolding startFaults
 start-keep fs i g e n = rw (labels-keep fs i g e, profile-keep fs i g n)
 
+-- ---- seven bits
+
+pub not-seven : (f : Field) → (f .label ≡ 9206 → ⊥) → saysSevenBit f ≡ false
+unfolding saysSevenBit
+not-seven f h = rw (ne-eqb (f .label) 9206 h)
+
+-- a line that is not 9206 says nothing of seven bits, whatever its content
+pub seven-keep : (fs : List Field) (i : ℕ) (g : Field) → g .label ≡ labelAtLine fs i → (g .label ≡ 9206 → ⊥) → sevenBit (set fs i g) ≡ sevenBit fs
+unfolding sevenBit
+seven-keep [] i g e h = refl
+seven-keep (f ∷ fs) zero g e h = rw (not-seven g h, not-seven f (λ q. h (e ∙ q)))
+seven-keep (f ∷ fs) (suc i) g e h = ap (λ (b : Bool). saysSevenBit f || b) (seven-keep fs i g e h)
+
+-- lines without a byte over 7Fh, of which one is given another content without one
+pub high-keep : (k : ℕ) (fs : List Field) (i : ℕ) (g : Field) → Plain (g .content) → highFrom k fs ≡ [] → highFrom k (set fs i g) ≡ []
+unfolding highFrom
+high-keep k [] i g p e = refl
+high-keep k (f ∷ fs) zero g p e = none-both _ _ (highs-none k 0 (g .content) p) (append-none (highBytes k 0 (f .content)) _ e .1)
+high-keep k (f ∷ fs) (suc i) g p e =
+    let a = append-none (highBytes k 0 (f .content)) _ e in
+    none-both _ _ (a .0) (high-keep (k + 1) fs i g p (a .1))
+
+-- no byte over 7Fh is faulty exactly if there is none, in a set with seven bits
+pub high-none : (fs : List Field) → (sevenBit fs ≡ true → highFrom 0 fs ≡ []) → highFaults fs ≡ []
+unfolding highFaults
+high-none fs h = if-none (sevenBit fs) _ (λ b. one-none (highFrom 0 fs) (h b))
+
+pub high-back : (fs : List Field) → highFaults fs ≡ [] → sevenBit fs ≡ true → highFrom 0 fs ≡ []
+unfolding highFaults
+high-back fs e b = one-back (highFrom 0 fs) (if-back (sevenBit fs) _ e b)
+
+seven-faults-keep : (fs : List Field) (i : ℕ) (g : Field) → g .label ≡ labelAtLine fs i → (g .label ≡ 9206 → ⊥) → (sevenBit fs ≡ true → Plain (g .content))
+    → highFaults fs ≡ [] → highFaults (set fs i g) ≡ []
+seven-faults-keep fs i g e h p q =
+    high-none (set fs i g) (λ b. let s : sevenBit fs ≡ true = sym (seven-keep fs i g e h) ∙ b in high-keep 0 fs i g (p s) (high-back fs q s))
+
 -- ---- all rules but the sum
 
 pub record Ruled (fs : List Field) : Type 0 where
   pub begins : startFaults fs ≡ []
   pub each-line : rulesFrom (profile fs) first 0 fs ≡ []
   pub none-missing : missingFaults (rowsOf (profile fs)) (labels fs) ≡ []
+  pub none-high : highFaults fs ≡ []
 
 pub ruled-of : (fs : List Field) → ruleFaults fs ≡ [] → Ruled fs
 unfolding ruleFaults
 ruled-of fs e =
     let a = append-none (startFaults fs) _ e in
     let b = append-none (rulesFrom (profile fs) first 0 fs) _ (a .1) in
-    record { begins = a .0; each-line = b .0; none-missing = b .1 }
+    let c = append-none (missingFaults (rowsOf (profile fs)) (labels fs)) _ (b .1) in
+    record { begins = a .0; each-line = b .0; none-missing = c .0; none-high = c .1 }
 
 pub no-rule-faults : (fs : List Field) → Ruled fs → ruleFaults fs ≡ []
 unfolding ruleFaults
-no-rule-faults fs r = rw (r .begins, r .each-line, r .none-missing)
+no-rule-faults fs r = rw (r .begins, r .each-line, r .none-missing) (r .none-high)
 
 pub ruled : (fs : List Field) → setFaults fs ≡ [] → Ruled fs × (sumFaults fs ≡ [])
 unfolding setFaults
@@ -107,14 +146,16 @@ pub unruled : (fs : List Field) → Ruled fs → sumFaults fs ≡ [] → setFaul
 unfolding setFaults
 unruled fs r e = none-both (ruleFaults fs) (sumFaults fs) (no-rule-faults fs r) e
 
--- one content for another that fits by itself keeps every rule but the sum
-pub ruled-keep : (fs : List Field) (i : ℕ) (g : Field) → g .label ≡ labelAtLine fs i → (0 ≡ i → ⊥) → Fit (profile fs) g → Ruled fs → Ruled (set fs i g)
-ruled-keep fs i g e n h r =
+-- one content for another that fits by itself keeps every rule but the sum; in a set with seven bits it has no byte over 7Fh
+pub ruled-keep : (fs : List Field) (i : ℕ) (g : Field) → g .label ≡ labelAtLine fs i → (0 ≡ i → ⊥) → (g .label ≡ 9206 → ⊥) → Fit (profile fs) g
+    → (sevenBit fs ≡ true → Plain (g .content)) → Ruled fs → Ruled (set fs i g)
+ruled-keep fs i g e n s h p7 r =
     let p : profile (set fs i g) ≡ profile fs = profile-keep fs i g n in
     record {
       begins = rw (start-keep fs i g e n) (r .begins);
       each-line = rw p (rules-keep (profile fs) first 0 fs i g e h (r .each-line));
       none-missing = rw (p, labels-keep fs i g e) (r .none-missing);
+      none-high = seven-faults-keep fs i g e s p7 (r .none-high);
     }
 
 -- ---- lines 1 and 2

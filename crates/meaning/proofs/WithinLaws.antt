@@ -1,25 +1,27 @@
 -- The place of a set's own refusal lies within the bytes given. These laws are about one set alone.
-use mathlib.Core.Path.{_≡_, refl, ap, _∙_}
+use mathlib.Core.Path.{_≡_, refl, sym, ap, _∙_}
 use mathlib.Core.Bool.{Bool, true, false, cond, not, _&&_, _||_}
 use mathlib.Core.List.{List, [], _∷_, _++_}
 use Prim.Native.Nat.{ℕ, zero, suc, _+_, _-_, _≤_}
 use native.Mathlib.Omega.{arith}
 use lib.Dec.{leb, eqb}
-use lib.ListN.{length, drop, length-take, length-drop}
+use lib.ListN.{length, take, drop, length-take, length-drop}
+use lib.Seq.{drop-drop}
 use Rattle.meaning.specs.declared.Refusal.{Refusal}
 use Rattle.meaning.specs.declared.Row.{Row}
 use Rattle.meaning.specs.Limits.{maxLines}
 use Rattle.meaning.specs.Digits.{number}
 use Rattle.meaning.specs.Field.{Field, labels, elem, isNil, contentAtLine}
 use Rattle.meaning.specs.Refusals.{start, Fault, atLine, atByte, ask, behind, Reply, refused, done, refusal, verdict, empty, badLength, cutLine, badEnd, badLabel, badByte}
-use Rattle.meaning.specs.Refusals.{tooManyLines, noStart, unknownSet, noSum, repeated, badContent, otherVersion, missing, badSum}
+use Rattle.meaning.specs.Refusals.{tooManyLines, noStart, unknownSet, noSum, repeated, badContent, otherVersion, missing, badSum, highByte}
 use Rattle.meaning.specs.Pieces.{Parsed, parsed, andBefore, pieceThen, pieces}
-use Rattle.meaning.specs.Lines.{lineLead, leastByte, size, offset, sizeAt, contentAt, fieldAt, lowBytes, lengthOk, wholeOk, endOk, labelOk, lineFaults, setOver, lineForm}
+use Rattle.meaning.specs.Lines.{lineLead, leastByte, lineSize, size, offset, sizeAt, contentAt, fieldAt, lowBytes, lengthOk, wholeOk, endOk, labelOk, lineFaults}
+use Rattle.meaning.specs.Lines.{mostSevenBits, highBytes, setOver, lineForm}
 use Rattle.meaning.specs.Groups.{State, first, Role, unknown, strayed, atSetLevel, member, role, next, after, labelFaults, noHeader, stays}
 use Rattle.meaning.specs.Tables.{setLevel, find}
 use Rattle.meaning.specs.Missing.{needed, rowsUnder, ascending, missingLabel, lackingOf, lacking, among, openLacking, groupsLacking, missingFaults}
 use Rattle.meaning.specs.Rules.{Profile, profile, rowsOf, roleIn, labelIs, typeKnown, startFaults, fits, current, contentFaults, contentRules}
-use Rattle.meaning.specs.Rules.{lineRules, rulesFrom, sumFaults, ruleFaults, setFaults}
+use Rattle.meaning.specs.Rules.{lineRules, rulesFrom, sevenBit, highFrom, highFaults, sumFaults, ruleFaults, setFaults}
 use Rattle.meaning.specs.Reading.{scan, inSet, byRules, read}
 use Rattle.meaning.proofs.Bools.{Every}
 use Rattle.meaning.proofs.LineLaws.{whole, length-render}
@@ -89,7 +91,7 @@ within-scan s =
     (more-within (0 + length s) (length s) (pieceThen lineForm (lineFaults s) 0 s k) (omega arith)
     (within-line (lineFaults s) 0 s k refl (near-line s) (λ p t. within-pieces (maxLines - 1) p t)))
 
--- ---- the rules: every fault is at a line's first byte
+-- ---- the rules but 24: every fault is at a line's first byte
 
 abbrev AtStarts : List Fault → Type 0
 AtStarts xs = Every (λ x. x .spot ≡ start) xs
@@ -175,14 +177,6 @@ starts-missing rs ls =
     let has : ℕ → Bool = among (after rs first 0 ls .top) in
     starts-append (lacking rs setLevel 0 has) _ (starts-lacking rs setLevel 0 has) (starts-groups rs first 0 ls)
 
-starts-set : (fs : List Field) → AtStarts (setFaults fs)
-unfolding setFaults ruleFaults sumFaults
-starts-set fs =
-    starts-append (ruleFaults fs) (sumFaults fs)
-    (starts-append (startFaults fs) _ (starts-start fs)
-    (starts-append (rulesFrom (profile fs) first 0 fs) _ (starts-rules (profile fs) first 0 fs) (starts-missing (rowsOf (profile fs)) (labels fs))))
-    (starts-ask (eqb (number (contentAtLine fs 1)) (size fs)) badSum 1 0)
-
 -- ---- their places, and all together
 
 -- a line's offset is at most the length of all lines
@@ -191,9 +185,62 @@ offset-within fs zero = omega arith
 offset-within [] (suc k) = omega arith
 offset-within (f ∷ fs) (suc k) = omega (arith, offset-within fs k)
 
-within-verdict : (fs : List Field) (xs : List Fault) (d : Parsed) → AtStarts xs → Within (size fs) (verdict (inSet fs) xs d)
+-- every fault has a place in the set, or right after it
+abbrev Placed : List Field → List Fault → Type 0
+Placed fs xs = Every (λ x. inSet fs (x .line) (x .spot) ≤ size fs) xs
+
+placed-append : (fs : List Field) (a b : List Fault) → Placed fs a → Placed fs b → Placed fs (a ++ b)
+placed-append fs [] b h k = k
+placed-append fs (x ∷ a) b h k = (h .0, placed-append fs a b (h .1) k)
+
+placed-starts : (fs : List Field) (xs : List Fault) → AtStarts xs → Placed fs xs
+placed-starts fs [] h = tt
+placed-starts fs (x ∷ xs) h = (rw (h .0) (omega (arith, offset-within fs (x .line))), placed-starts fs xs (h .1))
+
+-- ---- 24: a byte that is there
+
+placed-highs : (fs : List Field) (k i : ℕ) (c : List ℕ) → offset fs k + (lineLead + i + length c) ≤ size fs → Placed fs (highBytes k i c)
+placed-highs fs k i [] h = tt
+placed-highs fs k i (b ∷ c) h = go (leb b mostSevenBits) (placed-highs fs k (suc i) c (omega arith))
+  where
+    go : (t : Bool) → Placed fs (highBytes k (suc i) c) → Placed fs (ask t (atByte highByte k i) ++ highBytes k (suc i) c)
+    go true p = p
+    go false p = (omega arith, p)
+
+-- the lines before one and those from it on are all lines
+lines-split : (fs : List Field) (k : ℕ) → offset fs k + size (drop k fs) ≡ size fs
+lines-split fs zero = omega arith
+lines-split [] (suc k) = refl
+lines-split (f ∷ fs) (suc k) = omega (arith, lines-split fs k)
+
+-- of the lines gs, which are those of all that have k lines before them
+placed-high-from : (all : List Field) (k : ℕ) (gs : List Field) → drop k all ≡ gs → Placed all (highFrom k gs)
+unfolding highFrom
+placed-high-from all k [] e = tt
+placed-high-from all k (f ∷ fs) e =
+    let n : size (drop k all) ≡ lineSize f + size fs = ap size e in
+    placed-append all (highBytes k 0 (f .content)) _ (placed-highs all k 0 (f .content) (omega (arith, lines-split all k)))
+    (placed-high-from all (k + 1) fs (sym (drop-drop 1 k all) ∙ ap (drop 1) e))
+
+placed-one : (fs : List Field) (b : Bool) (xs : List Fault) → Placed fs xs → Placed fs (cond b (take 1 xs) [])
+placed-one fs false xs h = tt
+placed-one fs true [] h = tt
+placed-one fs true (x ∷ xs) h = (h .0, tt)
+
+placed-set : (fs : List Field) → Placed fs (setFaults fs)
+unfolding setFaults ruleFaults highFaults sumFaults
+placed-set fs =
+    let r : List Fault = rulesFrom (profile fs) first 0 fs in
+    let m : List Fault = missingFaults (rowsOf (profile fs)) (labels fs) in
+    placed-append fs (ruleFaults fs) (sumFaults fs)
+    (placed-append fs (startFaults fs) _ (placed-starts fs (startFaults fs) (starts-start fs))
+    (placed-append fs r _ (placed-starts fs r (starts-rules (profile fs) first 0 fs))
+    (placed-append fs m _ (placed-starts fs m (starts-missing (rowsOf (profile fs)) (labels fs))) (placed-one fs (sevenBit fs) (highFrom 0 fs) (placed-high-from fs 0 fs refl)))))
+    (placed-starts fs (sumFaults fs) (starts-ask (eqb (number (contentAtLine fs 1)) (size fs)) badSum 1 0))
+
+within-verdict : (fs : List Field) (xs : List Fault) (d : Parsed) → Placed fs xs → Within (size fs) (verdict (inSet fs) xs d)
 within-verdict fs [] d h = tt
-within-verdict fs (x ∷ xs) d h = rw (h .0) (omega (arith, offset-within fs (x .line)))
+within-verdict fs (x ∷ xs) d h = h .0
 
 within-read : (s : List ℕ) → Within (length s) (read s)
 unfolding read
@@ -204,7 +251,7 @@ within-read s = go (scan s) refl (within-scan s)
     go (done d) e h =
         let m : length s ≡ size (d .fields) + length (d .rest) = ap length (scanned s (d .fields) (d .rest) e .bytes) ∙ length-render (d .fields) (d .rest) in
         more-within (size (d .fields)) (length s) (verdict (inSet (d .fields)) (setFaults (d .fields)) d) (omega arith)
-        (within-verdict (d .fields) (setFaults (d .fields)) d (starts-set (d .fields)))
+        (within-verdict (d .fields) (setFaults (d .fields)) d (placed-set (d .fields)))
 
 -- the place of a set's own refusal is at most the length of the bytes given: at a byte, or right after the last
 pub refused-within : (s : List ℕ) (r : Refusal) → read s ≡ refused r → r .place ≤ length s

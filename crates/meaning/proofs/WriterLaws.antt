@@ -108,11 +108,11 @@ single-known : (k : Known) → isKnown k ≡ true → Single 8000 (find (tableOf
 single-known (Of t) e = single-8000 t
 single-known Nothing e = absurd (true≢false (sym e))
 
-role-at-set-level : (o : Option Row) (r : Row) (h l : ℕ) → o ≡ some r → r .under ≡ 0 → role o h l ≡ atSetLevel r
+pub role-at-set-level : (o : Option Row) (r : Row) (h l : ℕ) → o ≡ some r → r .under ≡ 0 → role o h l ≡ atSetLevel r
 unfolding role roleOf
 role-at-set-level o r h l q u = rw (q, u)
 
-top-keep : (o : Role) (st : State) (k m l : ℕ) → elem l (st .top) ≡ true → elem l (next o st k m .top) ≡ true
+pub top-keep : (o : Role) (st : State) (k m l : ℕ) → elem l (st .top) ≡ true → elem l (next o st k m .top) ≡ true
 unfolding next elem
 top-keep unknown st k m l e = e
 top-keep strayed st k m l e = e
@@ -123,7 +123,8 @@ not-again : (r : Row) (p : Profile) (st : State) (k l : ℕ) (f : Field) → r .
 unfolding lineRules labelFaults
 not-again r p st k l f n o e h = cons≢nil (rw (n, o, e) at (append-none (labelFaults (atSetLevel r) st k (f .label)) _ h .0))
 
-once : (p : Profile) (st : State) (k l : ℕ) (fs : List Field) → Single l (find (rowsOf p) l) → elem l (st .top) ≡ true → rulesFrom p st k fs ≡ []
+-- a label that is single at set level and has stood there stands on no later line
+pub once : (p : Profile) (st : State) (k l : ℕ) (fs : List Field) → Single l (find (rowsOf p) l) → elem l (st .top) ≡ true → rulesFrom p st k fs ≡ []
     → Every (λ f. f .label ≡ l → ⊥) fs
 unfolding rulesFrom
 once p st k l [] s e h = tt
@@ -134,7 +135,7 @@ once p st k l (f ∷ fs) s e h =
       once p (next (roleIn p st f) st k (f .label)) (k + 1) l fs s (top-keep (roleIn p st f) st k (f .label) l e) (a .1),
     )
 
-top-has : (o : Role) (r : Row) (st : State) (k l m : ℕ) → o ≡ atSetLevel r → r .label ≡ l → elem l (next o st k m .top) ≡ true
+pub top-has : (o : Role) (r : Row) (st : State) (k l m : ℕ) → o ≡ atSetLevel r → r .label ≡ l → elem l (next o st k m .top) ≡ true
 unfolding next elem
 top-has o r st k l m q e = rw (q, eq-eqb l (r .label) (sym e))
 

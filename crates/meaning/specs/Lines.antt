@@ -1,4 +1,4 @@
--- "Line and set": how a line is written, what is wrong with the line at the front of some bytes (2 to 6), where a set ends.
+-- "Line and set": how a line is written, what is wrong with the line at the front of some bytes (2 to 6), the bytes of 24, where a set ends.
 use mathlib.Core.Bool.{Bool, _&&_, _||_}
 use mathlib.Core.List.{List, [], _∷_, _++_}
 use Prim.Native.Nat.{ℕ, suc, _+_, _-_}
@@ -6,7 +6,7 @@ use lib.ListN.{length, take, drop, getD}
 use lib.Dec.{leb, eqb}
 use Rattle.meaning.specs.Digits.{digits, number, allDigits}
 use Rattle.meaning.specs.Field.{Field, field, isNil}
-use Rattle.meaning.specs.Refusals.{Fault, atLine, atByte, ask, badLength, cutLine, badEnd, badLabel, badByte}
+use Rattle.meaning.specs.Refusals.{Fault, atLine, atByte, ask, badLength, cutLine, badEnd, badLabel, badByte, highByte}
 use Rattle.meaning.specs.Pieces.{Form, putAll}
 
 -- ---- writing
@@ -82,7 +82,7 @@ endOk s = eqb (getD s (sizeAt s - 2) 0) cr && eqb (getD s (sizeAt s - 1) 0) lf
 abbrev pub labelOk : List ℕ → Bool
 labelOk s = allDigits (take labelDigits (drop lengthDigits s))
 
--- "Content bytes are 20h to FFh." No byte is over FFh.
+-- "Content bytes are 20h to FFh." No byte is over FFh. In a set with 9206 = 1 they end at 7Fh (24, `Rules.highFaults`).
 abbrev pub leastByte : ℕ
 leastByte = 32
 
@@ -90,6 +90,15 @@ leastByte = 32
 abbrev pub lowBytes : ℕ → ℕ → List ℕ → List Fault
 lowBytes k i [] = []
 lowBytes k i (b ∷ bs) = ask (leb leastByte b) (atByte badByte k i) ++ lowBytes k (suc i) bs
+
+-- "no content byte anywhere in it may exceed 7Fh"
+abbrev pub mostSevenBits : ℕ
+mostSevenBits = 127
+
+-- 24, HighByte: a fault for each byte over 7Fh of a content; k and i as in `lowBytes`
+abbrev pub highBytes : ℕ → ℕ → List ℕ → List Fault
+highBytes k i [] = []
+highBytes k i (b ∷ bs) = ask (leb b mostSevenBits) (atByte highByte k i) ++ highBytes k (suc i) bs
 
 -- what is wrong with the line at the front: "each by .. 2, 3, 4, 5, 6". A test may rely on those before it; only the first fault is given.
 unfoldable pub lineFaults : List ℕ → List Fault

@@ -49,7 +49,7 @@ abbrev pub withSum : List Field → List Field
 withSum [] = []
 withSum (f ∷ fs) = f ∷ sumField (lineSize f + (sumLine + size fs)) ∷ fs
 
--- "Places are offsets in the list, of the entry's first byte, for 6 of the byte; the place for a missing set field is 0": line 2 has no entry, so the line that has k lines
+-- "Places are offsets in the list, of the entry's first byte, for 6 of the byte", for 24 too; "the place for a missing set field is 0": line 2 has no entry, so the line that has k lines
 -- before it is the entry that has one fewer before it; line 1 is the first entry
 abbrev pub inList : List Field → ℕ → Spot → ℕ
 inList es k spot = listSize (take (pred k) es) + behind entryLead spot
@@ -58,7 +58,7 @@ inList es k spot = listSize (take (pred k) es) + behind entryLead spot
 abbrev pub setWithRoom : List Field → ℕ → Reply (List ℕ)
 setWithRoom fs room = withRoom (leb (size fs) room && leb (size fs) maxSetBytes) (size fs) (render fs [])
 
--- "then 8, 9, and 11 to 16 as above; then 22": line 2 is put in first, so 10 is never given, and "8100, or 8000 after the first entry, is Repeated"
+-- "then 8, 9, and 11 to 16 as above", and 24 after 16 ("Writer and views follow"); "then 22": line 2 is put in first, so 10 is never given, and "8100, or 8000 after the first entry, is Repeated"
 abbrev pub written : ℕ → List Field → Reply (List ℕ)
 written room es = thenTo (verdict (inList es) (ruleFaults (withSum es)) (withSum es)) (λ fs. setWithRoom fs room)
 

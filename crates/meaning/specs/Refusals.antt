@@ -1,8 +1,9 @@
 -- "Numbered replies": the numbers by name, faults, and the reply that the first fault of a list makes.
 -- `Refusal::numbers` is proved to say the same numbers.
-use mathlib.Core.Bool.{Bool, true, false}
+use mathlib.Core.Bool.{Bool, true, false, _||_}
 use mathlib.Core.List.{List, [], _∷_}
 use Prim.Native.Nat.{ℕ, _+_}
+use lib.Dec.{eqb}
 use Rattle.meaning.specs.declared.Refusal.{Refusal}
 
 abbrev pub empty : ℕ
@@ -74,10 +75,14 @@ noRoom = 22
 abbrev pub tooManySets : ℕ
 tooManySets = 23
 
+abbrev pub highByte : ℕ
+highByte = 24
+
 abbrev pub numbers : List ℕ
 numbers =
     empty ∷ badLength ∷ cutLine ∷ badEnd ∷ badLabel ∷ badByte ∷ tooManyLines ∷ noStart ∷ unknownSet ∷ noSum ∷ notInSet
-    ∷ stray ∷ repeated ∷ badContent ∷ otherVersion ∷ missing ∷ badSum ∷ badUse ∷ noSuchLine ∷ fixedLine ∷ badList ∷ noRoom ∷ tooManySets ∷ []
+    ∷ stray ∷ repeated ∷ badContent ∷ otherVersion ∷ missing ∷ badSum ∷ badUse ∷ noSuchLine ∷ fixedLine ∷ badList ∷ noRoom ∷ tooManySets
+    ∷ highByte ∷ []
 
 abbrev pub refusal : ℕ → ℕ → ℕ → Refusal
 refusal n p l = record { no = n; place = p; label = l }
@@ -105,6 +110,10 @@ atLine n k l = record { no = n; line = k; spot = start; label = l }
 -- "place is that byte"
 abbrev pub atByte : ℕ → ℕ → ℕ → Fault
 atByte n k i = record { no = n; line = k; spot = byte i; label = 0 }
+
+-- 6 and 24 are placed at a byte of a content
+unfoldable pub tellsByte : ℕ → Bool
+tellsByte n = eqb n badByte || eqb n highByte
 
 -- a rule: no fault if its test holds, else this one
 abbrev pub ask : Bool → Fault → List Fault

@@ -1,19 +1,19 @@
--- "Numbered replies", 8 to 17, over the lines of a set, in the paper's order.
--- 8 to 16 see three things only: the profile, the labels, and each content by itself. 17 sees line 2 and all lengths.
+-- "Numbered replies", 8 to 17, and 24 between 16 and 17, over the lines of a set, in the paper's order.
+-- 8 to 16 see three things only: the profile, the labels, and each content by itself. 24 sees what 9206 says and each content by itself, 17 line 2 and all lengths.
 use mathlib.Core.Bool.{Bool, true, false, cond, not, _&&_, _||_}
 use mathlib.Core.List.{List, [], _∷_, _++_}
 use Prim.Native.Nat.{ℕ, _+_}
-use lib.ListN.{length, getD}
+use lib.ListN.{length, take, getD}
 use lib.Dec.{eqb}
 use Rattle.meaning.specs.declared.Row.{Row}
 use Rattle.meaning.specs.declared.Known.{Known}
 use Rattle.meaning.specs.declared.Known.the-variants.{Of, Nothing}
 use Rattle.meaning.specs.Limits.{typeOf}
-use Rattle.meaning.specs.Digits.{number, allDigits}
+use Rattle.meaning.specs.Digits.{digits, number, allDigits}
 use Rattle.meaning.specs.Field.{Field, labels, contentAtLine}
-use Rattle.meaning.specs.Lines.{size}
+use Rattle.meaning.specs.Lines.{size, highBytes}
 use Rattle.meaning.specs.Refusals.{Fault, atLine, ask, noStart, unknownSet, noSum, badContent, otherVersion, badSum}
-use Rattle.meaning.specs.Kinds.{is0210}
+use Rattle.meaning.specs.Kinds.{sameBytes, is0210}
 use Rattle.meaning.specs.FieldTable.{fitsLabel}
 use Rattle.meaning.specs.Tables.{table, find}
 use Rattle.meaning.specs.Groups.{State, first, Role, unknown, strayed, atSetLevel, member, role, next, labelFaults}
@@ -66,8 +66,8 @@ startFaults fs =
 
 -- ---- 11 to 15: "then all lines, in order, each by 11, 12, 13, 14, 15"
 
--- Here and below the profile p is given to the rules of contents, and none of them uses it: one field table serves all set types. A rule that depends on what the fixed lines
--- choose would read it here.
+-- Here and below the profile p is given to the rules of contents, and none of them uses it: one field table serves all set types. A rule of 11 to 15 that depends on what the fixed
+-- lines choose would read it here. What 9206 chooses is asked by 24 alone, of all lines at once.
 
 -- a field whose content fits its label
 unfoldable pub fits : Profile → Field → Bool
@@ -99,6 +99,26 @@ unfoldable pub rulesFrom : Profile → State → ℕ → List Field → List Fau
 rulesFrom p st k [] = []
 rulesFrom p st k (f ∷ fs) = lineRules (roleIn p st f) p st k f ++ rulesFrom p (next (roleIn p st f) st k (f .label)) (k + 1) fs
 
+-- ---- 24: "Seven bits means seven bits" (request E2)
+
+-- "9206 with content 1"
+unfoldable pub saysSevenBit : Field → Bool
+saysSevenBit f = eqb (f .label) 9206 && sameBytes (f .content) (digits 1 1)
+
+-- "If a set holds 9206 with content 1"
+unfoldable pub sevenBit : List Field → Bool
+sevenBit [] = false
+sevenBit (f ∷ fs) = saysSevenBit f || sevenBit fs
+
+-- a fault for each content byte over 7Fh of these lines, in their order; k lines stand before the first of these lines
+unfoldable pub highFrom : ℕ → List Field → List Fault
+highFrom k [] = []
+highFrom k (f ∷ fs) = highBytes k 0 (f .content) ++ highFrom (k + 1) fs
+
+-- HighByte: "no content byte anywhere in it may exceed 7Fh"; "place of the first such byte": one fault for the set, whatever the number of such bytes (request E9: "once")
+unfoldable pub highFaults : List Field → List Fault
+highFaults fs = cond (sevenBit fs) (take 1 (highFrom 0 fs)) []
+
 -- ---- 17
 
 -- BadSum: "8100 is not the set's length", "place of line 2". "8100 has five digits, the sum of all line lengths of the set, its own included."
@@ -107,12 +127,13 @@ sumFaults fs = ask (eqb (number (contentAtLine fs 1)) (size fs)) (atLine badSum 
 
 -- ---- all of them, in order
 
--- "then 8, 9, 10; then all lines, in order, each by 11, 12, 13, 14, 15; then 16": the rules that reader and writer share
+-- "then 8, 9, 10; then all lines, in order, each by 11, 12, 13, 14, 15; then 16"; then 24, "after Missing and before BadSum": the rules that reader and writer share
 unfoldable pub ruleFaults : List Field → List Fault
 ruleFaults fs =
     startFaults fs
     ++ (rulesFrom (profile fs) first 0 fs
-    ++ missingFaults (rowsOf (profile fs)) (labels fs))
+    ++ (missingFaults (rowsOf (profile fs)) (labels fs)
+    ++ highFaults fs))
 
 -- "then 17": in the reader alone, since the writer computes the sum
 unfoldable pub setFaults : List Field → List Fault

@@ -19,11 +19,11 @@ use Rattle.meaning.specs.Corrections.{aloneFaults, lineNumberFaults, cha
 
 -- ---- the sheet
 
--- "then each sheet entry by 21 (cut only), 19, 20, 6, 14"
+-- "then each sheet entry by 21 (cut only), 19, 20, 6, 14", and 24 after 14
 unfoldable pub sheetEntryFaults : List Field → List ℕ → List Fault
 sheetEntryFaults fs s = ask (entryWhole s) (atLine badList 0 0) ++ changeFaults fs (entryLabel s) (entryContent s)
 
--- the entries of a sheet for the lines fs; "places in the sheet (the entry's first byte, for 6 the byte)"
+-- the entries of a sheet for the lines fs; "places in the sheet (the entry's first byte, for 6 the byte)", for 24 the byte too
 abbrev pub sheetForm : List Field → Form
 sheetForm fs = record { faults = sheetEntryFaults fs; piece = entryField; width = entryWidth; over = isNil; lead = entryLead; put = entryThen }
 

@@ -2,7 +2,7 @@
 // Each function here says in its contract which definition of specs/ it equals.
 ghost use mathlib.Core.Path.{_≡_};
 ghost use Rattle.meaning.specs.Limits.{limits, typeOf, typeNumber};
-ghost use Rattle.meaning.specs.Refusals.{numbers, refusal};
+ghost use Rattle.meaning.specs.Refusals.{numbers, refusal, tellsByte};
 ghost use Rattle.meaning.specs.Answers.{noRefusal};
 
 // A byte has this many values.
@@ -59,6 +59,11 @@ pub const LINE_OVER_ENTRY: usize = LINE_FRAME - ENTRY_LEAD;
 pub const LABEL_8000: usize = 8000;
 
 pub const LABEL_8100: usize = 8100;
+
+// The character set, and what it holds in a set of seven bits: "9206 with content 1".
+pub const LABEL_9206: usize = 9206;
+
+pub const SEVEN_BITS: u8 = DIGIT_ZERO + 1;
 
 // The version.
 pub const LABEL_9218: usize = 9218;
@@ -222,8 +227,10 @@ impl Refusal {
 
     pub const TOO_MANY_SETS: usize = 23;
 
+    pub const HIGH_BYTE: usize = 24;
+
     // Called by nobody: its proof says that the numbers are those of specs/, in the paper's order.
-    pub fn numbers() -> [usize; 23]
+    pub fn numbers() -> [usize; 24]
         ensures { λ r. ⌜ r ≡ numbers ⌝ }
     {
         [
@@ -250,6 +257,7 @@ impl Refusal {
             Refusal::BAD_LIST,
             Refusal::NO_ROOM,
             Refusal::TOO_MANY_SETS,
+            Refusal::HIGH_BYTE,
         ]
     }
 
@@ -268,6 +276,17 @@ impl Refusal {
             no,
             place,
             label: 0,
+        }
+    }
+
+    // 6 and 24 are placed at a byte of a content, not at the line's first byte.
+    pub fn tells_byte(no: usize) -> bool
+        ensures { λ r. ⌜ r ≡ tellsByte no ⌝ }
+    {
+        match no {
+            Refusal::BAD_BYTE => true,
+            Refusal::HIGH_BYTE => true,
+            _ => false,
         }
     }
 }

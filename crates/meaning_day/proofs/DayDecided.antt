@@ -39,7 +39,7 @@ index : List ℕ
 unfolding entry1 entry2 entry3
 index = entry1 ++ entry2 ++ entry3
 
--- sets with a fault: 17 at 13, 16 at 0 (label 3000), 10 at their end, 6 at 49, 2 at 0
+-- sets with a fault: 17 at 13, 16 at 0 (label 3000), 10 at their end, 6 at 49, 24 at 59, 2 at 0
 wrongSum : List ℕ
 wrongSum = text "01380006300\r\n014810000052\r\n014921802.10\r\n01030000\r\n"
 
@@ -52,13 +52,16 @@ oneLine = text "01380006300\r\n"
 lowByte : List ℕ
 lowByte = setOf (line 8000 "6300" ∷ line 9218 "02.10" ∷ field 3000 (32 ∷ 31 ∷ []) ∷ [])
 
+highByte : List ℕ
+highByte = setOf (line 8000 "6300" ∷ line 9206 "1" ∷ line 9218 "02.10" ∷ field 3000 (77 ∷ 128 ∷ []) ∷ [])
+
 noLength : List ℕ
 noLength = text "xyz8000"
 
 -- ---- building
 
 buildings : List DayExample
-unfolding p q entry1 entry2 day index wrongSum noPatient lowByte noLength
+unfolding p q entry1 entry2 day index wrongSum noPatient lowByte highByte noLength
 buildings =
     -- E1i: four numbers a set; all others stay as they were; one to three numbers after the last four are no room
     example (building day (replicate 13 before)) (holds 3 (index ++ (before ∷ [])))
@@ -73,6 +76,7 @@ buildings =
     ∷ example (building (p ++ wrongSum) (replicate 8 before)) (refusedBy 17 64 0)
     ∷ example (building (p ++ noPatient) (replicate 8 before)) (refusedBy 16 51 3000)
     ∷ example (building (p ++ lowByte) (replicate 8 before)) (refusedBy 6 100 0)
+    ∷ example (building (p ++ highByte) (replicate 8 before)) (refusedBy 24 110 0)
     ∷ example (building (wrongSum ++ noLength) (replicate 8 before)) (refusedBy 17 13 0)
     ∷ example (building (p ++ noLength) []) (refusedBy 2 51 0)
     ∷ example (building (p ++ q) []) (refusedBy 22 2 0)
@@ -86,13 +90,13 @@ buildings =
     ∷ example (setsUpTo 0 []) (holds 0 []) ∷ []
 
 buildings-decided : asked buildings ≡ expected buildings
-unfolding computes dayComputes answer dayAnswer buildings p q entry1 entry2 entry3 day index wrongSum noPatient lowByte noLength
+unfolding computes dayComputes answer dayAnswer buildings p q entry1 entry2 entry3 day index wrongSum noPatient lowByte highByte noLength
 buildings-decided = refl
 
 -- ---- appending
 
 appends : List DayExample
-unfolding p q entry1 entry2 day index wrongSum noPatient oneLine lowByte noLength
+unfolding p q entry1 entry2 day index wrongSum noPatient oneLine lowByte highByte noLength
 appends =
     -- just what building gives, whatever stands after the old index; also if both are refused
     example (appending (p ++ q) 51 (entry1 ++ replicate 6 before) 1) (holds 2 (entry1 ++ entry2 ++ replicate 2 before))
@@ -111,6 +115,7 @@ appends =
     ∷ example (appending (p ++ noPatient) 51 [] 2048) (refusedBy 16 51 3000)
     ∷ example (appending (p ++ oneLine) 51 [] 2048) (refusedBy 10 64 0)
     ∷ example (appending (p ++ lowByte) 51 [] 2048) (refusedBy 6 100 0)
+    ∷ example (appending (p ++ highByte) 51 [] 2048) (refusedBy 24 110 0)
     ∷ example (appending (p ++ wrongSum ++ p) 51 [] 2048) (refusedBy 17 64 0)
     ∷ example (appending (p ++ q ++ noLength) 51 [] 2048) (refusedBy 18 65 0)
     ∷ example (appending (p ++ q) 51 [] 2048) (refusedBy 23 51 0)
@@ -137,7 +142,7 @@ appends =
     ∷ example (building (p ++ text "01092062\r\n") (entry1 ++ replicate 4 before)) (refusedBy 17 13 0) ∷ []
 
 appends-decided : asked appends ≡ expected appends
-unfolding computes dayComputes answer dayAnswer appends p q entry1 entry2 entry3 day index wrongSum noPatient oneLine lowByte noLength
+unfolding computes dayComputes answer dayAnswer appends p q entry1 entry2 entry3 day index wrongSum noPatient oneLine lowByte highByte noLength
 appends-decided = refl
 
 -- ---- looking up

@@ -1,4 +1,4 @@
--- Which numbers each call of the day file can refuse with: building 2 to 17, 22 and 23; appending 1 to 18, 22 and 23; a lookup 22 alone. Building never gives 1: "a file of no bytes has
+-- Which numbers each call of the day file can refuse with: building 2 to 17 and 22 to 24; appending 1 to 18 and 22 to 24; a lookup 22 alone. Building never gives 1: "a file of no bytes has
 -- none", and what stands after a set has bytes.
 use mathlib.Core.Path.{_≡_, refl, sym, ap, subst}
 use mathlib.Core.List.{List, [], _∷_, _++_}
@@ -17,7 +17,7 @@ use Rattle.meaning.proofs.NumberLaws.{Numbered, OneOf}
 use Rattle.breaches.specs.Breaches.{LineBreach, too-many, bad-length, cut-line, bad-end, bad-label, low-byte, lineRefusal}
 use Rattle.breaches.specs.Breaches.{StartBreach, no-start, unknown-set, no-sum, startRefusal, MissingBreach, of-set, of-group, of-name, missingRefusal}
 use Rattle.breaches.specs.Breaches.{RuleBreach, not-in-set, stray-member, stray-odd, repeated-in-set, repeated-in-group, bad-content, other-version, ruleNumber}
-use Rattle.breaches.specs.Breaches.{Breach, no-bytes, in-line, in-start, in-rules, in-missing, in-sum, refusalOf}
+use Rattle.breaches.specs.Breaches.{Breach, no-bytes, in-line, in-start, in-rules, in-missing, in-high, in-sum, refusalOf}
 use Rattle.meaning_day.specs.declared.DayEntry.{DayEntry}
 use Rattle.meaning_day.specs.Days.{build, append, lookup}
 use Rattle.theory_day.specs.DayBreaches.{OwnRefusal, BuildRefused, own-refusal, no-room, AppendRefused, old-over, another-set}
@@ -27,9 +27,9 @@ use Rattle.theory_day.proofs.LookupExact.{lookup-refused-with}
 
 -- ---- a set's own refusals
 
--- of bytes that are some: 2 to 17
+-- of bytes that are some: 2 to 17 and 24
 abbrev pub setNumbers : List ℕ
-setNumbers = 2 ∷ 3 ∷ 4 ∷ 5 ∷ 6 ∷ 7 ∷ 8 ∷ 9 ∷ 10 ∷ 11 ∷ 12 ∷ 13 ∷ 14 ∷ 15 ∷ 16 ∷ 17 ∷ []
+setNumbers = 2 ∷ 3 ∷ 4 ∷ 5 ∷ 6 ∷ 7 ∷ 8 ∷ 9 ∷ 10 ∷ 11 ∷ 12 ∷ 13 ∷ 14 ∷ 15 ∷ 16 ∷ 17 ∷ 24 ∷ []
 
 -- and whatever else a call gives
 module _ (more : List ℕ) where
@@ -75,6 +75,7 @@ module _ (more : List ℕ) where
   own-number s (in-start fs rest l b) h = start-number fs b
   own-number s (in-rules t fs rest l k i b) h = rule-number t fs k b
   own-number s (in-missing t fs rest l b) h = missing-number t fs b
+  own-number s (in-high fs rest l v k i a b e) h = refl
   own-number s (in-sum fs rest l e) h = refl
 
   any-number : (s : List ℕ) (b : Breach s) → OneOf (1 ∷ (setNumbers ++ more)) (refusalOf b .no)
@@ -84,6 +85,7 @@ module _ (more : List ℕ) where
   any-number s (in-start fs rest l b) = or-right (eqb (startRefusal b .no) 1) (start-number fs b)
   any-number s (in-rules t fs rest l k i b) = or-right (eqb (ruleNumber b) 1) (rule-number t fs k b)
   any-number s (in-missing t fs rest l b) = or-right (eqb (missingRefusal b .no) 1) (missing-number t fs b)
+  any-number s (in-high fs rest l v k i a b e) = refl
   any-number s (in-sum fs rest l e) = refl
 
 -- ---- the calls

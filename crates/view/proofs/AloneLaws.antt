@@ -23,7 +23,7 @@ use Rattle.meaning.specs.Lines.{offset, size}
 use Rattle.meaning.specs.Reading.{shape, inSet, read, judged, judge}
 use Rattle.meaning.specs.Corrections.{aloneFaults, lineNumberFaults}
 use Rattle.meaning.specs.Views.{sheet, latest, shownPart, viewAnswer, viewing, viewed}
-use Rattle.meaning.proofs.Bools.{and-left, and-right}
+use Rattle.meaning.proofs.Bools.{nil-is, and-left, and-right}
 use Rattle.meaning.proofs.LineLaws.{length-render}
 use Rattle.meaning.proofs.SetLaws.{accepted}
 use Rattle.meaning.proofs.Demands.{judge-read}
@@ -72,15 +72,15 @@ module _ (s h : List ℕ) (d : Parsed) (r : read s ≡ done d) (n : ℕ) where
 
   alone-is : shownAlone s (shape fs) h n ≡ viewed s h n
   unfolding viewed viewing shownAlone
-  alone-is = rw (r, fills) (go (isNil (d .rest)) (leb 1 n && leb n (length fs)) refl)
+  alone-is = rw (r, fills) (go (isNil (d .rest)) refl (leb 1 n && leb n (length fs)) refl)
     where
-      go : (a b : Bool) → leb 1 n && leb n (length fs) ≡ b
+      go : (a : Bool) → isNil (d .rest) ≡ a → (b : Bool) → leb 1 n && leb n (length fs) ≡ b
           → cond a (cond b (shownUnder s (shape fs) h n) (Refused (refusal noSuchLine (size fs) 0))) (Refused (refusal badUse (size fs) 0))
           ≡ viewAnswer (thenTo (verdict (inSet fs) (ask a (atLine badUse (length fs) 0) ++ ask b (atLine noSuchLine (length fs) 0)) fs) (λ gs.
           thenTo (sheet gs h) (λ e. done (shownPart gs n (latest n 0 (e .fields) none)))))
-      go false b q = rw after-all
-      go true false q = rw after-all
-      go true true q = under-is s h d r n (leb-true 1 n (and-left (leb 1 n) _ q)) (leb-true n (length fs) (and-right (leb 1 n) _ q))
+      go false a b q = rw after-all
+      go true a false q = rw after-all
+      go true a true q = under-is s h d r (nil-is (d .rest) a) n (leb-true 1 n (and-left (leb 1 n) _ q)) (leb-true n (length fs) (and-right (leb 1 n) _ q))
 
 -- ---- the answer
 

@@ -5,7 +5,7 @@ use mathlib.Core.List.{List}
 use Prim.Native.Nat.{ℕ, zero, suc, pred, _+_, _-_, _≤_, _<_}
 use native.Mathlib.Omega.{arith}
 use native.Mathlib.Nat.{add-zero, add-sub-cancel-left}
-use borrow.Author.Tests.{le-leb, lt-leb, eq-eqb, ne-eqb}
+use borrow.Author.Tests.{le-leb, lt-leb, ne-eqb}
 use lib.Dec.{leb, eqb}
 use lib.ListN.{length, take, drop, length-take}
 use Rattle.meaning.specs.declared.Part.{Part}
@@ -14,7 +14,7 @@ use Rattle.meaning.specs.declared.Shape.{Shape}
 use Rattle.meaning.specs.declared.Judged.the-variants.{Accepted}
 use Rattle.meaning.specs.declared.Viewed.{Viewed}
 use Rattle.meaning.specs.declared.Viewed.the-variants.{Sheet, Set, Refused}
-use Rattle.meaning.specs.Refusals.{behind, refusal, badByte, badList, tooManyLines}
+use Rattle.meaning.specs.Refusals.{tellsByte, behind, refusal, badList, tooManyLines}
 use Rattle.meaning.specs.Lines.{minLineBytes}
 use Rattle.meaning.specs.Entries.{entryLead}
 use Rattle.meaning.specs.Reading.{judge}
@@ -26,7 +26,8 @@ use Rattle.entry_read.specs.Head.{entryAt}
 use Rattle.entry_read.proofs.HeadLaws.{whole-back}
 use Rattle.correct_offer.specs.declared.Offer.{Offer}
 use Rattle.correct_offer.specs.declared.OneLine.{OneLine}
-use Rattle.correct_offer.specs.Offered.{lineAfter, offered, offerSpot}
+use Rattle.correct_offer.specs.declared.Terms.{Terms}
+use Rattle.correct_offer.specs.Offered.{lineAfter, termsOf, offered, offerSpot}
 use Rattle.correct_offer.proofs.OfferLaws.{line-stands, offer-byte}
 use Rattle.view_part.specs.Parts.{newer}
 use Rattle.view_sheet.specs.declared.SheetEntry.{SheetEntry}
@@ -36,44 +37,45 @@ use Rattle.view_sheet.specs.Showing.{byOffer, sheetEntryBy, sheetEntryAt
 -- ---- one entry of the sheet
 
 -- the byte that is refused of a content of n bytes at a
-pub byte-within : (s : List ℕ) (x : Shape) (h : List ℕ) (a k n : ℕ) (o : Offer) → o ≡ offered s x k (take ((a + n) - a) (drop a h)) → o .byte ≤ n
-byte-within s x h a k n o e =
+pub byte-within : (s : List ℕ) (t : Terms) (h : List ℕ) (a k n : ℕ) (o : Offer) → o ≡ offered s t k (take ((a + n) - a) (drop a h)) → o .byte ≤ n
+byte-within s t h a k n o e =
     let c : List ℕ = take ((a + n) - a) (drop a h) in
-    rw e (omega (arith, offer-byte s x k c, length-take ((a + n) - a) (drop a h), add-sub-cancel-left a n))
+    rw e (omega (arith, offer-byte s t k c, length-take ((a + n) - a) (drop a h), add-sub-cancel-left a n))
 
-module _ (s : List ℕ) (x : Shape) (h : List ℕ) (at : ℕ) where
-  pub sheet-cut : entryAt h at ≡ Cut → SheetEntry.Refused (refusal badList at 0) ≡ sheetEntryAt s x h at
+module _ (s : List ℕ) (t : Terms) (h : List ℕ) (at : ℕ) where
+  pub sheet-cut : entryAt h at ≡ Cut → SheetEntry.Refused (refusal badList at 0) ≡ sheetEntryAt s t h at
   unfolding sheetEntryAt
   sheet-cut e = rw e
 
-  module _ (k n : ℕ) (e : entryAt h at ≡ Whole k n) (m : ℕ) (q : m ≡ n) (o : Offer) (p : o ≡ offered s x k (take m (drop (at + entryLead) h))) where
-    sheet-by : byOffer o at k n ≡ sheetEntryAt s x h at
+  module _ (k n : ℕ) (e : entryAt h at ≡ Whole k n) (m : ℕ) (q : m ≡ n) (o : Offer) (p : o ≡ offered s t k (take m (drop (at + entryLead) h))) where
+    sheet-by : byOffer o at k n ≡ sheetEntryAt s t h at
     unfolding sheetEntryAt
     sheet-by = rw (e, p, q)
 
-    pub sheet-good : o .no ≡ 0 → Good k n ≡ sheetEntryAt s x h at
+    pub sheet-good : o .no ≡ 0 → Good k n ≡ sheetEntryAt s t h at
     sheet-good z = rw (z) at sheet-by
 
-    pub sheet-low : (o .no ≡ 0 → ⊥) → o .no ≡ badByte → SheetEntry.Refused (refusal (o .no) ((at + entryLead) + o .byte) (o .label)) ≡ sheetEntryAt s x h at
-    sheet-low z b =
-        let a : (at + entryLead) + o .byte ≡ at + (entryLead + o .byte) = omega arith in
-        rw a (rw (ne-eqb (o .no) 0 z, eq-eqb (o .no) badByte b) at sheet-by)
+    module _ (z : o .no ≡ 0 → ⊥) where
+      pub sheet-byte : tellsByte (o .no) ≡ true → SheetEntry.Refused (refusal (o .no) ((at + entryLead) + o .byte) (o .label)) ≡ sheetEntryAt s t h at
+      sheet-byte b =
+          let a : (at + entryLead) + o .byte ≡ at + (entryLead + o .byte) = omega arith in
+          rw a (rw (ne-eqb (o .no) 0 z, b) at sheet-by)
 
-    pub sheet-bad : (o .no ≡ 0 → ⊥) → (o .no ≡ badByte → ⊥) → SheetEntry.Refused (refusal (o .no) at (o .label)) ≡ sheetEntryAt s x h at
-    sheet-bad z b = rw (ne-eqb (o .no) 0 z, ne-eqb (o .no) badByte b, add-zero at) at sheet-by
+      pub sheet-bad : tellsByte (o .no) ≡ false → SheetEntry.Refused (refusal (o .no) at (o .label)) ≡ sheetEntryAt s t h at
+      sheet-bad b = rw (ne-eqb (o .no) 0 z, b, add-zero at) at sheet-by
 
 good-length : (b : Bool) (r : Refusal) (k n k′ n′ : ℕ) → cond b (Good k′ n′) (SheetEntry.Refused r) ≡ Good k n → n′ ≡ n
 good-length true r k n k′ n′ e = cc
 good-length false r k n k′ n′ e = let z : _≡_ {A = ℕ} 0 1 = cc in absurd (omega arith)
 
 -- an entry that is good lies within the sheet
-pub sheet-within : (s : List ℕ) (x : Shape) (h : List ℕ) (at k n : ℕ) → sheetEntryAt s x h at ≡ Good k n → at + (entryLead + n) ≤ length h
+pub sheet-within : (s : List ℕ) (t : Terms) (h : List ℕ) (at k n : ℕ) → sheetEntryAt s t h at ≡ Good k n → at + (entryLead + n) ≤ length h
 unfolding sheetEntryAt
-sheet-within s x h at k n e = go (entryAt h at) refl e
+sheet-within s t h at k n e = go (entryAt h at) refl e
   where
-    go : (y : Head) → entryAt h at ≡ y → sheetEntryBy s x h at y ≡ Good k n → at + (entryLead + n) ≤ length h
+    go : (y : Head) → entryAt h at ≡ y → sheetEntryBy s t h at y ≡ Good k n → at + (entryLead + n) ≤ length h
     go (Whole k′ n′) w q =
-        let o : Offer = offered s x k′ (take n′ (drop (at + entryLead) h)) in
+        let o : Offer = offered s t k′ (take n′ (drop (at + entryLead) h)) in
         omega (arith, good-length (eqb (o .no) 0) (refusal (o .no) (at + behind entryLead (offerSpot o)) (o .label)) k n k′ n′ q, whole-back h at w .within)
     go Cut w q = let z : _≡_ {A = ℕ} 0 1 = cc in absurd (omega arith)
 
@@ -93,31 +95,31 @@ line-inside s x n j lo hi =
 
 -- ---- the sheet, with at most m entries left
 
-module _ (s : List ℕ) (x : Shape) (h : List ℕ) (n m at : ℕ) (v : Viewed) where
-  pub shown-end : length h ≤ at → v ≡ shownFrom s x h n m at v
+module _ (s : List ℕ) (t : Terms) (h : List ℕ) (n m at : ℕ) (v : Viewed) where
+  pub shown-end : length h ≤ at → v ≡ shownFrom s t h n m at v
   unfolding shownFrom
   shown-end e = go m
     where
-      go : (i : ℕ) → v ≡ shownFrom s x h n i at v
+      go : (i : ℕ) → v ≡ shownFrom s t h n i at v
       go zero = rw (le-leb (length h) at e)
       go (suc i) = rw (le-leb (length h) at e)
 
   module _ (l : at < length h) (w : length h ≤ at + m) where
-    pub shown-bad : (r : Refusal) → sheetEntryAt s x h at ≡ SheetEntry.Refused r → Refused r ≡ shownFrom s x h n m at v
+    pub shown-bad : (r : Refusal) → sheetEntryAt s t h at ≡ SheetEntry.Refused r → Refused r ≡ shownFrom s t h n m at v
     unfolding shownFrom
     shown-bad r e = go m w
       where
-        go : (i : ℕ) → length h ≤ at + i → Refused r ≡ shownFrom s x h n i at v
+        go : (i : ℕ) → length h ≤ at + i → Refused r ≡ shownFrom s t h n i at v
         go zero w = absurd (omega arith)
         go (suc i) w = rw (lt-leb (length h) at l, e)
 
-    pub shown-next : (k len : ℕ) → sheetEntryAt s x h at ≡ Good k len → (at′ : ℕ) → at′ ≡ at + (entryLead + len)
+    pub shown-next : (k len : ℕ) → sheetEntryAt s t h at ≡ Good k len → (at′ : ℕ) → at′ ≡ at + (entryLead + len)
         → (v′ : Viewed) → v′ ≡ newer v (part (at + entryLead) len) k n
-        → shownFrom s x h n (pred m) at′ v′ ≡ shownFrom s x h n m at v
+        → shownFrom s t h n (pred m) at′ v′ ≡ shownFrom s t h n m at v
     unfolding shownFrom
     shown-next k len e at′ p v′ q = go m w
       where
-        go : (i : ℕ) → length h ≤ at + i → shownFrom s x h n (pred i) at′ v′ ≡ shownFrom s x h n i at v
+        go : (i : ℕ) → length h ≤ at + i → shownFrom s t h n (pred i) at′ v′ ≡ shownFrom s t h n i at v
         go zero w = absurd (omega arith)
         go (suc i) w = rw (lt-leb (length h) at l, e, p, q)
 
@@ -135,27 +137,29 @@ newer-set p q v k n = go (eqb k n)
     go true = refl
     go false = refl
 
-module _ (s : List ℕ) (x : Shape) (h : List ℕ) (n : ℕ) (p : Part) where
+module _ (s : List ℕ) (t : Terms) (h : List ℕ) (n : ℕ) (p : Part) where
   -- no entry looks at that part, so it may be put in before them or after them
-  shown-set : (m at : ℕ) (v : Viewed) → withSet p (shownFrom s x h n m at v) ≡ shownFrom s x h n m at (withSet p v)
+  shown-set : (m at : ℕ) (v : Viewed) → withSet p (shownFrom s t h n m at v) ≡ shownFrom s t h n m at (withSet p v)
   unfolding shownFrom
   shown-set zero at v = go (leb (length h) at)
     where
       go : (b : Bool) → withSet p (cond b v (Refused (refusal tooManyLines at 0))) ≡ cond b (withSet p v) (Refused (refusal tooManyLines at 0))
       go true = refl
       go false = refl
-  shown-set (suc m) at v = go (λ at′ v′. shown-set m at′ v′) (leb (length h) at) (sheetEntryAt s x h at)
+  shown-set (suc m) at v = go (λ at′ v′. shown-set m at′ v′) (leb (length h) at) (sheetEntryAt s t h at)
     where
-      go : ((at′ : ℕ) (v′ : Viewed) → withSet p (shownFrom s x h n m at′ v′) ≡ shownFrom s x h n m at′ (withSet p v′)) → (b : Bool) (y : SheetEntry)
-          → withSet p (cond b v (goodThen y (λ k l. shownFrom s x h n m (at + (entryLead + l)) (newer v (part (at + entryLead) l) k n))))
-          ≡ cond b (withSet p v) (goodThen y (λ k l. shownFrom s x h n m (at + (entryLead + l)) (newer (withSet p v) (part (at + entryLead) l) k n)))
+      go : ((at′ : ℕ) (v′ : Viewed) → withSet p (shownFrom s t h n m at′ v′) ≡ shownFrom s t h n m at′ (withSet p v′)) → (b : Bool) (y : SheetEntry)
+          → withSet p (cond b v (goodThen y (λ k l. shownFrom s t h n m (at + (entryLead + l)) (newer v (part (at + entryLead) l) k n))))
+          ≡ cond b (withSet p v) (goodThen y (λ k l. shownFrom s t h n m (at + (entryLead + l)) (newer (withSet p v) (part (at + entryLead) l) k n)))
       go ih true y = refl
       go ih false (Good k l) =
           ih (at + (entryLead + l)) (newer v (part (at + entryLead) l) k n)
-          ∙ ap (shownFrom s x h n m (at + (entryLead + l))) (newer-set p (part (at + entryLead) l) v k n)
+          ∙ ap (shownFrom s t h n m (at + (entryLead + l))) (newer-set p (part (at + entryLead) l) v k n)
       go ih false (SheetEntry.Refused r) = refl
 
--- so what the sheet shows is looked at first
-pub under-by : (s : List ℕ) (x : Shape) (h : List ℕ) (n : ℕ) (v : Viewed) → shownBySheet s x h n ≡ v → withSet (setPart s n) v ≡ shownUnder s x h n
+-- so what the sheet shows by the terms of the set is looked at first
+pub under-by : (s : List ℕ) (x : Shape) (h : List ℕ) (n : ℕ) (t : Terms) → t ≡ termsOf s x h → (v : Viewed) → shownBySheet s t h n ≡ v → withSet (setPart s n) v ≡ shownUnder s x h n
 unfolding shownBySheet shownUnder
-under-by s x h n v e = ap (withSet (setPart s n)) (sym e) ∙ shown-set s x h n (setPart s n) (length h) 0 (Set (part 0 0))
+under-by s x h n t p v e =
+    ap (withSet (setPart s n)) (sym e)
+    ∙ (shown-set s t h n (setPart s n) (length h) 0 (Set (part 0 0)) ∙ ap (λ (y : Terms). shownFrom s y h n (length h) 0 (Set (setPart s n))) p)

@@ -26,7 +26,9 @@ use Rattle.meaning.proofs.Bools.{end-is}
 use Rattle.meaning.proofs.EntryLaws.{entire}
 use Rattle.entry_read.proofs.HeadLaws.{headOf, entry-is}
 use Rattle.correct_offer.specs.declared.Offer.{Offer}
-use Rattle.correct_offer.specs.Offered.{offered, offerLine, offerSpot, offerFaults}
+use Rattle.correct_offer.specs.declared.Terms.{Terms}
+use Rattle.correct_offer.specs.Offered.{termsOf, offered, offerLine, offerSpot, offerFaults}
+use Rattle.correct_offer.proofs.TermsLaws.{Serves, part-served}
 use Rattle.correct_offer.proofs.OfferLaws.{line-stands, offer-is}
 use Rattle.view_part.specs.Parts.{newer, Within}
 use Rattle.view_part.proofs.PartLaws.{newer-within}
@@ -42,9 +44,13 @@ first-piece : (F : Form) (xs : List Fault) (at : ℕ) (s : List ℕ) (k : ℕ �
 first-piece F [] at s k = refl
 first-piece F (x ∷ xs) at s k = refl
 
-module _ (s h : List ℕ) (d : Parsed) (r : read s ≡ done d) (n : ℕ) where
+-- the set stands alone: no byte follows it
+module _ (s h : List ℕ) (d : Parsed) (r : read s ≡ done d) (alone : d .rest ≡ []) (n : ℕ) where
   abbrev fs : List Field
   fs = d .fields
+
+  abbrev terms : Terms
+  terms = termsOf s (shape fs) h
 
   abbrev F : Form
   F = sheetForm fs
@@ -75,11 +81,11 @@ module _ (s h : List ℕ) (d : Parsed) (r : read s ≡ done d) (n : ℕ) where
 
   -- what the walk does after a good entry at `at`
   abbrev goOn : ℕ → ℕ → Option Pending → ℕ → ℕ → Viewed
-  goOn m at found k l = shownFrom s (shape fs) h n m (at + (entryLead + l)) (newer (shownPart fs n found) (part (at + entryLead) l) k n)
+  goOn m at found k l = shownFrom s terms h n m (at + (entryLead + l)) (newer (shownPart fs n found) (part (at + entryLead) l) k n)
 
   -- the walk with at most m entries left shows what they show
   abbrev Shows : ℕ → Type 0
-  Shows m = (at : ℕ) (found : Option Pending) → shownBehind (pieces F m at (drop at h)) at found ≡ shownFrom s (shape fs) h n m at (shownPart fs n found)
+  Shows m = (at : ℕ) (found : Option Pending) → shownBehind (pieces F m at (drop at h)) at found ≡ shownFrom s terms h n m at (shownPart fs n found)
 
   module _ (m : ℕ) (ih : Shows m) (at : ℕ) (found : Option Pending) where
     -- the entry at `at`
@@ -111,19 +117,20 @@ module _ (s h : List ℕ) (d : Parsed) (r : read s ≡ done d) (n : ℕ) where
 
     -- by its head, then by what speaks against its content
     entry-then : shownBehind (pieceThen F (sheetEntryFaults fs here) at here (λ p t. pieces F m p t)) at found
-        ≡ goodThen (sheetEntryAt s (shape fs) h at) (goOn m at found)
+        ≡ goodThen (sheetEntryAt s terms h at) (goOn m at found)
     unfolding sheetEntryFaults sheetEntryAt
     entry-then = rw (entry-is h at) (go (entryWhole here) refl)
       where
         go : (b : Bool) → entryWhole here ≡ b
             → shownBehind (pieceThen F (ask b (atLine badList 0 0) ++ changeFaults fs (entryLabel here) (entryContent here)) at here (λ p t. pieces F m p t)) at found
-            ≡ goodThen (sheetEntryBy s (shape fs) h at (headOf b here)) (goOn m at found)
+            ≡ goodThen (sheetEntryBy s terms h at (headOf b here)) (goOn m at found)
         go true w =
             let l : length (entryContent here) ≡ twoBytesAt here 0 =
             length-take (twoBytesAt here 0) (drop entryLead here) ∙ omega (arith, entire here w .within, length-drop entryLead here) in
+            let v : Serves fs terms (entryContent here) = rw (drop-drop entryLead at h) (part-served s d r alone h (at + entryLead) (twoBytesAt here 0)) in
             rw (← drop-drop entryLead at h)
-            (offer-then (offered s (shape fs) (entryLabel here) (entryContent here)) (changeFaults fs (entryLabel here) (entryContent here))
-            (offer-is s d (entryLabel here) (entryContent here) r) l)
+            (offer-then (offered s terms (entryLabel here) (entryContent here)) (changeFaults fs (entryLabel here) (entryContent here))
+            (offer-is s d terms (entryLabel here) (entryContent here) r v) l)
         go false w = rw (add-zero at)
 
   -- no entry starts at `at`, or what is known of those that do
@@ -139,7 +146,7 @@ module _ (s h : List ℕ) (d : Parsed) (r : read s ≡ done d) (n : ℕ) where
   sheet-is zero at found = rw (end-is h at) (ends-or (isNil (drop at h)) at found (drop at h) (refused (refusal tooManyLines at 0)) (Refused (refusal tooManyLines at 0)) refl)
   sheet-is (suc m) at found =
       rw (end-is h at) (ends-or (isNil (drop at h)) at found (drop at h) (pieceThen F (sheetEntryFaults fs (drop at h)) at (drop at h) (λ p t. pieces F m p t))
-      (goodThen (sheetEntryAt s (shape fs) h at) (goOn m at found)) (entry-then m (λ p o. sheet-is m p o) at found))
+      (goodThen (sheetEntryAt s terms h at) (goOn m at found)) (entry-then m (λ p o. sheet-is m p o) at found))
 
   -- ---- the set
 
@@ -153,24 +160,24 @@ module _ (s h : List ℕ) (d : Parsed) (r : read s ≡ done d) (n : ℕ) where
   pub under-is : 1 ≤ n → n ≤ length (d .fields)
       → shownUnder s (shape (d .fields)) h n ≡ viewAnswer (thenTo (sheet (d .fields) h) (λ y. done (shownPart (d .fields) n (latest n 0 (y .fields) none))))
   unfolding shownUnder
-  under-is lo hi = sym (sheet-is (length h) 0 none ∙ ap (λ (q : Part). shownFrom s (shape fs) h n (length h) 0 (Set q)) (part-is lo hi))
+  under-is lo hi = sym (sheet-is (length h) 0 none ∙ ap (λ (q : Part). shownFrom s terms h n (length h) 0 (Set q)) (part-is lo hi))
 
 -- ---- the part that is shown lies within its slice
 
 module _ (s : List ℕ) (x : Shape) (h : List ℕ) (n : ℕ) where
-  shown-within : (m at : ℕ) (v : Viewed) → Within s h v → Within s h (shownFrom s x h n m at v)
+  shown-within : (t : Terms) (m at : ℕ) (v : Viewed) → Within s h v → Within s h (shownFrom s t h n m at v)
   unfolding shownFrom Within
-  shown-within zero at v w = go (leb (length h) at)
+  shown-within t zero at v w = go (leb (length h) at)
     where
       go : (b : Bool) → Within s h (cond b v (Refused (refusal tooManyLines at 0)))
       go true = w
       go false = tt
-  shown-within (suc m) at v w = go (λ at′ v′. shown-within m at′ v′) (leb (length h) at) (sheetEntryAt s x h at) refl
+  shown-within t (suc m) at v w = go (λ at′ v′. shown-within t m at′ v′) (leb (length h) at) (sheetEntryAt s t h at) refl
     where
-      go : ((at′ : ℕ) (v′ : Viewed) → Within s h v′ → Within s h (shownFrom s x h n m at′ v′)) → (b : Bool) (y : SheetEntry) → sheetEntryAt s x h at ≡ y
-          → Within s h (cond b v (goodThen y (λ k l. shownFrom s x h n m (at + (entryLead + l)) (newer v (part (at + entryLead) l) k n))))
+      go : ((at′ : ℕ) (v′ : Viewed) → Within s h v′ → Within s h (shownFrom s t h n m at′ v′)) → (b : Bool) (y : SheetEntry) → sheetEntryAt s t h at ≡ y
+          → Within s h (cond b v (goodThen y (λ k l. shownFrom s t h n m (at + (entryLead + l)) (newer v (part (at + entryLead) l) k n))))
       go ih true y e = w
-      go ih false (Good k l) e = ih (at + (entryLead + l)) (newer v (part (at + entryLead) l) k n) (newer-within s h v (part (at + entryLead) l) k n (omega (arith, sheet-within s x h at k l e)) w)
+      go ih false (Good k l) e = ih (at + (entryLead + l)) (newer v (part (at + entryLead) l) k n) (newer-within s h v (part (at + entryLead) l) k n (omega (arith, sheet-within s t h at k l e)) w)
       go ih false (SheetEntry.Refused r) e = tt
 
   -- the content of a line of an accepted set
@@ -183,4 +190,4 @@ module _ (s : List ℕ) (x : Shape) (h : List ℕ) (n : ℕ) where
 
   pub under-within : judge s ≡ Accepted x → 1 ≤ n → n ≤ x .lines → Within s h (shownUnder s x h n)
   unfolding shownUnder
-  under-within j lo hi = shown-within (length h) 0 (Set (setPart s n)) (set-within j lo hi)
+  under-within j lo hi = shown-within (termsOf s x h) (length h) 0 (Set (setPart s n)) (set-within j lo hi)

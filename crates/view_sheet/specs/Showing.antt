@@ -16,8 +16,9 @@ use Rattle.meaning.specs.Views.{part}
 use Rattle.entry_read.specs.declared.Head.{Head}
 use Rattle.entry_read.specs.declared.Head.the-variants.{Whole, Cut}
 use Rattle.entry_read.specs.Head.{entryAt}
+use Rattle.correct_offer.specs.declared.Terms.{Terms}
 use Rattle.correct_offer.specs.declared.Offer.{Offer}
-use Rattle.correct_offer.specs.Offered.{lineAfter, offered, offerSpot}
+use Rattle.correct_offer.specs.Offered.{lineAfter, termsOf, offered, offerSpot}
 use Rattle.view_part.specs.Parts.{newer}
 use Rattle.view_sheet.specs.declared.SheetEntry.{SheetEntry}
 use Rattle.view_sheet.specs.declared.SheetEntry.the-variants.{Good}
@@ -29,13 +30,13 @@ abbrev pub byOffer : Offer → ℕ → ℕ → ℕ → SheetEntry
 byOffer o at k n = cond (eqb (o .no) 0) (Good k n) (SheetEntry.Refused (refusal (o .no) (at + behind entryLead (offerSpot o)) (o .label)))
 
 -- by its head
-abbrev pub sheetEntryBy : List ℕ → Shape → List ℕ → ℕ → Head → SheetEntry
-sheetEntryBy s x h at (Whole k n) = byOffer (offered s x k (take n (drop (at + entryLead) h))) at k n
-sheetEntryBy s x h at Cut = SheetEntry.Refused (refusal badList at 0)
+abbrev pub sheetEntryBy : List ℕ → Terms → List ℕ → ℕ → Head → SheetEntry
+sheetEntryBy s t h at (Whole k n) = byOffer (offered s t k (take n (drop (at + entryLead) h))) at k n
+sheetEntryBy s t h at Cut = SheetEntry.Refused (refusal badList at 0)
 
--- the entry at an offset of the sheet h: "21 (cut only), 19, 20, 6, 14"
-unfoldable pub sheetEntryAt : List ℕ → Shape → List ℕ → ℕ → SheetEntry
-sheetEntryAt s x h at = sheetEntryBy s x h at (entryAt h at)
+-- the entry at an offset of the sheet h: "21 (cut only), 19, 20, 6, 14", then 24
+unfoldable pub sheetEntryAt : List ℕ → Terms → List ℕ → ℕ → SheetEntry
+sheetEntryAt s t h at = sheetEntryBy s t h at (entryAt h at)
 
 -- ---- what is shown
 
@@ -49,16 +50,16 @@ goodThen (Good k n) f = f k n
 goodThen (SheetEntry.Refused r) f = Refused r
 
 -- what line n shows after the entries from offset `at` of the sheet on, of which there are at most m, if v was shown before them
-unfoldable pub shownFrom : List ℕ → Shape → List ℕ → ℕ → ℕ → ℕ → Viewed → Viewed
-shownFrom s x h n zero at v = cond (leb (length h) at) v (Refused (refusal tooManyLines at 0))
-shownFrom s x h n (suc m) at v =
+unfoldable pub shownFrom : List ℕ → Terms → List ℕ → ℕ → ℕ → ℕ → Viewed → Viewed
+shownFrom s t h n zero at v = cond (leb (length h) at) v (Refused (refusal tooManyLines at 0))
+shownFrom s t h n (suc m) at v =
     cond (leb (length h) at) v
-    (goodThen (sheetEntryAt s x h at) (λ k l. shownFrom s x h n m (at + (entryLead + l)) (newer v (part (at + entryLead) l) k n)))
+    (goodThen (sheetEntryAt s t h at) (λ k l. shownFrom s t h n m (at + (entryLead + l)) (newer v (part (at + entryLead) l) k n)))
 
 -- what the whole sheet shows, or nothing of the set; a sheet never has more entries than bytes
-unfoldable pub shownBySheet : List ℕ → Shape → List ℕ → ℕ → Viewed
-shownBySheet s x h n = shownFrom s x h n (length h) 0 (Set (part 0 0))
+unfoldable pub shownBySheet : List ℕ → Terms → List ℕ → ℕ → Viewed
+shownBySheet s t h n = shownFrom s t h n (length h) 0 (Set (part 0 0))
 
--- the part of the set if the sheet has no entry for the line
+-- by the terms of a set of this shape; the part of the set if the sheet has no entry for the line
 unfoldable pub shownUnder : List ℕ → Shape → List ℕ → ℕ → Viewed
-shownUnder s x h n = shownFrom s x h n (length h) 0 (Set (setPart s n))
+shownUnder s x h n = shownFrom s (termsOf s x h) h n (length h) 0 (Set (setPart s n))

@@ -6,6 +6,7 @@ ghost use Prim.Native.Nat.{_≤_};
 ghost use Rattle.meaning.specs.Refusals.{refusal};
 ghost use Rattle.meaning.specs.Reading.{judge};
 ghost use Rattle.view_sheet.specs.Showing.{setPart, sheetEntryAt, shownBySheet, shownUnder};
+use correct_offer::Terms;
 use entry_read::Head;
 use meaning::Judged;
 use meaning::Part;
@@ -15,7 +16,7 @@ use meaning::Viewed;
 
 // What judging one entry of a sheet finds.
 pub enum SheetEntry {
-    // The entry keeps 21, 19, 20, 6, 14: the number of its line, and the length of its content.
+    // The entry keeps 21, 19, 20, 6, 14, 24: the number of its line, and the length of its content.
     Good { named: usize, length: usize },
     // The first of them that it breaks.
     Refused(Refusal),
@@ -28,9 +29,9 @@ fn bad_entry(no: usize, place: usize, label: usize) -> SheetEntry
     SheetEntry::Refused(Refusal { no, place, label })
 }
 
-// The entry of a sheet at an offset: "21 (cut only), 19, 20, 6, 14, with places in the sheet (the entry's first byte, for 6 the byte)".
-fn sheet_entry_at(set: &[u8], shape: Shape, sheet: &[u8], at: usize) -> SheetEntry
-    ensures { λ r. ⌜ r ≡ sheetEntryAt (now (set .entry)) shape (now (sheet .entry)) at ⌝ }
+// The entry of a sheet at an offset: "21 (cut only), 19, 20, 6, 14, with places in the sheet (the entry's first byte, for 6 the byte)", then 24, with the byte too.
+fn sheet_entry_at(set: &[u8], terms: Terms, sheet: &[u8], at: usize) -> SheetEntry
+    ensures { λ r. ⌜ r ≡ sheetEntryAt (now (set .entry)) terms (now (sheet .entry)) at ⌝ }
 {
     match entry_read::entry_at(sheet, at) {
         Head::Cut => bad_entry(Refusal::BAD_LIST, at, 0),
@@ -40,11 +41,11 @@ fn sheet_entry_at(set: &[u8], shape: Shape, sheet: &[u8], at: usize) -> SheetEnt
         } => {
             let content = at + meaning::ENTRY_LEAD;
             let end = content + length;
-            let offer = correct_offer::judge_offer(set, shape, named, &sheet[content..end]);
+            let offer = correct_offer::judge_offer(set, terms, named, &sheet[content..end]);
             if offer.no == 0 {
                 return SheetEntry::Good { named, length };
             }
-            if offer.no == Refusal::BAD_BYTE {
+            if Refusal::tells_byte(offer.no) {
                 return bad_entry(offer.no, content + offer.byte, offer.label);
             }
             bad_entry(offer.no, at, offer.label)
@@ -66,8 +67,8 @@ fn part_of_set(set: &[u8], shape: Shape, line: usize) -> Part
 }
 
 // What the sheet shows for a line: the part of the last entry for it, or nothing of the set if it has none. Each entry is judged.
-fn shown_by_sheet(set: &[u8], shape: Shape, sheet: &[u8], line: usize) -> Viewed
-    ensures { λ r. ⌜ r ≡ shownBySheet (now (set .entry)) shape (now (sheet .entry)) line ⌝ }
+fn shown_by_sheet(set: &[u8], terms: Terms, sheet: &[u8], line: usize) -> Viewed
+    ensures { λ r. ⌜ r ≡ shownBySheet (now (set .entry)) terms (now (sheet .entry)) line ⌝ }
 {
     let mut shown = Viewed::Set(Part {
         place: 0,
@@ -75,7 +76,7 @@ fn shown_by_sheet(set: &[u8], shape: Shape, sheet: &[u8], line: usize) -> Viewed
     });
     let mut at = 0;
     while at < sheet.len() {
-        match sheet_entry_at(set, shape, sheet, at) {
+        match sheet_entry_at(set, terms, sheet, at) {
             SheetEntry::Refused(r) => {
                 return Viewed::Refused(r);
             }
@@ -95,7 +96,8 @@ pub fn shown_under(set: &[u8], shape: Shape, sheet: &[u8], line: usize) -> Viewe
     requires { ⌜ (1 ≤ line) × (line ≤ shape .lines) ⌝ }
     ensures { λ r. ⌜ r ≡ shownUnder (now (set .entry)) shape (now (sheet .entry)) line ⌝ }
 {
-    match shown_by_sheet(set, shape, sheet, line) {
+    let terms = correct_offer::terms_of(set, shape, sheet);
+    match shown_by_sheet(set, terms, sheet, line) {
         Viewed::Refused(r) => Viewed::Refused(r),
         Viewed::Sheet(part) => Viewed::Sheet(part),
         Viewed::Set(_) => Viewed::Set(part_of_set(set, shape, line)),

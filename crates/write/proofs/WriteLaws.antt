@@ -2,7 +2,7 @@
 use mathlib.Core.Path.{_≡_, refl, sym, ap, ap₂, _∙_}
 use mathlib.Core.Bool.{Bool, true, false, cond, _&&_}
 use mathlib.Core.List.{List, [], _∷_, _++_, append-assoc}
-use Prim.Native.Nat.{ℕ, zero, suc, _+_, _-_, _*_, _≤_, _<_}
+use Prim.Native.Nat.{ℕ, _+_, _-_, _*_, _≤_, _<_}
 use native.Mathlib.Omega.{arith}
 use lib.Dec.{leb, eqb}
 use lib.ListN.{length, take, drop, replicate}
@@ -26,21 +26,20 @@ use Rattle.meaning.proofs.DigitLaws.{length-digits}
 use Rattle.meaning.proofs.FieldLaws.{fits-sum}
 use Rattle.meaning.proofs.EntryLaws.{lines-over-entries}
 use Rattle.meaning.proofs.LineLaws.{length-render, render-split}
-use Rattle.entry_read.specs.declared.Head.{Head}
 use Rattle.entry_read.specs.declared.Head.the-variants.{Whole, Cut}
-use Rattle.entry_read.specs.Head.{entryAt}
+use Rattle.entry_read.specs.Head.{entryAt, listContent}
+use Rattle.entry_read.proofs.HeadWalkLaws.{entries-end, entries-cut, entries-on, Reads}
 use Rattle.meaning.proofs.FirstLaws.{firstOf, Real}
 use Rattle.byte_put.specs.Places.{over}
 use Rattle.byte_put.proofs.OverLaws.{Turned, here-fits, turned, front-then-zeros}
 use Rattle.write_judge.specs.declared.ListJudged.{ListJudged}
 use Rattle.write_judge.specs.declared.ListJudged.the-variants.{Done as Counted, Refused as Unchecked}
-use Rattle.write_judge.specs.Judging.{byHead, listContent, checkFrom, judgeEntries, countUnless, ruled, judgedList}
-use Rattle.write_judge.proofs.CheckLaws.{Reads, check-entered, check-refused}
+use Rattle.write_judge.specs.Judging.{checkFrom, judgeEntries, countUnless, ruled, judgedList}
+use Rattle.write_judge.proofs.CheckLaws.{check-entered, check-refused}
 use Rattle.write_judge.proofs.EntryPass.{entries-found, rules-real}
 use Rattle.write_lines.specs.EntryLines.{entryLines}
 use Rattle.write_lines.proofs.LinePutLaws.{later-only, first-both}
-use Rattle.write.specs.Writing.{linesFrom, linesLeft}
-use Rattle.meaning.proofs.LeftLaws.{one-more}
+use Rattle.write.specs.Writing.{linesThen, linesLeft}
 
 -- ---- one line
 
@@ -49,43 +48,18 @@ line-then f t = sym (render-split (f ∷ []) t)
 
 -- ---- the walk: no entry is left, a head is cut, an entry more
 
-module _ (l sum : List ℕ) where
-  lines-none : (at k : ℕ) → length l ≤ at → linesFrom l sum at k ≡ []
-  unfolding linesFrom
-  lines-none at zero h = refl
-  lines-none at (suc k) h = rw (le-leb (length l) at h)
+module _ (l sum : List ℕ) (at : ℕ) where
+  pub lines-end : length l ≤ at → linesLeft l sum at ≡ []
+  lines-end h = entries-end [] (linesThen l sum) l at h
 
-  -- as many entries as bytes are enough: a larger count gives the same lines
-  lines-enough : (k j at : ℕ) → length l ≤ at + k → length l ≤ at + j → linesFrom l sum at k ≡ linesFrom l sum at j
-  unfolding linesFrom
-  lines-enough zero j at h g = sym (lines-none at j (omega arith))
-  lines-enough (suc k) zero at h g = lines-none at (suc k) (omega arith)
-  lines-enough (suc k) (suc j) at h g =
-      go (entryAt l at) (λ m. lines-enough k j (at + (entryLead + m)) (omega arith) (omega arith))
-    where
-      go : (x : Head) → ((m : ℕ) → linesFrom l sum (at + (entryLead + m)) k ≡ linesFrom l sum (at + (entryLead + m)) j)
-          → cond (leb (length l) at) [] (byHead x [] (λ label m. entryLines at label (listContent l at m) sum ++ linesFrom l sum (at + (entryLead + m)) k))
-          ≡ cond (leb (length l) at) [] (byHead x [] (λ label m. entryLines at label (listContent l at m) sum ++ linesFrom l sum (at + (entryLead + m)) j))
-      go Cut ih = refl
-      go (Whole label m) ih = ap (λ (u : List ℕ). cond (leb (length l) at) [] (entryLines at label (listContent l at m) sum ++ u)) (ih m)
+  pub lines-cut : entryAt l at ≡ Cut → linesLeft l sum at ≡ []
+  lines-cut e = entries-cut [] (linesThen l sum) l at e
 
-  pub lines-end : (at : ℕ) → length l ≤ at → linesLeft l sum at ≡ []
-  lines-end at h = lines-none at (length l - at) h
-
-  module _ (at : ℕ) (h : at < length l) where
-    pub lines-cut : entryAt l at ≡ Cut → linesLeft l sum at ≡ []
-    unfolding linesFrom
-    lines-cut e = rw (one-more h, lt-leb (length l) at h, e)
-
-    lines-on : {label m : ℕ} → entryAt l at ≡ Whole label m → linesLeft l sum at ≡ entryLines at label (listContent l at m) sum ++ linesLeft l sum (at + (entryLead + m))
-    unfolding linesFrom
-    lines-on {label} {m} e =
-        rw (one-more h, lt-leb (length l) at h, e)
-        (ap (λ (u : List ℕ). entryLines at label (listContent l at m) sum ++ u)
-        (lines-enough (length l - (at + 1)) (length l - (at + (entryLead + m))) (at + (entryLead + m)) (omega arith) (omega arith)))
+  lines-on : {label m : ℕ} → entryAt l at ≡ Whole label m → linesLeft l sum at ≡ entryLines at label (listContent l at m) sum ++ linesLeft l sum (at + (entryLead + m))
+  lines-on e = entries-on [] (linesThen l sum) l at e
 
 -- one turn: the lines of one entry, and what is left after them
-module _ (l sum : List ℕ) (at : ℕ) (h : at < length l) {label m : ℕ} (e : entryAt l at ≡ Whole label m) (w : ℕ) (q : w ≡ m) (end : ℕ) (x : end ≡ at + (entryLead + m))
+module _ (l sum : List ℕ) (at : ℕ) {label m : ℕ} (e : entryAt l at ≡ Whole label m) (w : ℕ) (q : w ≡ m) (end : ℕ) (x : end ≡ at + (entryLead + m))
     (out : List ℕ) (to : ℕ) (g : to + length (linesLeft l sum at) ≤ length out) where
   abbrev here : List ℕ
   here = entryLines at label (take w (drop (at + entryLead) l)) sum
@@ -94,7 +68,7 @@ module _ (l sum : List ℕ) (at : ℕ) (h : at < length l) {label m : ℕ} (e : 
   rest = linesLeft l sum end
 
   both : linesLeft l sum at ≡ here ++ rest
-  both = lines-on l sum at h e ∙ ap₂ (λ (y z : ℕ). entryLines at label (take y (drop (at + entryLead) l)) sum ++ linesLeft l sum z) (sym q) (sym x)
+  both = lines-on l sum at e ∙ ap₂ (λ (y z : ℕ). entryLines at label (take y (drop (at + entryLead) l)) sum ++ linesLeft l sum z) (sym q) (sym x)
 
   pub lines-fit : to + length here ≤ length out
   lines-fit = here-fits out to _ here rest both g
@@ -105,32 +79,23 @@ module _ (l sum : List ℕ) (at : ℕ) (h : at < length l) {label m : ℕ} (e : 
 -- ---- what the walk gives
 
 -- the entries after the first: by induction on fs
-later-lines : (l sum : List ℕ) (fs : List Field) (at k : ℕ) → Reads l at fs → at + listSize fs ≡ length l → length fs ≤ k → 1 ≤ at → linesFrom l sum at k ≡ render fs []
-unfolding linesFrom
-later-lines l sum [] at k rd w g h = lines-none l sum at k (omega arith)
-later-lines l sum (f ∷ fs) at zero rd w g h = absurd (omega arith)
-later-lines l sum (f ∷ fs) at (suc k) rd w g h =
-    rw (lt-leb (length l) at (omega arith), rd .0, rd .1, later-only at (f .label) (f .content) sum (λ e. omega arith))
-    (ap (λ (u : List ℕ). lineThen f [] ++ u) (later-lines l sum fs (at + (entryLead + length (f .content))) k (rd .2) (omega arith) (omega arith) (omega arith))
-    ∙ line-then f (render fs []))
+later-lines : (l sum : List ℕ) (fs : List Field) (at : ℕ) → Reads l at fs → at + listSize fs ≡ length l → 1 ≤ at → linesLeft l sum at ≡ render fs []
+later-lines l sum [] at rd w h = lines-end l sum at (omega arith)
+later-lines l sum (f ∷ fs) at rd w h =
+    lines-on l sum at (rd .0)
+    ∙ (rw (rd .1, later-only at (f .label) (f .content) sum (λ e. omega arith))
+    (ap (λ (u : List ℕ). lineThen f [] ++ u) (later-lines l sum fs (at + (entryLead + length (f .content))) (rd .2) (omega arith) (omega arith)) ∙ line-then f (render fs [])))
 
 -- all entries: after the first stands the line of 8100
-all-lines : (l sum : List ℕ) (f : Field) (fs : List Field) (k : ℕ) → Reads l 0 (f ∷ fs) → listSize (f ∷ fs) ≡ length l → length (f ∷ fs) ≤ k
-    → linesFrom l sum 0 k ≡ render (f ∷ field 8100 sum ∷ fs) []
-unfolding linesFrom
-all-lines l sum f fs zero rd w g = absurd (omega arith)
-all-lines l sum f fs (suc k) rd w g =
+all-lines : (l sum : List ℕ) (f : Field) (fs : List Field) → Reads l 0 (f ∷ fs) → listSize (f ∷ fs) ≡ length l → linesLeft l sum 0 ≡ render (f ∷ field 8100 sum ∷ fs) []
+all-lines l sum f fs rd w =
     let s : Field = field 8100 sum in
     let next : ℕ = 0 + (entryLead + length (f .content)) in
-    rw (lt-leb (length l) 0 (omega arith), rd .0, rd .1, first-both 0 (f .label) (f .content) sum refl)
-    (append-assoc (lineThen f []) (lineThen s []) (linesFrom l sum next k)
-    ∙ (ap (λ (u : List ℕ). lineThen f [] ++ (lineThen s [] ++ u)) (later-lines l sum fs next k (rd .2) (omega arith) (omega arith) (omega arith))
-    ∙ (ap (λ (u : List ℕ). lineThen f [] ++ u) (line-then s (render fs [])) ∙ line-then f (render (s ∷ fs) []))))
-
--- each entry has a byte or more
-few-entries : (fs : List Field) → length fs ≤ listSize fs
-few-entries [] = omega arith
-few-entries (f ∷ fs) = omega (arith, few-entries fs)
+    lines-on l sum 0 (rd .0)
+    ∙ (rw (rd .1, first-both 0 (f .label) (f .content) sum refl)
+    (append-assoc (lineThen f []) (lineThen s []) (linesLeft l sum next)
+    ∙ (ap (λ (u : List ℕ). lineThen f [] ++ (lineThen s [] ++ u)) (later-lines l sum fs next (rd .2) (omega arith) (omega arith))
+    ∙ (ap (λ (u : List ℕ). lineThen f [] ++ u) (line-then s (render fs [])) ∙ line-then f (render (s ∷ fs) [])))))
 
 -- ---- the answers
 
@@ -175,8 +140,8 @@ module _ (l : List ℕ) (n : ℕ) (some : 0 < length l) where
       let total : lineSize f + (14 + size fs) ≡ totalOf l n = omega (arith, lines-over-entries es, w, c) in
       let put-in : withSum es ≡ all = ap (λ (x : ℕ). f ∷ field 8100 (digits 5 x) ∷ fs) total in
       let sized : size all ≡ totalOf l n = omega (arith, total, length-digits 5 (totalOf l n)) in
-      let lines : linesLeft l sum 0 ≡ render all [] = all-lines l sum f fs (length l - 0) rd w (omega (arith, few-entries es, w)) in
-      let found : judgeEntries l n ≡ firstOf (inList es) (ruleFaults all) = ap (judgeEntries l) c ∙ entries-found l f fs sum rd (sum-fits (totalOf l n)) in
+      let lines : linesLeft l sum 0 ≡ render all [] = all-lines l sum f fs rd w in
+      let found : judgeEntries l n ≡ firstOf (inList es) (ruleFaults all) = ap (judgeEntries l) c ∙ entries-found l f fs sum rd w (sum-fits (totalOf l n)) in
       record {
         few = few;
         need = ap length lines ∙ (length-render all [] ∙ omega (arith, sized));
@@ -254,7 +219,7 @@ unchecked-so : (l : List ℕ) (room : ℕ) (r : Refusal) → 0 < length l → ch
 unfolding write
 unchecked-so l room r h e = rw (not-nil l h, check-refused l r e)
 
--- and 8, 9, 11 to 16
+-- and 8, 9, 11 to 16, 24
 pub answer-refused : (l b : List ℕ) (r : Refusal) → 0 < length l → judgedList l ≡ Unchecked r → (Refused r ≡ writeCall l b .answer) × (b ≡ writeCall l b .buffer)
 unfolding judgedList countUnless
 answer-refused l b r h e =

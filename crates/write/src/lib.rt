@@ -60,7 +60,7 @@ fn write_entries(list: &[u8], n: usize, out: &mut [u8]) -> Made
     Made::Done(total)
 }
 
-// The set of a field list: 1; each entry by 7, 21, 6; "then 8, 9, and 11 to 16 as above; then 22".
+// The set of a field list: 1; each entry by 7, 21, 6; "then 8, 9, and 11 to 16 as above", 24; "then 22".
 pub fn write(list: &[u8], out: &mut [u8]) -> Made
     ensures { λ r. ⌜ (r ≡ writeCall (now (list .entry)) (now (out .entry)) .answer) × (now (out .exit) ≡ writeCall (now (list .entry)) (now (out .entry)) .buffer) ⌝ }
 {

@@ -6,9 +6,9 @@ use Prim.Native.Nat.{ℕ, zero, suc, _+_, _-_, _≤_, _<_}
 use native.Mathlib.Nat.{add-zero}
 use native.Mathlib.Omega.{arith}
 use lib.Dec.{leb}
-use lib.ListN.{length, drop, length-drop, drop-of-length-le}
+use lib.ListN.{length, drop, length-drop}
 use lib.Seq.{drop-drop}
-use borrow.Author.Tests.{leb-true, leb-false, le-leb, lt-leb}
+use borrow.Author.Tests.{leb-true, le-leb, lt-leb}
 use Rattle.meaning.specs.declared.Refusal.{Refusal}
 use Rattle.meaning.specs.Limits.{maxEntries}
 use Rattle.meaning.specs.Digits.{digitZero, digit, allDigits}
@@ -17,7 +17,7 @@ use Rattle.meaning.specs.Refusals.{Fault, atLine, ask, behind, Reply, refused, 
 use Rattle.meaning.specs.Pieces.{Parsed, parsed, andBefore, pieceThen, pieces}
 use Rattle.meaning.specs.Lines.{lowBytes}
 use Rattle.meaning.specs.Entries.{entryLead, twoBytesAt, entryLabel, entryWidth, entryContent, entryField, entryWhole, maxLabel, entryFaults, entryForm, entryOk, listSize}
-use Rattle.meaning.proofs.Bools.{nil-is, byte-then, and-left, and-right}
+use Rattle.meaning.proofs.Bools.{nil-is, and-left, and-right, end-is}
 use Rattle.meaning.proofs.FaultLaws.{ask-none, High, lows-none, refused-done, done-same}
 use Rattle.meaning.proofs.LeftLaws.{one-more, none-left}
 use Rattle.meaning.proofs.PieceLaws.{piece-back}
@@ -25,13 +25,14 @@ use Rattle.byte_low.specs.Low.{firstLow}
 use Rattle.byte_low.proofs.LowLaws.{low-is}
 use Rattle.entry_read.specs.declared.Head.{Head}
 use Rattle.entry_read.specs.declared.Head.the-variants.{Whole, Cut}
-use Rattle.entry_read.specs.Head.{entryAt, afterHead, headsEnd}
+use Rattle.entry_read.specs.Head.{entryAt, byHead, listContent, headsEnd}
 use Rattle.entry_read.proofs.HeadLaws.{headOf, entry-is, whole-back}
+use Rattle.entry_read.proofs.HeadWalkLaws.{Reads}
 use Rattle.write_judge.specs.declared.Item.{Item}
 use Rattle.write_judge.specs.declared.Item.the-variants.{Read}
 use Rattle.write_judge.specs.declared.ListJudged.{ListJudged}
 use Rattle.write_judge.specs.declared.ListJudged.the-variants.{Done, Refused}
-use Rattle.write_judge.specs.Judging.{byHead, listContent, checkContent, checkEntry, afterEntry, checkFrom}
+use Rattle.write_judge.specs.Judging.{checkContent, checkEntry, afterEntry, checkFrom}
 
 -- ---- one entry, as the code takes it
 
@@ -143,7 +144,7 @@ heads-refuse l (suc k) at n e = go (leb (length l) at) (entryAt l at) e (λ m. h
     by label m true false r q h = tt
     by label m false b r q h = tt
 
-    go : (b : Bool) (h : Head) → cond b true (afterHead h (λ m. headsEnd l (at + (entryLead + m)) k)) ≡ false
+    go : (b : Bool) (h : Head) → cond b true (byHead h false (λ label m. headsEnd l (at + (entryLead + m)) k)) ≡ false
         → ((m : ℕ) → headsEnd l (at + (entryLead + m)) k ≡ false → Refuses (rest m))
         → Refuses (cond b (Done n) (afterEntry (byHead h (Item.Refused (refusal badList at 0)) (λ label m. checkContent l at label m)) rest))
     go true h q ih = let z : _≡_ {A = ℕ} 0 1 = cc in absurd (omega arith)
@@ -224,31 +225,18 @@ entry-then l at n k f h = rw (check-is l at) (go (entryFaults (drop at l)))
         ∙ (ap (λ (u : List ℕ). summary (n + 1) (k (at + w) u)) (sym (drop-drop w at l)) ∙ summary-before n (entryField (drop at l)) (k (at + w) (drop w (drop at l))))
     go (x ∷ xs) = refl
 
-over-is : (l : List ℕ) (at : ℕ) → leb (length l) at ≡ isNil (drop at l)
-over-is l at = go (leb (length l) at) refl
-  where
-    go : (b : Bool) → leb (length l) at ≡ b → b ≡ isNil (drop at l)
-    go true e = rw (drop-of-length-le l (leb-true (length l) at e))
-    go false e = rw (byte-then l at (leb-false (length l) at e))
-
 ends-or : (b : Bool) (n : ℕ) (t : List ℕ) (x : ListJudged) (y : Reply Parsed) → x ≡ summary n y → cond b (Done n) x ≡ summary n (cond b (done (parsed [] t)) y)
 ends-or true n t x y e = rw (add-zero n)
 ends-or false n t x y e = e
 
 from-is : (l : List ℕ) (k at n : ℕ) → checkFrom l at n k ≡ summary n (pieces entryForm k at (drop at l))
 unfolding checkFrom pieces
-from-is l zero at n = rw (over-is l at) (ends-or (isNil (drop at l)) n (drop at l) _ _ refl)
+from-is l zero at n = rw (end-is l at) (ends-or (isNil (drop at l)) n (drop at l) _ _ refl)
 from-is l (suc k) at n =
-    rw (over-is l at) (ends-or (isNil (drop at l)) n (drop at l) _ _
+    rw (end-is l at) (ends-or (isNil (drop at l)) n (drop at l) _ _
     (entry-then l at n (λ p t. pieces entryForm k p t) (λ m. checkFrom l (at + (entryLead + m)) (n + 1) k) (λ m. from-is l k (at + (entryLead + m)) (n + 1))))
 
 -- ---- what the fields of a checked list are
-
--- read at an offset, entry after entry
-abbrev pub Reads : List ℕ → ℕ → List Field → Type 0
-Reads l at [] = Unit
-Reads l at (f ∷ fs) =
-    (entryAt l at ≡ Whole (f .label) (length (f .content))) × (listContent l at (length (f .content)) ≡ f .content) × Reads l (at + (entryLead + length (f .content))) fs
 
 -- the pieces from an offset on
 record Pieces (l : List ℕ) (k at : ℕ) (es : List Field) : Type 0 where

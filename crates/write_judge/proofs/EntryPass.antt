@@ -1,8 +1,8 @@
--- 8, 9 and 11 to 16 over a list's entries: one entry of the walk, that line 1 and line 2 are never refused, and what the walk finds: the first fault of the rules of `meaning`.
+-- 8, 9, 11 to 16 and 24 over a list's entries: one entry of the walk, that line 1 and line 2 are never refused, and what the walk finds: the first fault of the rules of `meaning`.
 use mathlib.Core.Path.{_≡_, refl, sym, ap, ap₂, _∙_, subst}
 use mathlib.Core.Bool.{Bool, true, false, cond, _&&_}
-use mathlib.Core.List.{List, [], _∷_, _++_, cons≢nil}
-use Prim.Native.Nat.{ℕ, zero, suc, _+_, _-_}
+use mathlib.Core.List.{List, [], _∷_, _++_}
+use Prim.Native.Nat.{ℕ, suc, _+_, _-_}
 use native.Mathlib.Numerals.{add-one}
 use native.Mathlib.Omega.{arith}
 use lib.Dec.{eqb}
@@ -22,22 +22,25 @@ use Rattle.meaning.specs.Kinds.{isAlnum, ofKind}
 use Rattle.meaning.specs.FieldTable.{fieldTable, fieldRowIn, fieldRow, hasLength, fitsRow, fitsLabel}
 use Rattle.meaning.specs.Tables.{rowLabel}
 use Rattle.meaning.specs.Groups as G
-use Rattle.meaning.specs.Rules.{profile, typeDigits, typeNamed, labelIs, isKnown, typeKnown, startFaults, ruleFaults}
+use Rattle.meaning.specs.Rules.{profile, typeDigits, typeNamed, fits, labelIs, isKnown, typeKnown, startFaults, ruleFaults}
 use Rattle.meaning.specs.Lists.{inList}
 use Rattle.meaning.specs.Answers.{noRefusal, orElse}
 use Rattle.meaning.proofs.Bools.{and-left, and-right}
+use Rattle.meaning.proofs.FieldLaws.{sum-fits}
 use Rattle.entry_read.specs.declared.Head.the-variants.{Whole}
-use Rattle.entry_read.specs.Head.{entryAt}
+use Rattle.entry_read.specs.Head.{entryAt, listContent}
+use Rattle.entry_read.proofs.HeadWalkLaws.{Reads, list-next}
 use Rattle.judge_missing.specs.Lacks.{Flagged, noFlags, noneSeen, lackUnder, groupLack, openLack, firstLack, flaggedOf}
 use Rattle.meaning.proofs.FirstLaws.{firstOf, Real, real-append}
 use Rattle.judge_missing.proofs.FlagLaws.{Agrees, none-agrees}
 use Rattle.judge_line.specs.declared.Step.{Step}
 use Rattle.judge_line.specs.Steps.{rowOf, repeatedNo, placeNo, labelNo, versionNo, contentNo, lineNo, nextFlagged, staysIn, Stepped}
-use Rattle.meaning.proofs.RealLaws.{startFaultsBy, real-starts, faultsAfterStart, real-after-start, ofType}
+use Rattle.meaning.proofs.RealLaws.{startFaultsBy, real-starts, faultsThenHigh, real-then-high, ofType}
 use Rattle.judge_line.proofs.StartRows.{row-8000, row-8100}
 use Rattle.judge_line.proofs.StepMeaning.{passFinds, pass-line, pass-finish, pass-finds}
-use Rattle.write_judge.specs.Judging.{listContent, stepThen, entriesPass, row8000, started, byKnown, firstEntry, judgeEntries}
-use Rattle.write_judge.proofs.CheckLaws.{Reads}
+use Rattle.write_seven.specs.ListSeven.{highInList}
+use Rattle.write_seven.proofs.ListSevenMeaning.{high-in-list-is}
+use Rattle.write_judge.specs.Judging.{stepThen, entriesPass, row8000, started, byKnown, firstEntry, judgeEntries}
 
 -- ---- one line, as the code takes it
 
@@ -127,38 +130,27 @@ module _ (l : List ℕ) (label m n : ℕ) where
 
 -- ---- what the pass finds
 
--- the entry after this one
-list-next : (es : List Field) (j : ℕ) (f : Field) (fs : List Field) → drop j es ≡ f ∷ fs
-    → (listSize (take (suc j) es) ≡ listSize (take j es) + (entryLead + length (f .content))) × (drop (suc j) es ≡ fs)
-list-next [] zero f fs e = absurd (cons≢nil (sym e))
-list-next [] (suc j) f fs e = absurd (cons≢nil (sym e))
-list-next (x ∷ es) zero f fs e =
-    let a : x ≡ f = cc in
-    let b : es ≡ fs = cc in
-    (ap (λ (y : Field). (length (y .content) + entryLead) + 0) a ∙ omega arith, b)
-list-next (x ∷ es) (suc j) f fs e =
-    let ih = list-next es j f fs e in
-    (omega (arith, ih .0), ih .1)
-
 module _ (l : List ℕ) (settype : SetType) (es : List Field) where
   -- the entries fs, with j entries before them and so, with line 2, j + 1 lines: by induction on fs
   later-found : (fs : List Field) (at j : ℕ) (st : Flagged) (ms : G.State) (lack : Refusal) → Reads l at fs → at ≡ inList es (suc j) start → drop j es ≡ fs
-      → Agrees (inList es) st ms → entriesPass l settype at st lack (length fs) ≡ passFinds settype (inList es) ms (suc j) fs lack
+      → Agrees (inList es) st ms → entriesPass l settype at st lack (length fs) ≡ passFinds settype (inList es) (highInList l) ms (suc j) fs lack
   unfolding entriesPass
-  later-found [] at j st ms lack rd e d sm = pass-finish settype (inList es) (suc j) st ms lack refl sm
+  later-found [] at j st ms lack rd e d sm = pass-finish settype (inList es) (highInList l) (suc j) st ms lack refl sm
   later-found (f ∷ fs) at j st ms lack rd e d sm =
       let nx = list-next es j f fs d in
       let p : at + (entryLead + length (f .content)) ≡ inList es (suc (suc j)) start = omega (arith, e, nx .0) in
-      rw (rd .0, rd .1) (pass-line settype (inList es) f fs at (suc j) st ms lack sm e
+      rw (rd .0, rd .1) (pass-line settype (inList es) (highInList l) f fs at (suc j) st ms lack sm e
       (λ st′ lack′. entriesPass l settype (at + (entryLead + length (f .content))) st′ lack′ (length fs))
       (λ st′ ms′ lack′ sm′. later-found fs (at + (entryLead + length (f .content))) (suc j) st′ ms′ lack′ (rd .2) p (nx .1) sm′
-      ∙ ap (λ (k : ℕ). passFinds settype (inList es) ms′ k fs lack′) (sym (add-one (suc j)))))
+      ∙ ap (λ (k : ℕ). passFinds settype (inList es) (highInList l) ms′ k fs lack′) (sym (add-one (suc j)))))
 
 -- all lines: line 1, line 2, and the others
-set-found : (l : List ℕ) (settype : SetType) (c : List ℕ) (fs : List Field) (sum : List ℕ) → Reads l 0 (field 8000 c ∷ fs) → fitsLabel 8000 c ≡ true → fitsLabel 8100 sum ≡ true
+set-found : (l : List ℕ) (settype : SetType) (c : List ℕ) (fs : List Field) (sum : List ℕ) → Reads l 0 (field 8000 c ∷ fs) → listSize (field 8000 c ∷ fs) ≡ length l
+    → fitsLabel 8000 c ≡ true → fitsLabel 8100 sum ≡ true
     → entriesPass l settype (entryLead + length c) started noRefusal (length fs)
-    ≡ firstOf (inList (field 8000 c ∷ fs)) (faultsAfterStart (ofType settype) (field 8000 c ∷ field 8100 sum ∷ fs))
-set-found l settype c fs sum rd g₁ g₂ =
+    ≡ firstOf (inList (field 8000 c ∷ fs)) (faultsThenHigh (ofType settype) (field 8000 c ∷ field 8100 sum ∷ fs))
+unfolding fits
+set-found l settype c fs sum rd w g₁ g₂ =
     let es : List Field = field 8000 c ∷ fs in
     let p : entryLead + length c ≡ inList es 2 start = omega arith in
     let rd′ : Reads l (entryLead + length c) fs = subst (λ (a : ℕ). Reads l a fs) (omega arith) (rd .2) in
@@ -166,34 +158,35 @@ set-found l settype c fs sum rd g₁ g₂ =
     let both : stepThen settype noneSeen noRefusal 0 8000 c (λ st lack. stepThen settype st lack 0 8100 sum others) ≡ others started noRefusal =
     line-1 settype c (λ st lack. stepThen settype st lack 0 8100 sum others) g₁ ∙ line-2 settype sum others g₂ in
     sym both ∙ (
-    pass-line settype (inList es) (field 8000 c) (field 8100 sum ∷ fs) 0 0 noneSeen G.first noRefusal (none-agrees (inList es) refl) refl
+    pass-line settype (inList es) (highInList l) (field 8000 c) (field 8100 sum ∷ fs) 0 0 noneSeen G.first noRefusal (none-agrees (inList es) refl) refl
     (λ st lack. stepThen settype st lack 0 8100 sum others)
-    (λ st ms lack sm. pass-line settype (inList es) (field 8100 sum) fs 0 (0 + 1) st ms lack sm refl others
+    (λ st ms lack sm. pass-line settype (inList es) (highInList l) (field 8100 sum) fs 0 (0 + 1) st ms lack sm refl others
     (λ st′ ms′ lack′ sm′. later-found l settype es fs (entryLead + length c) 1 st′ ms′ lack′ rd′ p refl sm′))
-    ∙ pass-finds settype (inList es) (field 8000 c ∷ field 8100 sum ∷ fs))
+    ∙ pass-finds settype (inList es) (highInList l) (field 8000 c ∷ field 8100 sum ∷ fs)
+    (high-in-list-is l (field 8000 c) fs sum rd w (ofType settype) (sum-fits (ofType settype) sum g₂ .all-digits)))
 
--- "then 8, 9, and 11 to 16": the first fault of the entries, with the sum put in after the first
-pub entries-found : (l : List ℕ) (f : Field) (fs : List Field) (sum : List ℕ) → Reads l 0 (f ∷ fs) → fitsLabel 8100 sum ≡ true
+-- "then 8, 9, and 11 to 16", and 24: the first fault of the entries, with the sum put in after the first
+pub entries-found : (l : List ℕ) (f : Field) (fs : List Field) (sum : List ℕ) → Reads l 0 (f ∷ fs) → listSize (f ∷ fs) ≡ length l → fitsLabel 8100 sum ≡ true
     → judgeEntries l (length (f ∷ fs)) ≡ firstOf (inList (f ∷ fs)) (ruleFaults (f ∷ field 8100 sum ∷ fs))
 unfolding judgeEntries firstEntry ruleFaults startFaults profile
-entries-found l f fs sum rd g = rw (rd .0, rd .1) (go (eqb (f .label) 8000) refl (typeNamed (f .content)) refl)
+entries-found l f fs sum rd w g = rw (rd .0, rd .1) (go (eqb (f .label) 8000) refl (typeNamed (f .content)) refl)
   where
     all : List Field
     all = f ∷ field 8100 sum ∷ fs
 
     go : (a : Bool) → eqb (f .label) 8000 ≡ a → (k : Known) → typeNamed (f .content) ≡ k
         → cond a (byKnown k (refusal unknownSet 0 0) (λ settype. entriesPass l settype (entryLead + length (f .content)) started noRefusal (suc (length fs) - 1))) (refusal noStart 0 0)
-        ≡ firstOf (inList (f ∷ fs)) (startFaultsBy a (isKnown k) true ++ faultsAfterStart (record { setType = k }) all)
+        ≡ firstOf (inList (f ∷ fs)) (startFaultsBy a (isKnown k) true ++ faultsThenHigh (record { setType = k }) all)
     go false e k q = refl
     go true e Nothing q = refl
     go true e (Of settype) q =
         let x : field 8000 (f .content) ≡ f = λ i. record { label = sym (eqb-true (f .label) 8000 e) i; content = f .content } in
         let n : suc (length fs) - 1 ≡ length fs = omega arith in
         rw n (subst (λ (y : Field). entriesPass l settype (entryLead + length (y .content)) started noRefusal (length fs)
-        ≡ firstOf (inList (y ∷ fs)) (faultsAfterStart (ofType settype) (y ∷ field 8100 sum ∷ fs))) x
-        (set-found l settype (f .content) fs sum (subst (λ (y : Field). Reads l 0 (y ∷ fs)) (sym x) rd) (type-fits (f .content) (type-digits (f .content) q .four)) g))
+        ≡ firstOf (inList (y ∷ fs)) (faultsThenHigh (ofType settype) (y ∷ field 8100 sum ∷ fs))) x
+        (set-found l settype (f .content) fs sum (subst (λ (y : Field). Reads l 0 (y ∷ fs)) (sym x) rd) w (type-fits (f .content) (type-digits (f .content) q .four)) g))
 
 -- its number says whether there is one
 pub rules-real : (fs : List Field) → Real (ruleFaults fs)
 unfolding ruleFaults startFaults
-rules-real fs = real-append (startFaults fs) (faultsAfterStart (profile fs) fs) (real-starts (labelIs fs 0 8000) (typeKnown fs) (labelIs fs 1 8100)) (real-after-start (profile fs) fs)
+rules-real fs = real-append (startFaults fs) (faultsThenHigh (profile fs) fs) (real-starts (labelIs fs 0 8000) (typeKnown fs) (labelIs fs 1 8100)) (real-then-high (profile fs) fs)

@@ -17,18 +17,19 @@ use Rattle.meaning.specs.Entries.{entryLead}
 use Rattle.meaning.specs.Rules.{typeNamed}
 use Rattle.meaning.specs.Answers.{noRefusal, orElse}
 use Rattle.entry_read.specs.declared.Head.the-variants.{Whole, Cut}
-use Rattle.entry_read.specs.Head.{entryAt, headsEnd}
+use Rattle.entry_read.specs.Head.{entryAt, listContent, headsEnd}
 use Rattle.entry_read.proofs.HeadLaws.{whole-back}
-use Rattle.judge_missing.specs.Lacks.{Flagged, finish, flaggedOf}
+use Rattle.judge_missing.specs.Lacks.{Flagged, finishThen, flaggedOf}
 use Rattle.meaning.proofs.FirstLaws.{or-zero, or-bad}
 use Rattle.judge_line.specs.declared.Step.{Step}
 use Rattle.judge_line.specs.Steps.{rowOf, Stepped}
+use Rattle.write_seven.specs.ListSeven.{highInList}
 use Rattle.write_judge.specs.declared.Item.{Item}
 use Rattle.write_judge.specs.declared.Item.the-variants.{Read}
 use Rattle.write_judge.specs.declared.Turn.{Turn}
 use Rattle.write_judge.specs.declared.ListJudged.{ListJudged}
 use Rattle.write_judge.specs.declared.ListJudged.the-variants.{Done, Refused}
-use Rattle.write_judge.specs.Judging.{listContent, checkEntry, checkFrom, Turned, entriesPass, started, firstEntry, judgeEntries, countUnless, ruled, judgedFrom, judgedList}
+use Rattle.write_judge.specs.Judging.{checkEntry, checkFrom, Turned, entriesPass, started, firstEntry, judgeEntries, countUnless, ruled, judgedFrom, judgedList}
 use Rattle.write_judge.proofs.CheckLaws.{entry-cut, check-done, check-full, check-bad, check-further, checked-head, Counts, check-counts, Refuses, heads-refuse, digits-kept}
 use Rattle.write_judge.proofs.EntryPass.{pass-bad, pass-on, type-digits, first-other, first-unknown, first-known}
 
@@ -65,9 +66,9 @@ module _ (late r q : Refusal) (n : ℕ) where
   ends-late h = sym (rw (or-bad late q h, ne-eqb (late .no) 0 h))
 
   module _ (z : late .no ≡ 0) (e : r ≡ q) where
-    pub ends-lacking : (r .no ≡ 0 → ⊥) → Refused r ≡ countUnless (orElse late q) n
+    pub ends-refused : (r .no ≡ 0 → ⊥) → Refused r ≡ countUnless (orElse late q) n
     unfolding countUnless
-    ends-lacking h = sym (rw (or-zero late q z, ← e, ne-eqb (r .no) 0 h))
+    ends-refused h = sym (rw (or-zero late q z, ← e, ne-eqb (r .no) 0 h))
 
     pub ends-good : r .no ≡ 0 → Done n ≡ countUnless (orElse late q) n
     unfolding countUnless
@@ -76,7 +77,7 @@ module _ (late r q : Refusal) (n : ℕ) where
 -- ---- the loop: no entry is left, too many, an entry that breaks 21 or 6, an entry more
 
 module _ (l : List ℕ) (settype : SetType) (late : Refusal) (st : Flagged) (lack : Refusal) (at n : ℕ) where
-  pub left-end : length l ≤ at → countUnless (orElse late (finish settype st lack)) n ≡ judgedFrom l settype late st lack at n
+  pub left-end : length l ≤ at → countUnless (orElse late (finishThen settype st lack (highInList l))) n ≡ judgedFrom l settype late st lack at n
   unfolding judgedFrom entriesPass
   left-end h =
       let z : n - n ≡ 0 = omega arith in

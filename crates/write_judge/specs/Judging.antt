@@ -1,11 +1,11 @@
 -- The walks of `judge_list` over a list's bytes, entry by entry: offsets and flags in the place of fields and labels.
--- What they mean is in proofs/CheckLaws (7, 21, 6), proofs/EntryPass (8, 9, 11 to 16) and proofs/ListOnceLaws (both in one loop).
+-- What they mean is in proofs/CheckLaws (7, 21, 6), proofs/EntryPass (8, 9, 11 to 16, 24) and proofs/ListOnceLaws (both in one loop).
 use mathlib.Core.Path.{_≡_}
 use mathlib.Core.Bool.{Bool, true, cond}
 use mathlib.Core.List.{List}
 use Prim.Native.Nat.{ℕ, zero, suc, _+_, _-_}
 use lib.Dec.{leb, eqb}
-use lib.ListN.{length, set, take, drop}
+use lib.ListN.{length, set}
 use Rattle.meaning.specs.declared.Refusal.{Refusal}
 use Rattle.meaning.specs.declared.Known.{Known}
 use Rattle.meaning.specs.declared.Known.the-variants.{Of, Nothing}
@@ -16,25 +16,15 @@ use Rattle.meaning.specs.Entries.{entryLead, maxLabel}
 use Rattle.meaning.specs.Rules.{typeNamed}
 use Rattle.meaning.specs.Answers.{noRefusal, orElse}
 use Rattle.byte_low.specs.Low.{firstLow}
-use Rattle.entry_read.specs.declared.Head.{Head}
-use Rattle.entry_read.specs.declared.Head.the-variants.{Whole, Cut}
-use Rattle.entry_read.specs.Head.{entryAt}
-use Rattle.judge_missing.specs.Lacks.{Flagged, noFlags, flaggedOf, finish}
+use Rattle.entry_read.specs.Head.{entryAt, byHead, listContent}
+use Rattle.judge_missing.specs.Lacks.{Flagged, noFlags, flaggedOf, finishThen}
 use Rattle.judge_line.specs.Steps.{rowOf, lineNo, nextFlagged, staysIn, lackThen, Stepped}
+use Rattle.write_seven.specs.ListSeven.{highInList}
 use Rattle.write_judge.specs.declared.Item.{Item}
 use Rattle.write_judge.specs.declared.Item.the-variants.{Read}
 use Rattle.write_judge.specs.declared.Turn.{Turn}
 use Rattle.write_judge.specs.declared.ListJudged.{ListJudged}
 use Rattle.write_judge.specs.declared.ListJudged.the-variants.{Done, Refused}
-
--- by the head of an entry
-abbrev pub byHead : {A : Type 0} → Head → A → (ℕ → ℕ → A) → A
-byHead (Whole l n) x f = f l n
-byHead Cut x f = x
-
--- the n bytes after the head at an offset
-abbrev pub listContent : List ℕ → ℕ → ℕ → List ℕ
-listContent l at n = take n (drop (at + entryLead) l)
 
 -- ---- 7, 21, 6
 
@@ -57,7 +47,7 @@ unfoldable pub checkFrom : List ℕ → ℕ → ℕ → ℕ → ListJudged
 checkFrom l at n zero = cond (leb (length l) at) (Done n) (Refused (refusal tooManyLines at 0))
 checkFrom l at n (suc k) = cond (leb (length l) at) (Done n) (afterEntry (checkEntry l at) (λ m. checkFrom l (at + (entryLead + m)) (n + 1) k))
 
--- ---- 8, 9, 11 to 16
+-- ---- 8, 9, 11 to 16, 24
 
 -- one line: its refusal, or what follows with the state and the first group's lack after it
 abbrev pub stepThen : SetType → Flagged → Refusal → ℕ → ℕ → List ℕ → (Flagged → Refusal → Refusal) → Refusal
@@ -65,9 +55,9 @@ stepThen settype st lack at l c F =
     cond (eqb (lineNo (rowOf settype l) st l c) 0) (F (nextFlagged (rowOf settype l) st at l) (lackThen (staysIn (rowOf settype l)) settype st lack))
     (refusal (lineNo (rowOf settype l) st l c) at l)
 
--- 11 to 15 of the n entries from an offset on, and 16 after the last
+-- 11 to 15 of the n entries from an offset on, and after the last 16, and then 24 of the whole list
 unfoldable pub entriesPass : List ℕ → SetType → ℕ → Flagged → Refusal → ℕ → Refusal
-entriesPass l settype at st lack zero = finish settype st lack
+entriesPass l settype at st lack zero = finishThen settype st lack (highInList l)
 entriesPass l settype at st lack (suc n) =
     byHead (entryAt l at) (refusal badList at 0) (λ label m.
     stepThen settype st lack at label (listContent l at m) (λ st′ lack′. entriesPass l settype (at + (entryLead + m)) st′ lack′ n))

@@ -1,4 +1,4 @@
-// `judge_list`: what a field list is that a set is written from, or its first refusal by 7, 21, 6, 8, 9, 11 to 16.
+// `judge_list`: what a field list is that a set is written from, or its first refusal by 7, 21, 6, 8, 9, 11 to 16, 24.
 // It has no `requires`. The other functions are its parts; each contract cites a walk of specs/, and proofs/EntryPass says what the walks mean.
 ghost use mathlib.Core.Path.{_≡_};
 ghost use mathlib.Core.Bool.{true, false};
@@ -9,9 +9,10 @@ ghost use Rattle.meaning.specs.Limits.{maxEntries};
 ghost use Rattle.meaning.specs.Entries.{entryLead};
 ghost use Rattle.meaning.specs.Answers.{noRefusal, orElse};
 ghost use Rattle.entry_read.specs.declared.Head.the-variants.{Whole};
-ghost use Rattle.entry_read.specs.Head.{entryAt, headsEnd};
-ghost use Rattle.judge_missing.specs.Lacks.{finish, flaggedOf};
-ghost use Rattle.write_judge.specs.Judging.{listContent, checkEntry, checkFrom, Turned, started, firstEntry, countUnless, ruled, judgedFrom, judgedList};
+ghost use Rattle.entry_read.specs.Head.{entryAt, listContent, headsEnd};
+ghost use Rattle.judge_missing.specs.Lacks.{finishThen, flaggedOf};
+ghost use Rattle.write_seven.specs.ListSeven.{highInList};
+ghost use Rattle.write_judge.specs.Judging.{checkEntry, checkFrom, Turned, started, firstEntry, countUnless, ruled, judgedFrom, judgedList};
 use entry_read::Head;
 use judge_missing::Group;
 use meaning::Known;
@@ -64,7 +65,7 @@ fn check_entry(list: &[u8], at: usize) -> Item
     Item::Read { label, length }
 }
 
-// ---- 8, 9, 11 to 16
+// ---- 8, 9, 11 to 16, 24
 
 // What is known after the entries so far: a refusal by 8, 9 or 11 to 15 that waits until all entries are checked (number 0: none), and what is open.
 pub struct Turn {
@@ -104,30 +105,52 @@ fn judge_entry(
     Turn { late, group }
 }
 
-// 16 after the last of n entries, if no refusal waits.
+// 16 after the last entry; then 24, if 9206 was seen.
+fn lacks_or_high(
+    list: &[u8],
+    settype: SetType,
+    group: Group,
+    members: &[bool; judge_missing::ROWS],
+    top: &[bool; judge_missing::ROWS],
+) -> Refusal
+    ensures { λ r. ⌜ r ≡ finishThen settype (flaggedOf group (now (members .entry)) (now (top .entry))) (group .lack) (highInList (now (list .entry))) ⌝ }
+{
+    let lack = judge_missing::finish_at(settype, group, members, top);
+    if lack.no != 0 {
+        return lack;
+    }
+    if judge_missing::has_9206(top) {
+        return write_seven::high_in_list(list);
+    }
+    Refusal::none()
+}
+
+// 16 and 24 after the last of n entries, if no refusal waits.
 fn finished(
+    list: &[u8],
     settype: SetType,
     turn: Turn,
     members: &[bool; judge_missing::ROWS],
     top: &[bool; judge_missing::ROWS],
     n: usize,
 ) -> ListJudged
-    ensures { λ r. ⌜ r ≡ countUnless (orElse (turn .late) (finish settype (flaggedOf (turn .group) (now (members .entry)) (now (top .entry))) (turn .group .lack))) n ⌝ }
+    ensures { λ r. ⌜ r ≡ countUnless (orElse (turn .late)
+        (finishThen settype (flaggedOf (turn .group) (now (members .entry)) (now (top .entry))) (turn .group .lack) (highInList (now (list .entry))))) n ⌝ }
 {
     let late = turn.late;
     if late.no != 0 {
         return ListJudged::Refused(late);
     }
     let group = turn.group;
-    let lack = judge_missing::finish_at(settype, group, members, top);
-    if lack.no != 0 {
-        return ListJudged::Refused(lack);
+    let last = lacks_or_high(list, settype, group, members, top);
+    if last.no != 0 {
+        return ListJudged::Refused(last);
     }
     ListJudged::Done(n)
 }
 
-// The entries from an offset on, with this many before them, each read once: 7, 21, 6 and 11 to 15 of each, then 16. Line 1 and line 2 ("the writer adds it") stand
-// before them, and are never refused here; `late` is a refusal that waits already.
+// The entries from an offset on, with this many before them, each read once: 7, 21, 6 and 11 to 15 of each, then 16 and 24. Line 1 and line 2 ("the writer adds it")
+// stand before them, and are never refused here; `late` is a refusal that waits already.
 fn pass_entries(list: &[u8], t: SetType, late: Refusal, start: usize, before: usize) -> ListJudged
     requires { ⌜ (start ≤ length (now list)) × (before ≤ maxEntries) ⌝ }
     ensures { λ r. ⌜ r ≡ judgedFrom (now (list .entry)) t late started noRefusal start before ⌝ }
@@ -160,17 +183,17 @@ fn pass_entries(list: &[u8], t: SetType, late: Refusal, start: usize, before: us
             }
         }
     }
-    finished(t, turn, &members, &top, n)
+    finished(list, t, turn, &members, &top, n)
 }
 
-// 7, 21, 6 of each entry; if none of them refuses, this refusal. No entry is judged by 11 to 16 here, so the set type makes no difference: 6300 stands for any.
+// 7, 21, 6 of each entry; if none of them refuses, this refusal. Nothing is judged by 11 to 16 or 24 here, so the set type makes no difference: 6300 stands for any.
 fn check_then(list: &[u8], late: Refusal) -> ListJudged
     ensures { λ r. ⌜ r ≡ judgedFrom (now (list .entry)) T6300 late started noRefusal 0 0 ⌝ }
 {
     pass_entries(list, SetType::T6300, late, 0, 0)
 }
 
-// 7, 21, 6, and 8 to 16, if the first entry is whole.
+// 7, 21, 6, and 8 to 16 and 24, if the first entry is whole.
 fn first_entry(list: &[u8], label: usize, bytes: usize) -> ListJudged
     requires { ⌜ entryAt (now list) 0 ≡ Whole label bytes ⌝ }
     ensures { λ r. ⌜ r ≡ ruled (checkFrom (now (list .entry)) 0 0 maxEntries) (λ n. firstEntry (now (list .entry)) label bytes n) ⌝ }
@@ -200,7 +223,7 @@ fn breaks_off(list: &[u8]) -> bool
     true
 }
 
-// "It checks entries in order: more than 511 (7), 21, 6; then 8, 9, and 11 to 16". A long list that 7, 21 or 6 is known to refuse is not judged by the rules.
+// "It checks entries in order: more than 511 (7), 21, 6; then 8, 9, and 11 to 16", and 24. A long list that 7, 21 or 6 is known to refuse is not judged by the rules.
 pub fn judge_list(list: &[u8]) -> ListJudged
     ensures { λ r. ⌜ r ≡ judgedList (now (list .entry)) ⌝ }
 {

@@ -4,10 +4,11 @@ use mathlib.Core.Bool.{true}
 use Prim.Native.Nat.{_+_, _-_, _≤_}
 use native.Mathlib.Omega.{arith}
 use borrow.Author.Needs.{needs}
-use borrow.Author.Tests.{leb-true}
+use lib.Dec.{leb}
+use Rattle.meaning.specs.Lines.{leastByte}
 use Rattle.meaning.proofs.Bools.{and-left, and-right}
 use Rattle.byte_low.specs.Low.{firstLow}
-use Rattle.byte_low.proofs.LowLaws.{low-step, low-done}
+use Rattle.byte_low.proofs.SeekLaws.{seek-step, seek-done}
 use Rattle.byte_low.proofs.clean.Statement.{statement}
 use Rattle.byte_low.proofs.clean.Tie as tie
 
@@ -37,13 +38,13 @@ loop-again c = (
   search needs,
   λ h.
       let l = c .before .before .loop in
-      sym (low-step _ _ (l .i) _ (omega arith) (leb-true _ _ (and-right (l .fit) _ h))) ∙ l .inv .1 (and-left (l .fit) _ h),
+      sym (seek-step (leb leastByte) _ _ (l .i) _ (omega arith) (and-right (l .fit) _ h)) ∙ l .inv .1 (and-left (l .fit) _ h),
 )
 
 returns : tie.Need-returns Inv-loop μ-loop
 returns c = λ e.
     let l = c .before .loop in
-    sym (l .inv .1 e) ∙ low-done _ _ (l .i) _ (omega arith) ∙ omega arith
+    sym (l .inv .1 e) ∙ seek-done (leb leastByte) _ _ (l .i) _ (omega arith) ∙ omega arith
 
 pub clean-spec : {M : Type 1} → statement M
 clean-spec =

@@ -3,8 +3,10 @@ use mathlib.Core.Path.{_≡_, refl, sym, _∙_}
 use Prim.Native.Nat.{_-_, _≤_}
 use native.Mathlib.Omega.{arith}
 use borrow.Author.Needs.{needs}
+use lib.Dec.{leb}
+use Rattle.meaning.specs.Lines.{leastByte}
 use Rattle.byte_low.specs.Low.{firstLow}
-use Rattle.byte_low.proofs.LowLaws.{low-on, low-tail}
+use Rattle.byte_low.proofs.SeekLaws.{seek-on, seek-tail}
 use Rattle.byte_low.proofs.clean_content.Statement.{statement}
 use Rattle.byte_low.proofs.clean_content.Tie as tie
 
@@ -30,7 +32,7 @@ clean-requires : tie.Need-clean-requires Inv-loop μ-loop Inv-loop2 μ-loop2
 clean-requires c κs = search needs
 
 returns : tie.Need-returns Inv-loop μ-loop Inv-loop2 μ-loop2
-returns c = λ e. low-tail _ _ _ _ (omega arith) (omega arith) (omega arith) (c .clean .ensures e)
+returns c = λ e. seek-tail (leb leastByte) _ _ _ _ (omega arith) (omega arith) (omega arith) (c .clean .ensures e)
 
 loop-holds : tie.Need-loop-holds Inv-loop μ-loop Inv-loop2 μ-loop2
 loop-holds c = (omega arith, omega arith, refl)
@@ -52,7 +54,7 @@ loop-again c =
     let at-clean2 = c .before in
     let at-loop = at-clean2 .before .before in
     let l = at-loop .loop in
-    (omega arith, omega arith, sym (low-on _ _ (l .i) _ (omega arith) (at-clean2 .clean2 .ensures (c .if2 .taken))) ∙ l .inv .2)
+    (omega arith, omega arith, sym (seek-on (leb leastByte) _ _ (l .i) _ (omega arith) (at-clean2 .clean2 .ensures (c .if2 .taken))) ∙ l .inv .2)
 
 returns-2 : tie.Need-returns-2 Inv-loop μ-loop Inv-loop2 μ-loop2
 returns-2 c = λ e. search needs
@@ -77,7 +79,7 @@ loop2-again c =
     let at-clean3 = c .before in
     let at-loop2 = at-clean3 .before .before in
     let l = at-loop2 .loop2 in
-    (omega arith, omega arith, sym (low-on _ _ (l .i) _ (omega arith) (at-clean3 .clean3 .ensures (c .if3 .taken))) ∙ l .inv .2)
+    (omega arith, omega arith, sym (seek-on (leb leastByte) _ _ (l .i) _ (omega arith) (at-clean3 .clean3 .ensures (c .if3 .taken))) ∙ l .inv .2)
 
 returns-3 : tie.Need-returns-3 Inv-loop μ-loop Inv-loop2 μ-loop2
 returns-3 c = λ e. search needs
@@ -89,7 +91,7 @@ clean-requires-4 : tie.Need-clean-requires-4 Inv-loop μ-loop Inv-loop2 μ-loop2
 clean-requires-4 c κs = search needs
 
 returns-4 : tie.Need-returns-4 Inv-loop μ-loop Inv-loop2 μ-loop2
-returns-4 c = λ e. sym (c .before .before .loop2 .inv .2) ∙ low-tail _ _ _ _ (omega arith) (omega arith) (omega arith) (c .clean4 .ensures e)
+returns-4 c = λ e. sym (c .before .before .loop2 .inv .2) ∙ seek-tail (leb leastByte) _ _ _ _ (omega arith) (omega arith) (omega arith) (c .clean4 .ensures e)
 
 pub clean-content-spec : {M : Type 1} → statement M
 clean-content-spec =

@@ -3,8 +3,10 @@ use mathlib.Core.Path.{_≡_, sym, ap, _∙_}
 use Prim.Native.Nat.{_-_, _≤_}
 use native.Mathlib.Omega.{arith}
 use borrow.Author.Needs.{needs}
+use lib.Dec.{leb}
+use Rattle.meaning.specs.Lines.{leastByte}
 use Rattle.byte_low.specs.Low.{firstLow}
-use Rattle.byte_low.proofs.LowLaws.{low-on}
+use Rattle.byte_low.proofs.SeekLaws.{seek-on}
 use Rattle.byte_low.proofs.first_low.Statement.{statement}
 use Rattle.byte_low.proofs.first_low.Tie as tie
 
@@ -43,7 +45,7 @@ loop-again c =
     let at-clean = c .before in
     let at-loop = at-clean .before .before in
     let l = at-loop .loop in
-    (omega arith, sym (low-on _ _ (l .i) _ (omega arith) (at-clean .clean .ensures (c .if1 .taken))) ∙ l .inv .1)
+    (omega arith, sym (seek-on (leb leastByte) _ _ (l .i) _ (omega arith) (at-clean .clean .ensures (c .if1 .taken))) ∙ l .inv .1)
 
 sub-seek-low : tie.Need-sub-seek-low Inv-loop μ-loop Inv-loop2 μ-loop2
 sub-seek-low c = search needs
@@ -77,7 +79,7 @@ loop2-again c =
     let at-clean2 = c .before in
     let at-loop2 = at-clean2 .before .before in
     let l = at-loop2 .loop2 in
-    (omega arith, sym (low-on _ _ (l .i) _ (omega arith) (at-clean2 .clean2 .ensures (c .if2 .taken))) ∙ l .inv .1)
+    (omega arith, sym (seek-on (leb leastByte) _ _ (l .i) _ (omega arith) (at-clean2 .clean2 .ensures (c .if2 .taken))) ∙ l .inv .1)
 
 sub-seek-low-2 : tie.Need-sub-seek-low-2 Inv-loop μ-loop Inv-loop2 μ-loop2
 sub-seek-low-2 c = search needs

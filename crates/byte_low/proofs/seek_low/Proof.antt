@@ -3,8 +3,11 @@ use mathlib.Core.Path.{_≡_, sym, ap, _∙_}
 use Prim.Native.Nat.{_-_, _≤_}
 use native.Mathlib.Omega.{arith}
 use borrow.Author.Needs.{needs}
+use borrow.Author.Tests.{le-leb, lt-leb}
+use lib.Dec.{leb}
+use Rattle.meaning.specs.Lines.{leastByte}
 use Rattle.byte_low.specs.Low.{firstLow}
-use Rattle.byte_low.proofs.LowLaws.{low-here, low-further, low-end}
+use Rattle.byte_low.proofs.SeekLaws.{seek-here, seek-further, seek-end}
 use Rattle.byte_low.proofs.seek_low.Statement.{statement}
 use Rattle.byte_low.proofs.seek_low.Tie as tie
 
@@ -27,7 +30,7 @@ returns : tie.Need-returns Inv-loop μ-loop
 returns c =
     let at-loop-test = c .before .before in
     let at-loop = at-loop-test .before in
-    sym (low-here _ _ _ (at-loop-test .loop-test .taken) (c .if1 .taken)) ∙ at-loop .loop .inv .1
+    sym (seek-here (leb leastByte) _ _ _ (at-loop-test .loop-test .taken) (lt-leb leastByte _ (c .if1 .taken))) ∙ at-loop .loop .inv .1
 
 add-i : tie.Need-add-i Inv-loop μ-loop
 add-i c = search needs
@@ -39,10 +42,10 @@ loop-again : tie.Need-loop-again Inv-loop μ-loop
 loop-again c =
     let at-loop-test = c .before .before in
     let at-loop = at-loop-test .before in
-    (search needs, sym (low-further _ _ _ (at-loop-test .loop-test .taken) (c .if1 .left)) ∙ at-loop .loop .inv .1)
+    (search needs, sym (seek-further (leb leastByte) _ _ _ (at-loop-test .loop-test .taken) (le-leb leastByte _ (c .if1 .left))) ∙ at-loop .loop .inv .1)
 
 returns-2 : tie.Need-returns-2 Inv-loop μ-loop
-returns-2 c = sym (low-end _ _ _ (c .loop-test .left)) ∙ c .before .loop .inv .1
+returns-2 c = sym (seek-end (leb leastByte) _ _ _ (c .loop-test .left)) ∙ c .before .loop .inv .1
 
 pub seek-low-spec : {M : Type 1} → statement M
 seek-low-spec =

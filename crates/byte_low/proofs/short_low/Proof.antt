@@ -2,7 +2,9 @@
 use mathlib.Core.Path.{sym}
 use native.Mathlib.Omega.{arith}
 use borrow.Author.Needs.{needs}
-use Rattle.byte_low.proofs.LowLaws.{low-ends}
+use lib.Dec.{leb}
+use Rattle.meaning.specs.Lines.{leastByte}
+use Rattle.byte_low.proofs.SeekLaws.{seek-ends}
 use Rattle.byte_low.proofs.short_low.Statement.{statement}
 use Rattle.byte_low.proofs.short_low.Tie as tie
 
@@ -23,7 +25,7 @@ returns c =
     let at-clean2 = c .before in
     let at-if2 = at-clean2 .before in
     let at-clean = at-if2 .before in
-    sym (low-ends _ _ _ _ (omega arith) (omega arith) (at-clean .clean .ensures (at-if2 .if2 .taken)) (at-clean2 .clean2 .ensures (c .if3 .taken)))
+    sym (seek-ends (leb leastByte) _ _ _ _ (omega arith) (omega arith) (at-clean .clean .ensures (at-if2 .if2 .taken)) (at-clean2 .clean2 .ensures (c .if3 .taken)))
 
 seek-low-requires : tie.Need-seek-low-requires
 seek-low-requires c κs = search needs

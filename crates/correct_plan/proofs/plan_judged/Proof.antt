@@ -19,8 +19,8 @@ returns c =
     let a = at-start .args in
     c .refused-plan .ensures ∙ sym (plan-followed (a .set .now) (a .content .now) (a .room) (a .line) (a .shape) (at-start .pre) (at-if1 .if1 .taken))
 
-judge-offer-requires : tie.Need-judge-offer-requires
-judge-offer-requires c κs = search needs
+judge-change-requires : tie.Need-judge-change-requires
+judge-change-requires c κs = search needs
 
 place-of-requires : tie.Need-place-of-requires
 place-of-requires c κs = search needs
@@ -32,12 +32,12 @@ returns-2 : tie.Need-returns-2
 returns-2 c =
     let at-place-of = c .before in
     let at-if2 = at-place-of .before in
-    let at-judge-offer = at-if2 .before .before in
-    let at-if1 = at-judge-offer .before in
+    let at-judge-change = at-if2 .before .before in
+    let at-if1 = at-judge-change .before in
     let at-shared-slice-known2 = at-if1 .before .before in
     let at-start = at-shared-slice-known2 .before .before in
     let a = at-start .args in
-    let o = at-judge-offer .judge-offer in
+    let o = at-judge-change .judge-change in
     let r = o .result in
     let h = at-if1 .if1 .left in
     c .refused-plan2 .ensures
@@ -47,12 +47,12 @@ returns-2 c =
 sub-old : tie.Need-sub-old
 sub-old c =
     let at-if2 = c .before in
-    let at-judge-offer = at-if2 .before .before in
-    let at-if1 = at-judge-offer .before in
+    let at-judge-change = at-if2 .before .before in
+    let at-if1 = at-judge-change .before in
     let at-shared-slice-known2 = at-if1 .before .before in
     let at-start = at-shared-slice-known2 .before .before in
     let a = at-start .args in
-    let o = at-judge-offer .judge-offer in
+    let o = at-judge-change .judge-change in
     let h = at-if1 .if1 .left in
     let r : Ready (a .set .now) (a .content .now) (a .room) (a .line) (o .result) =
     plan-ready (a .set .now) (a .content .now) (a .room) (a .line) (a .shape) (at-start .pre) (o .result) h (o .ensures) (at-if2 .if2 .left) in
@@ -61,12 +61,12 @@ sub-old c =
 sub-total : tie.Need-sub-total
 sub-total c =
     let at-if2 = c .before in
-    let at-judge-offer = at-if2 .before .before in
-    let at-if1 = at-judge-offer .before in
+    let at-judge-change = at-if2 .before .before in
+    let at-if1 = at-judge-change .before in
     let at-shared-slice-known2 = at-if1 .before .before in
     let at-start = at-shared-slice-known2 .before .before in
     let a = at-start .args in
-    let o = at-judge-offer .judge-offer in
+    let o = at-judge-change .judge-change in
     let h = at-if1 .if1 .left in
     let r : Ready (a .set .now) (a .content .now) (a .room) (a .line) (o .result) =
     plan-ready (a .set .now) (a .content .now) (a .room) (a .line) (a .shape) (at-start .pre) (o .result) h (o .ensures) (at-if2 .if2 .left) in
@@ -81,12 +81,12 @@ plan-total-requires c κs = search needs
 returns-3 : tie.Need-returns-3
 returns-3 c =
     let at-if2 = c .before .before in
-    let at-judge-offer = at-if2 .before .before in
-    let at-if1 = at-judge-offer .before in
+    let at-judge-change = at-if2 .before .before in
+    let at-if1 = at-judge-change .before in
     let at-shared-slice-known2 = at-if1 .before .before in
     let at-start = at-shared-slice-known2 .before .before in
     let a = at-start .args in
-    let o = at-judge-offer .judge-offer in
+    let o = at-judge-change .judge-change in
     let h = at-if1 .if1 .left in
     let r : Ready (a .set .now) (a .content .now) (a .room) (a .line) (o .result) =
     plan-ready (a .set .now) (a .content .now) (a .room) (a .line) (a .shape) (at-start .pre) (o .result) h (o .ensures) (at-if2 .if2 .left) in
@@ -98,7 +98,7 @@ plan-judged-spec =
     (tie.spec
     refused-plan-requires
     returns
-    judge-offer-requires
+    judge-change-requires
     place-of-requires
     refused-plan-requires-2
     returns-2

@@ -28,17 +28,17 @@ part-number-in-end-2 c = search needs
 number-in-requires-2 : tie.Need-number-in-requires-2
 number-in-requires-2 c κs = search needs
 
-sub-patient-place : tie.Need-sub-patient-place
-sub-patient-place c = search needs
+sub-first-place : tie.Need-sub-first-place
+sub-first-place c = search needs
 
-part-patient-place-start : tie.Need-part-patient-place-start
-part-patient-place-start c = search needs
+part-first-place-start : tie.Need-part-first-place-start
+part-first-place-start c = search needs
 
-part-patient-place-end : tie.Need-part-patient-place-end
-part-patient-place-end c = search needs
+part-first-place-end : tie.Need-part-first-place-end
+part-first-place-end c = search needs
 
-patient-place-requires : tie.Need-patient-place-requires
-patient-place-requires c κs = search needs
+first-place-requires : tie.Need-first-place-requires
+first-place-requires c κs = search needs
 
 add-t7 : tie.Need-add-t7
 add-t7 c = search needs
@@ -49,7 +49,7 @@ returns c =
     let at-length = at-settype .before .before in
     let at-shared-slice-known = at-length .before .before in
     let at-start = at-shared-slice-known .before in
-    entry-so (at-start .args .file .now) (at-start .args .at) _ _ _ (at-length .number-in .ensures) (at-settype .number-in2 .ensures) (c .patient-place .ensures .0)
+    entry-so (at-start .args .file .now) (at-start .args .at) _ _ _ (at-length .number-in .ensures) (at-settype .number-in2 .ensures) (c .first-place .ensures .0)
 
 pub entry-at-spec : {M : Type 1} → statement M
 entry-at-spec =
@@ -63,9 +63,9 @@ entry-at-spec =
     part-number-in-start-2
     part-number-in-end-2
     number-in-requires-2
-    sub-patient-place
-    part-patient-place-start
-    part-patient-place-end
-    patient-place-requires
+    sub-first-place
+    part-first-place-start
+    part-first-place-end
+    first-place-requires
     add-t7
     returns)

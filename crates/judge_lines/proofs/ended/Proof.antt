@@ -1,8 +1,11 @@
--- `ended`: what the scan finds, and 16 if it is done.
-use mathlib.Core.Path.{sym, ap, _∙_}
+-- `ended`: what the scan finds, and 16 and 24 if it is done.
+use mathlib.Core.Path.{sym, ap, _∙_, subst}
+use Prim.Native.Nat.{_-_}
 use borrow.Author.Needs.{needs}
+use Rattle.meaning.specs.Limits.{maxLines}
+use Rattle.line_scan.proofs.ScanWalkLaws.{EndsFrom, scan-ends}
 use Rattle.judge_lines.specs.Pass.{finishedScan}
-use Rattle.judge_lines.proofs.LineLoopLaws.{unless-bad, unless-good}
+use Rattle.judge_lines.proofs.LineLoopLaws.{lacks-end, high-end}
 use Rattle.judge_lines.proofs.ended.Statement.{statement}
 use Rattle.judge_lines.proofs.ended.Tie as tie
 
@@ -23,7 +26,17 @@ returns c =
     let at-finish-at = c .before .before in
     let at-length = at-finish-at .before .before in
     let at-scan-from = at-length .before .before in
-    unless-bad _ _ _ _ (at-finish-at .finish-at .ensures) (c .if1 .taken) ∙ ap (finishedScan _) (sym (at-length .length .given .1) ∙ at-scan-from .scan-from .ensures)
+    lacks-end _ _ _ _ _ (at-finish-at .finish-at .ensures) _ _ (c .if1 .taken) ∙ ap (finishedScan _) (sym (at-length .length .given .1) ∙ at-scan-from .scan-from .ensures)
+
+unless-high-requires : tie.Need-unless-high-requires
+unless-high-requires c κs =
+    let at-finish-at = c .before .before in
+    let at-length = at-finish-at .before .before in
+    let at-scan-from = at-length .before .before in
+    let at-start = at-scan-from .before .before in
+    let a = at-start .args in
+    subst (EndsFrom (a .s .now) (a .from) (a .before)) (sym (at-scan-from .scan-from .ensures) ∙ at-length .length .given .1)
+    (scan-ends (a .s .now) (maxLines - a .before) (a .from) (a .before)) .0 (at-start .pre .0)
 
 returns-2 : tie.Need-returns-2
 returns-2 c =
@@ -33,10 +46,12 @@ returns-2 c =
 
 returns-3 : tie.Need-returns-3
 returns-3 c =
-    let at-finish-at = c .before .before in
+    let at-if1 = c .before in
+    let at-finish-at = at-if1 .before .before in
     let at-length = at-finish-at .before .before in
     let at-scan-from = at-length .before .before in
-    unless-good _ _ _ _ (at-finish-at .finish-at .ensures) (c .if1 .left) ∙ ap (finishedScan _) (sym (at-length .length .given .1) ∙ at-scan-from .scan-from .ensures)
+    high-end _ _ _ _ _ (at-finish-at .finish-at .ensures) _ _ (at-if1 .if1 .left) _ (c .unless-high .ensures)
+    ∙ ap (finishedScan _) (sym (at-length .length .given .1) ∙ at-scan-from .scan-from .ensures)
 
 pub ended-spec : {M : Type 1} → statement M
 ended-spec =
@@ -47,5 +62,6 @@ ended-spec =
     enum-known-length
     finish-at-requires
     returns
+    unless-high-requires
     returns-2
     returns-3)

@@ -5,7 +5,7 @@ use native.Mathlib.Nat.{add-sub-cancel-left}
 use native.Mathlib.Omega.{arith}
 use borrow.Author.Needs.{needs}
 use Rattle.entry_read.proofs.HeadLaws.{whole-back}
-use Rattle.view_sheet.proofs.SheetWalkLaws.{byte-within, sheet-cut, sheet-good, sheet-low, sheet-bad}
+use Rattle.view_sheet.proofs.SheetWalkLaws.{byte-within, sheet-cut, sheet-good, sheet-byte, sheet-bad}
 use Rattle.view_sheet.proofs.sheet_entry_at.Statement.{statement}
 use Rattle.view_sheet.proofs.sheet_entry_at.Tie as tie
 
@@ -72,6 +72,9 @@ returns c =
     let e = sym (at-entry-at .entry-at .ensures) ∙ at-named .named .given .1 in
     sheet-good _ _ _ _ _ _ e _ (add-sub-cancel-left _ _) _ (at-judge-offer .judge-offer .ensures) (c .if1 .taken)
 
+tells-byte-requires : tie.Need-tells-byte-requires
+tells-byte-requires c κs = search needs
+
 add-bad-entry : tie.Need-add-bad-entry
 add-bad-entry c =
     let at-if2 = c .before in
@@ -87,7 +90,7 @@ add-bad-entry c =
     let w = whole-back (a .sheet .now) (a .at) e .within in
     let q = at-named .named .given .0 in
     let o = at-judge-offer .judge-offer in
-    let i = byte-within (a .set .now) (a .shape) (a .sheet .now) (a .at + 4) (q .0) (q .1 .0) (o .result) (o .ensures) in
+    let i = byte-within (a .set .now) (a .terms) (a .sheet .now) (a .at + 4) (q .0) (q .1 .0) (o .result) (o .ensures) in
     omega (arith, w, i, at-start .fits, at-start .good)
 
 bad-entry-requires-2 : tie.Need-bad-entry-requires-2
@@ -96,13 +99,15 @@ bad-entry-requires-2 c κs = search needs
 returns-2 : tie.Need-returns-2
 returns-2 c =
     let at-if2 = c .before .before in
-    let at-if1 = at-if2 .before .before in
+    let at-tells-byte = at-if2 .before in
+    let at-if1 = at-tells-byte .before in
     let at-judge-offer = at-if1 .before .before in
     let at-judge-offer-arg = at-judge-offer .before in
     let at-named = at-judge-offer-arg .before .before in
     let at-entry-at = at-named .before .before in
     let e = sym (at-entry-at .entry-at .ensures) ∙ at-named .named .given .1 in
-    c .bad-entry2 .ensures ∙ sheet-low _ _ _ _ _ _ e _ (add-sub-cancel-left _ _) _ (at-judge-offer .judge-offer .ensures) (at-if1 .if1 .left) (at-if2 .if2 .taken)
+    let b = sym (at-tells-byte .tells-byte .ensures) ∙ at-if2 .if2 .taken in
+    c .bad-entry2 .ensures ∙ sheet-byte _ _ _ _ _ _ e _ (add-sub-cancel-left _ _) _ (at-judge-offer .judge-offer .ensures) (at-if1 .if1 .left) b
 
 bad-entry-requires-3 : tie.Need-bad-entry-requires-3
 bad-entry-requires-3 c κs = search needs
@@ -116,13 +121,15 @@ returns-3 c =
 returns-4 : tie.Need-returns-4
 returns-4 c =
     let at-if2 = c .before in
-    let at-if1 = at-if2 .before .before in
+    let at-tells-byte = at-if2 .before in
+    let at-if1 = at-tells-byte .before in
     let at-judge-offer = at-if1 .before .before in
     let at-judge-offer-arg = at-judge-offer .before in
     let at-named = at-judge-offer-arg .before .before in
     let at-entry-at = at-named .before .before in
     let e = sym (at-entry-at .entry-at .ensures) ∙ at-named .named .given .1 in
-    c .bad-entry3 .ensures ∙ sheet-bad _ _ _ _ _ _ e _ (add-sub-cancel-left _ _) _ (at-judge-offer .judge-offer .ensures) (at-if1 .if1 .left) (at-if2 .if2 .left)
+    let b = sym (at-tells-byte .tells-byte .ensures) ∙ at-if2 .if2 .left in
+    c .bad-entry3 .ensures ∙ sheet-bad _ _ _ _ _ _ e _ (add-sub-cancel-left _ _) _ (at-judge-offer .judge-offer .ensures) (at-if1 .if1 .left) b
 
 pub sheet-entry-at-spec : {M : Type 1} → statement M
 sheet-entry-at-spec =
@@ -139,6 +146,7 @@ sheet-entry-at-spec =
     part-judge-offer-end
     judge-offer-requires
     returns
+    tells-byte-requires
     add-bad-entry
     bad-entry-requires-2
     returns-2

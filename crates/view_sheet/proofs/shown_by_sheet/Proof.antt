@@ -10,11 +10,11 @@ use Rattle.view_sheet.proofs.shown_by_sheet.Statement.{statement}
 use Rattle.view_sheet.proofs.shown_by_sheet.Tie as tie
 
 abbrev Inv-loop : tie.InvT-loop
-Inv-loop set shape sheet line shown₀ at₀ shown at =
-    (at ≤ length sheet) × (k : ℕ) × (length sheet ≤ at + k) × (shownFrom set shape sheet line k at shown ≡ shownBySheet set shape sheet line)
+Inv-loop set terms sheet line shown₀ at₀ shown at =
+    (at ≤ length sheet) × (k : ℕ) × (length sheet ≤ at + k) × (shownFrom set terms sheet line k at shown ≡ shownBySheet set terms sheet line)
 
 abbrev μ-loop : tie.MeasureT-loop
-μ-loop set shape sheet line shown₀ at₀ shown at = length sheet - at
+μ-loop set terms sheet line shown₀ at₀ shown at = length sheet - at
 
 loop-holds : tie.Need-loop-holds Inv-loop μ-loop
 unfolding shownBySheet
@@ -48,7 +48,7 @@ add-place c =
     let at-start = at-shared-slice-known .before in
     let a = at-start .args in
     let e = sym (at-sheet-entry-at .sheet-entry-at .ensures) ∙ at-named .named .given .1 in
-    let w = sheet-within (a .set .now) (a .shape) (a .sheet .now) (at-loop .loop .at) _ _ e in
+    let w = sheet-within (a .set .now) (a .terms) (a .sheet .now) (at-loop .loop .at) _ _ e in
     omega (arith, w, at-start .fits, at-start .good)
 
 newer-part-requires : tie.Need-newer-part-requires Inv-loop μ-loop
@@ -63,7 +63,7 @@ add-at c =
     let at-start = at-shared-slice-known .before in
     let a = at-start .args in
     let e = sym (at-sheet-entry-at .sheet-entry-at .ensures) ∙ at-named .named .given .1 in
-    let w = sheet-within (a .set .now) (a .shape) (a .sheet .now) (at-loop .loop .at) _ _ e in
+    let w = sheet-within (a .set .now) (a .terms) (a .sheet .now) (at-loop .loop .at) _ _ e in
     omega (arith, w, at-start .fits, at-start .good)
 
 loop-less : tie.Need-loop-less Inv-loop μ-loop
@@ -76,7 +76,7 @@ loop-less c =
     let at-start = at-shared-slice-known .before in
     let a = at-start .args in
     let e = sym (at-sheet-entry-at .sheet-entry-at .ensures) ∙ at-named .named .given .1 in
-    let w = sheet-within (a .set .now) (a .shape) (a .sheet .now) (at-loop .loop .at) _ _ e in
+    let w = sheet-within (a .set .now) (a .terms) (a .sheet .now) (at-loop .loop .at) _ _ e in
     omega (arith, w, at-loop-test .loop-test .taken)
 
 loop-again : tie.Need-loop-again Inv-loop μ-loop
@@ -91,7 +91,7 @@ loop-again c =
     let l = at-loop .loop in
     let t = at-loop-test .loop-test .taken in
     let e = sym (at-sheet-entry-at .sheet-entry-at .ensures) ∙ at-named .named .given .1 in
-    let w = sheet-within (a .set .now) (a .shape) (a .sheet .now) (at-loop .loop .at) _ _ e in (
+    let w = sheet-within (a .set .now) (a .terms) (a .sheet .now) (at-loop .loop .at) _ _ e in (
       omega (arith, w),
       pred (l .inv .1),
       omega (arith, w, l .inv .2, t),

@@ -6,6 +6,9 @@ use Rattle.view_sheet.proofs.SheetWalkLaws.{under-by}
 use Rattle.view_sheet.proofs.shown_under.Statement.{statement}
 use Rattle.view_sheet.proofs.shown_under.Tie as tie
 
+terms-of-requires : tie.Need-terms-of-requires
+terms-of-requires c κs = search needs
+
 shown-by-sheet-requires : tie.Need-shown-by-sheet-requires
 shown-by-sheet-requires c κs = search needs
 
@@ -25,24 +28,25 @@ returns : tie.Need-returns
 returns c =
     let at-r = c .before in
     let at-shown-by-sheet = at-r .before .before in
-    under-by _ _ _ _ _ (sym (at-shown-by-sheet .shown-by-sheet .ensures) ∙ at-r .r .given .1)
+    under-by _ _ _ _ _ (at-shown-by-sheet .before .terms-of .ensures) _ (sym (at-shown-by-sheet .shown-by-sheet .ensures) ∙ at-r .r .given .1)
 
 returns-2 : tie.Need-returns-2
 returns-2 c =
     let at-part = c .before in
     let at-shown-by-sheet = at-part .before .before in
-    under-by _ _ _ _ _ (sym (at-shown-by-sheet .shown-by-sheet .ensures) ∙ at-part .part .given .1)
+    under-by _ _ _ _ _ (at-shown-by-sheet .before .terms-of .ensures) _ (sym (at-shown-by-sheet .shown-by-sheet .ensures) ∙ at-part .part .given .1)
 
 returns-3 : tie.Need-returns-3
 returns-3 c =
     let at-enum-told = c .before in
     let at-shown-by-sheet = at-enum-told .before .before in
-    ap Set (c .part-of-set .ensures) ∙ under-by _ _ _ _ _ (sym (at-shown-by-sheet .shown-by-sheet .ensures) ∙ at-enum-told .enum-told .given .1)
+    ap Set (c .part-of-set .ensures) ∙ under-by _ _ _ _ _ (at-shown-by-sheet .before .terms-of .ensures) _ (sym (at-shown-by-sheet .shown-by-sheet .ensures) ∙ at-enum-told .enum-told .given .1)
 
 pub shown-under-spec : {M : Type 1} → statement M
 shown-under-spec =
     tie.close
     (tie.spec
+    terms-of-requires
     shown-by-sheet-requires
     enum-known-r
     enum-known-part

@@ -44,15 +44,14 @@ same-length c =
 returns : tie.Need-returns Inv-loop μ-loop
 returns c =
     let at-entry-at = c .before .before in
-    let at-loop-test = at-entry-at .before in
-    let at-loop = at-loop-test .before in
+    let at-loop = at-entry-at .before .before in
     let at-shared-slice-known = at-loop .before .before in
     let at-start = at-shared-slice-known .before in
     let a = at-start .args in
     let l = at-loop .loop in
     over-none (l .out) (l .to)
     ∙ (ap (λ (u : List ℕ). over (l .to) u (l .out))
-    (sym (lines-cut (a .list .now) (digits sumDigits (a .total)) (l .at) (at-loop-test .loop-test .taken) (sym (at-entry-at .entry-at .ensures) ∙ c .enum-told .given .1)))
+    (sym (lines-cut (a .list .now) (digits sumDigits (a .total)) (l .at) (sym (at-entry-at .entry-at .ensures) ∙ c .enum-told .given .1)))
     ∙ l .inv .3)
 
 enum-known-label : tie.Need-enum-known-label Inv-loop μ-loop
@@ -108,13 +107,12 @@ put-lines-requires c κs =
     let at-put-lines-arg = c .before in
     let at-label = at-put-lines-arg .before .before in
     let at-entry-at = at-label .before .before in
-    let at-loop-test = at-entry-at .before in
-    let at-loop = at-loop-test .before in
+    let at-loop = at-entry-at .before .before in
     let at-shared-slice-known = at-loop .before .before in
     let at-start = at-shared-slice-known .before in
     let a = at-start .args in
     let l = at-loop .loop in
-    lines-fit (a .list .now) (digits sumDigits (a .total)) (l .at) (at-loop-test .loop-test .taken)
+    lines-fit (a .list .now) (digits sumDigits (a .total)) (l .at)
     (sym (at-entry-at .entry-at .ensures) ∙ at-label .label .given .1) _ (add-sub-cancel-left _ _) _ (add-assoc (l .at) _ _) (l .out) (l .to) (l .inv .2)
 
 loop-less : tie.Need-loop-less Inv-loop μ-loop
@@ -139,13 +137,12 @@ loop-again c =
     let at-put-lines-arg = at-put-lines .before .before in
     let at-label = at-put-lines-arg .before .before in
     let at-entry-at = at-label .before .before in
-    let at-loop-test = at-entry-at .before in
-    let at-loop = at-loop-test .before in
+    let at-loop = at-entry-at .before .before in
     let at-shared-slice-known = at-loop .before .before in
     let at-start = at-shared-slice-known .before in
     let a = at-start .args in
     let l = at-loop .loop in
-    let t = put-turn (a .list .now) (digits sumDigits (a .total)) (l .at) (at-loop-test .loop-test .taken)
+    let t = put-turn (a .list .now) (digits sumDigits (a .total)) (l .at)
     (sym (at-entry-at .entry-at .ensures) ∙ at-label .label .given .1) _ (add-sub-cancel-left _ _) _ (add-assoc (l .at) _ _) (l .out) (l .to) (l .inv .2)
     _ _ (at-put-lines .put-lines .ensures .0) (at-put-lines .put-lines .ensures .1) in (
       omega (arith, whole-back (a .list .now) (l .at) (sym (at-entry-at .entry-at .ensures) ∙ at-label .label .given .1) .within),

@@ -1,6 +1,6 @@
 -- `judge_entry`: a refusal that waits, or the step of the entry.
 use borrow.Author.Needs.{needs}
-use Rattle.write_judge.specs.Judging.{listContent}
+use Rattle.entry_read.specs.Head.{listContent}
 use Rattle.write_judge.proofs.EntryPass.{step-entry}
 use Rattle.write_judge.proofs.ListOnceLaws.{turn-waits, turn-steps}
 use Rattle.write_judge.proofs.judge_entry.Statement.{statement}

@@ -1,19 +1,19 @@
--- `patient_place`: what is left to walk is always what is to be walked in all.
+-- `first_place`: what is left to walk is always what is to be walked in all.
 use mathlib.Core.Path.{_≡_, refl, _∙_}
 use Prim.Native.Nat.{_-_, _≤_}
 use native.Mathlib.Omega.{arith}
 use borrow.Author.Needs.{needs}
 use Rattle.meaning.specs.Limits.{maxLines}
-use Rattle.day_entry.specs.ToldEntry.{placeFrom}
-use Rattle.day_entry.proofs.ToldEntryLaws.{place-none, place-cut, place-here, place-next}
-use Rattle.day_entry.proofs.patient_place.Statement.{statement}
-use Rattle.day_entry.proofs.patient_place.Tie as tie
+use Rattle.line_find.specs.FirstPlace.{placeFrom}
+use Rattle.line_find.proofs.FirstPlaceLaws.{place-none, place-cut, place-here, place-next}
+use Rattle.line_find.proofs.first_place.Statement.{statement}
+use Rattle.line_find.proofs.first_place.Tie as tie
 
 abbrev Inv-loop : tie.InvT-loop
-Inv-loop set at₀ lines₀ at lines = (lines ≤ maxLines) × (placeFrom set at (maxLines - lines) ≡ placeFrom set 0 maxLines)
+Inv-loop set label at₀ lines₀ at lines = (lines ≤ maxLines) × (placeFrom label set at (maxLines - lines) ≡ placeFrom label set 0 maxLines)
 
 abbrev μ-loop : tie.MeasureT-loop
-μ-loop set at₀ lines₀ at lines = maxLines - lines
+μ-loop set label at₀ lines₀ at lines = maxLines - lines
 
 loop-holds : tie.Need-loop-holds Inv-loop μ-loop
 loop-holds c = (omega arith, refl)
@@ -23,7 +23,7 @@ returns c =
     let at-loop = c .before .before in
     let a = at-loop .before .before .args in
     let l = at-loop .loop in
-    (place-cut (a .set .now) (l .at) (l .lines) (omega arith) (omega arith) ∙ l .inv .1, omega arith)
+    (place-cut (a .label) (a .set .now) (l .at) (l .lines) (omega arith) (omega arith) ∙ l .inv .1, omega arith)
 
 sub-if2 : tie.Need-sub-if2 Inv-loop μ-loop
 sub-if2 c = search needs
@@ -34,7 +34,7 @@ returns-2 c =
     let at-loop = at-loop-test .before in
     let a = at-loop .before .before .args in
     let l = at-loop .loop in
-    (place-cut (a .set .now) (l .at) (l .lines) (omega arith) (omega arith) ∙ l .inv .1, omega arith)
+    (place-cut (a .label) (a .set .now) (l .at) (l .lines) (omega arith) (omega arith) ∙ l .inv .1, omega arith)
 
 told-label-requires : tie.Need-told-label-requires Inv-loop μ-loop
 told-label-requires c κs = search needs
@@ -49,7 +49,7 @@ returns-3 c =
     let at-loop = at-if1 .before .before in
     let a = at-loop .before .before .args in
     let l = at-loop .loop in
-    (place-here (a .set .now) (l .at) (l .lines) (omega arith) (omega arith) _ (at-told-label .told-label .ensures) (c .if3 .taken) ∙ l .inv .1, omega arith)
+    (place-here (a .label) (a .set .now) (l .at) (l .lines) (omega arith) (omega arith) _ (at-told-label .told-label .ensures) (c .if3 .taken) ∙ l .inv .1, omega arith)
 
 told-length-requires : tie.Need-told-length-requires Inv-loop μ-loop
 told-length-requires c κs = search needs
@@ -75,7 +75,7 @@ loop-again c =
     let a = at-loop .before .before .args in
     let l = at-loop .loop in (
       omega arith,
-      place-next (a .set .now) (l .at) (l .lines) (omega arith) (omega arith) _ (at-told-label .told-label .ensures) (at-if3 .if3 .left) _ (c .told-length .ensures .0)
+      place-next (a .label) (a .set .now) (l .at) (l .lines) (omega arith) (omega arith) _ (at-told-label .told-label .ensures) (at-if3 .if3 .left) _ (c .told-length .ensures .0)
           ∙ l .inv .1,
     )
 
@@ -84,10 +84,10 @@ returns-4 c =
     let at-loop = c .before in
     let a = at-loop .before .before .args in
     let l = at-loop .loop in
-    (place-none (a .set .now) (l .at) (l .lines) (omega arith) ∙ l .inv .1, omega arith)
+    (place-none (a .label) (a .set .now) (l .at) (l .lines) (omega arith) ∙ l .inv .1, omega arith)
 
-pub patient-place-spec : {M : Type 1} → statement M
-patient-place-spec =
+pub first-place-spec : {M : Type 1} → statement M
+first-place-spec =
     tie.close
     (tie.spec
     Inv-loop

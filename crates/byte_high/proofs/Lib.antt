@@ -1,0 +1,2 @@
+-- The laws that later crates cite.
+pub mod HighLaws

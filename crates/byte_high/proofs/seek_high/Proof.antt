@@ -1,0 +1,62 @@
+-- `seek_high` is the walk `firstHigh`: the search among the bytes that are left finds what the search among all finds.
+use mathlib.Core.Path.{_≡_, sym, ap, _∙_}
+use Prim.Native.Nat.{_-_, _≤_}
+use native.Mathlib.Omega.{arith}
+use borrow.Author.Needs.{needs}
+use borrow.Author.Tests.{le-leb, lt-leb}
+use Rattle.meaning.specs.Lines.{mostSevenBits}
+use Rattle.byte_high.specs.High.{sevenBits, firstHigh}
+use Rattle.byte_low.proofs.SeekLaws.{seek-here, seek-further, seek-end}
+use Rattle.byte_high.proofs.seek_high.Statement.{statement}
+use Rattle.byte_high.proofs.seek_high.Tie as tie
+
+abbrev Inv-loop : tie.InvT-loop
+Inv-loop s at k end i₀ i = (i ≤ end) × (firstHigh s i (end - i) ≡ firstHigh s at k)
+
+abbrev μ-loop : tie.MeasureT-loop
+μ-loop s at k end i₀ i = end - i
+
+add-end : tie.Need-add-end Inv-loop μ-loop
+add-end c = search needs
+
+loop-holds : tie.Need-loop-holds Inv-loop μ-loop
+loop-holds c = (omega arith, ap (firstHigh _ _) (omega arith))
+
+shared-slice-read-if1 : tie.Need-shared-slice-read-if1 Inv-loop μ-loop
+shared-slice-read-if1 c = search needs
+
+returns : tie.Need-returns Inv-loop μ-loop
+returns c =
+    let at-loop-test = c .before .before in
+    let at-loop = at-loop-test .before in
+    sym (seek-here sevenBits _ _ _ (at-loop-test .loop-test .taken) (lt-leb _ mostSevenBits (c .if1 .taken))) ∙ at-loop .loop .inv .1
+
+add-i : tie.Need-add-i Inv-loop μ-loop
+add-i c = search needs
+
+loop-less : tie.Need-loop-less Inv-loop μ-loop
+loop-less c = search needs
+
+loop-again : tie.Need-loop-again Inv-loop μ-loop
+loop-again c =
+    let at-loop-test = c .before .before in
+    let at-loop = at-loop-test .before in
+    (search needs, sym (seek-further sevenBits _ _ _ (at-loop-test .loop-test .taken) (le-leb _ mostSevenBits (c .if1 .left))) ∙ at-loop .loop .inv .1)
+
+returns-2 : tie.Need-returns-2 Inv-loop μ-loop
+returns-2 c = sym (seek-end sevenBits _ _ _ (c .loop-test .left)) ∙ c .before .loop .inv .1
+
+pub seek-high-spec : {M : Type 1} → statement M
+seek-high-spec =
+    tie.close
+    (tie.spec
+    Inv-loop
+    μ-loop
+    add-end
+    loop-holds
+    shared-slice-read-if1
+    returns
+    add-i
+    loop-less
+    loop-again
+    returns-2)

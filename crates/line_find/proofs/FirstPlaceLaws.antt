@@ -1,0 +1,129 @@
+-- What each `return` of the walk has to show; then what the walk is for lines that were read: the place of the first one with the label, or 0.
+use mathlib.Core.Path.{_≡_, refl, sym, ap, _∙_}
+use mathlib.Core.Bool.{Bool, true, false}
+use mathlib.Core.List.{List, [], _∷_}
+use mathlib.Core.Logic.{_⊎_, inl, inr, _≢_}
+use Prim.Native.Nat.{ℕ, zero, suc, _+_, _-_, _≤_, _<_}
+use native.Mathlib.Omega.{arith}
+use native.Mathlib.Nat.{zero-add}
+use lib.Dec.{eqb}
+use lib.ListN.{length, drop, length-drop}
+use borrow.Author.Tests.{le-leb, lt-leb, eq-eqb, ne-eqb, eqb-true, eqb-false}
+use Rattle.meaning.specs.Limits.{maxLines}
+use Rattle.meaning.specs.Field.{Field, labelAtLine}
+use Rattle.meaning.specs.Lines.{lineLead, lineEnd, lineSize, offset, render}
+use Rattle.meaning.proofs.Bools.{Every}
+use Rattle.meaning.proofs.LeftLaws.{one-more, none-left}
+use Rattle.meaning.proofs.LineLaws.{Sound}
+use Rattle.line_read.specs.Told.{toldLength, toldLabel}
+use Rattle.line_read.proofs.LineMeaning.{read-line, read-back, reads-on}
+use Rattle.line_read.proofs.ToldLaws.{read-told}
+use Rattle.line_find.specs.FirstPlace.{placeFrom, firstPlace}
+
+-- ---- the walk over lines, of which `lines` were passed over
+
+module _ (l : ℕ) (s : List ℕ) (at lines : ℕ) where
+  -- the most lines are passed over
+  pub place-none : maxLines ≤ lines → 0 ≡ placeFrom l s at (maxLines - lines)
+  unfolding placeFrom
+  place-none h = rw (none-left h)
+
+  module _ (h : lines < maxLines) where
+    -- under seven bytes stand there
+    pub place-cut : length s < at + lineLead → 0 ≡ placeFrom l s at (maxLines - lines)
+    unfolding placeFrom
+    place-cut g = rw (one-more h, lt-leb (at + lineLead) (length s) g)
+
+    module _ (g : at + lineLead ≤ length s) (m : ℕ) (e : m ≡ toldLabel s at) where
+      pub place-here : m ≡ l → at + lineLead ≡ placeFrom l s at (maxLines - lines)
+      unfolding placeFrom
+      place-here q = rw (one-more h, le-leb (at + lineLead) (length s) g, ← e, eq-eqb m l q)
+
+      pub place-next : (m ≡ l → ⊥) → (n : ℕ) → n ≡ toldLength s at
+          → placeFrom l s (at + (n + (lineLead + lineEnd))) (maxLines - (lines + 1)) ≡ placeFrom l s at (maxLines - lines)
+      unfolding placeFrom
+      place-next q n d = rw (one-more h, le-leb (at + lineLead) (length s) g, ← e, ne-eqb m l q, ← d)
+
+-- ---- lines that were read
+
+-- line k is the first with label l
+pub record FirstLine (l : ℕ) (fs : List Field) (k : ℕ) : Type 0 where
+  pub inside : k < length fs
+  pub named : labelAtLine fs k ≡ l
+  pub none-before : (j : ℕ) → j < k → labelAtLine fs j ≢ l
+
+-- no line has label l
+abbrev pub NoLine : ℕ → List Field → Type 0
+NoLine l fs = (k : ℕ) → k < length fs → labelAtLine fs k ≢ l
+
+-- the line in front is the first one, or the first one stands after it
+module _ (l : ℕ) (f : Field) (fs : List Field) where
+  pub first-here : f .label ≡ l → FirstLine l (f ∷ fs) 0
+  first-here e = record { inside = omega arith; named = e; none-before = λ j h. absurd (omega arith) }
+
+  pub first-later : (k : ℕ) → f .label ≢ l → FirstLine l fs k → FirstLine l (f ∷ fs) (suc k)
+  first-later k n x = record { inside = omega (arith, x .inside); named = x .named; none-before = before }
+    where
+      before : (j : ℕ) → j < suc k → labelAtLine (f ∷ fs) j ≢ l
+      before zero h = n
+      before (suc j) h = x .none-before j (omega arith)
+
+-- there is a first one, or none
+pub first-or-none : (l : ℕ) (fs : List Field) → ((k : ℕ) × FirstLine l fs k) ⊎ NoLine l fs
+first-or-none l [] = inr (λ k h. absurd (omega arith))
+first-or-none l (f ∷ fs) = go (eqb (f .label) l) refl (first-or-none l fs)
+  where
+    go : (b : Bool) → eqb (f .label) l ≡ b → ((k : ℕ) × FirstLine l fs k) ⊎ NoLine l fs → ((k : ℕ) × FirstLine l (f ∷ fs) k) ⊎ NoLine l (f ∷ fs)
+    go true e x = inl (0, first-here l f fs (eqb-true (f .label) l e))
+    go false e (inl (k, x)) = inl (suc k, first-later l f fs k (eqb-false (f .label) l e) x)
+    go false e (inr x) = inr none
+      where
+        none : NoLine l (f ∷ fs)
+        none zero h = eqb-false (f .label) l e
+        none (suc j) h = x j (omega arith)
+
+-- the lines fs are written from offset `at` on
+module _ (l : ℕ) (s : List ℕ) where
+  -- a step over the first of them, if it has another label
+  step-over : (f : Field) (u : List ℕ) (at n : ℕ) → Sound f → drop at s ≡ render (f ∷ []) u → f .label ≢ l → placeFrom l s at (suc n) ≡ placeFrom l s (at + lineSize f) n
+  unfolding placeFrom
+  step-over f u at n h w q =
+      let r = read-line s at f u w h in
+      let b = read-back s at r in
+      let told = read-told s at r in
+      let m : toldLength s at ≡ length (f .content) = omega (arith, told .0) in
+      rw (le-leb (at + lineLead) (length s) (omega (arith, b .within)), told .1, m, ne-eqb (f .label) l q)
+
+  -- the first line with the label: by one step for each line before it
+  place-from : (fs : List Field) (t : List ℕ) (at n k : ℕ) → Every Sound fs → drop at s ≡ render fs t → length fs ≤ n → FirstLine l fs k → placeFrom l s at n ≡ at + (offset fs k + lineLead)
+  unfolding placeFrom
+  place-from [] t at n k h w c x = absurd (omega (arith, x .inside))
+  place-from (f ∷ fs) t at zero k h w c x = absurd (omega arith)
+  place-from (f ∷ fs) t at (suc n) zero h w c x =
+      let r = read-line s at f (render fs t) w (h .0) in
+      let b = read-back s at r in
+      let told = read-told s at r in
+      rw (le-leb (at + lineLead) (length s) (omega (arith, b .within)), told .1, eq-eqb (f .label) l (x .named))
+  place-from (f ∷ fs) t at (suc n) (suc k) h w c x =
+      let rest : FirstLine l fs k = record { inside = omega (arith, x .inside); named = x .named; none-before = λ j q. x .none-before (suc j) (omega arith) } in
+      step-over f (render fs t) at n (h .0) w (x .none-before 0 (omega arith))
+      ∙ (place-from fs t (at + lineSize f) n k (h .1) (reads-on s at f (render fs t) (h .0) w) (omega arith) rest ∙ omega arith)
+
+  -- no line has it, and nothing follows the lines
+  none-from : (fs : List Field) (at n : ℕ) → Every Sound fs → drop at s ≡ render fs [] → at ≤ length s → NoLine l fs → placeFrom l s at n ≡ 0
+  unfolding placeFrom
+  none-from fs at zero h w c x = refl
+  none-from [] at (suc n) h w c x =
+      let d : length s - at ≡ 0 = sym (length-drop at s) ∙ ap length w in
+      rw (lt-leb (at + lineLead) (length s) (omega arith))
+  none-from (f ∷ fs) at (suc n) h w c x =
+      step-over f (render fs []) at n (h .0) w (x 0 (omega arith))
+      ∙ none-from fs (at + lineSize f) n (h .1) (reads-on s at f (render fs []) (h .0) w) (read-back s at (read-line s at f (render fs []) w (h .0)) .within) (λ k q. x (suc k) (omega arith))
+
+-- the walk over a set: where the content of the first line with the label stands
+pub place-is : (l : ℕ) (fs : List Field) (t : List ℕ) (k : ℕ) → Every Sound fs → length fs ≤ maxLines → FirstLine l fs k → firstPlace (render fs t) l ≡ offset fs k + lineLead
+place-is l fs t k h c x = place-from l (render fs t) fs t 0 maxLines k h refl c x ∙ zero-add (offset fs k + lineLead)
+
+-- and 0 if no line has it, and the set stands alone
+pub place-absent : (l : ℕ) (fs : List Field) → Every Sound fs → NoLine l fs → firstPlace (render fs []) l ≡ 0
+place-absent l fs h x = none-from l (render fs []) fs 0 maxLines h refl (omega arith) x
