@@ -105,6 +105,20 @@ fn unless_high(s: &[u8], top: &[bool; ROWS], total: usize, lines: usize) -> Scan
     }
 }
 
+// The scan from an offset on that has `before` lines before it. Most sets end with their bytes, and then no line is read again.
+fn scan_rest(s: &[u8], from: usize, before: usize) -> Scan
+    requires { ⌜ (from ≤ length (now s)) × (before ≤ maxLines) ⌝ }
+    ensures { λ r. ⌜ r ≡ scanFrom (now (s .entry)) from before (maxLines - before) ⌝ }
+{
+    if s.len() <= from {
+        return Scan::Done {
+            length: from,
+            lines: before,
+        };
+    }
+    line_scan::scan_from(s, from, before)
+}
+
 // After a line that is the last to be read: the set ends there, and 16 and 24 are asked, or the first refusal by 7 and 2 to 6 is given.
 fn ended(
     s: &[u8],
@@ -118,7 +132,7 @@ fn ended(
     requires { ⌜ (from ≤ length (now s)) × (before ≤ maxLines) ⌝ }
     ensures { λ r. ⌜ r ≡ finishedScan (λ total. finishThen settype (flaggedOf group (now (members .entry)) (now (top .entry))) (group .lack) (highInSet (take total (now (s .entry))))) (scanFrom (now (s .entry)) from before (maxLines - before)) ⌝ }
 {
-    match line_scan::scan_from(s, from, before) {
+    match scan_rest(s, from, before) {
         Scan::Refused(unread) => Scan::Refused(unread),
         Scan::Done { length, lines } => {
             let r = judge_missing::finish_at(settype, group, members, top);

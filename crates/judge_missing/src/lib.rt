@@ -174,6 +174,10 @@ fn lack_name(members: &[bool; ROWS], name: usize, place: usize) -> Refusal
 fn lack_under(members: &[bool; ROWS], header: usize, place: usize) -> Refusal
     ensures { λ r. ⌜ r ≡ lackUnder (rowLabel header) (seen (now (members .entry))) header place ⌝ }
 {
+    // 6302 is the lowest header of a group; 0 is none
+    if header < meaning::LABEL_6302 {
+        return Refusal::none();
+    }
     if header == meaning::LABEL_8410 {
         return lack_8410(members, place);
     }
@@ -209,9 +213,6 @@ pub fn first_lack(settype: SetType, group: Group, members: &[bool; ROWS]) -> Ref
     let lack = group.lack;
     if lack.no != 0 {
         return lack;
-    }
-    if group.header == 0 {
-        return Refusal::none();
     }
     group_lack(settype, members, group.header, group.place)
 }

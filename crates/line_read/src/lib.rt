@@ -239,6 +239,15 @@ fn usual_lead(s: &[u8], at: usize) -> bool
     fit
 }
 
+// The whole length that three digits at an offset say. It is made in 32 bits: else the compiler makes it anew for each test of it.
+fn size_at(s: &[u8], at: usize) -> usize
+    requires { ⌜ (at + lengthDigits ≤ length (now s)) × (threeZeros ≤ threeBytes (now s) at) ⌝ }
+    ensures { λ r. ⌜ (r ≡ threeBytes (now (s .entry)) at - threeZeros) × (r < 65536) ⌝ }
+{
+    let bytes = three_at(s, at) as u32;
+    (bytes - THREE_ZEROS as u32) as usize
+}
+
 // Two bytes are the end of a line, asked at once.
 fn line_ends(a: u8, b: u8) -> bool
     ensures { λ r. ⌜ (r ≡ true → (a ≡ cr) × (b ≡ lf)) ⌝ }
@@ -257,7 +266,7 @@ fn sound_at(s: &[u8], at: usize) -> bool
         return false;
     }
     if usual_lead(s, at) {
-        let size = three_at(s, at) - THREE_ZEROS;
+        let size = size_at(s, at);
         if size < MIN_LINE_BYTES {
             return false;
         }
@@ -280,7 +289,7 @@ pub fn usual_line(s: &[u8], at: usize) -> Line
     if sound_at(s, at) {
         return Line::Read {
             label: four_at(s, at + LENGTH_DIGITS) - FOUR_ZEROS,
-            size: three_at(s, at) - THREE_ZEROS,
+            size: size_at(s, at),
         };
     }
     line_at(s, at)

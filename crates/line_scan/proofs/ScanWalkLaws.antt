@@ -5,7 +5,7 @@ use mathlib.Core.List.{List}
 use Prim.Native.Nat.{ℕ, zero, suc, _+_, _-_, _≤_, _<_}
 use native.Mathlib.Omega.{arith}
 use lib.ListN.{length}
-use borrow.Author.Tests.{ne-eqb}
+use borrow.Author.Tests.{ne-eqb, le-leb}
 use Rattle.meaning.specs.declared.Refusal.{Refusal}
 use Rattle.meaning.specs.Limits.{maxLines}
 use Rattle.meaning.specs.Refusals.{refusal, tooManyLines}
@@ -31,6 +31,11 @@ module _ (s : List ℕ) (at n : ℕ) where
   unfolding scanFrom
   scan-done zero e = rw e
   scan-done (suc k) e = rw e
+
+  -- no byte is left
+  pub scan-over : (k : ℕ) → length s ≤ at → scanFrom s at n k ≡ Done at n
+  unfolding endsAt
+  scan-over k h = scan-done k (rw (le-leb (length s) at h))
 
   pub scan-full : maxLines ≤ n → endsAt s at ≡ false → scanFrom s at n (maxLines - n) ≡ Refused (refusal tooManyLines at 0)
   unfolding scanFrom

@@ -2,6 +2,7 @@
 // Assumes nothing of the bytes. Each contract cites a walk of specs/, and proofs/SevenMeaning says what the walks are for lines that keep the rules.
 ghost use mathlib.Core.Path.{_≡_};
 ghost use Rattle.line_seven.specs.Seven.{saysSeven, highFor};
+
 // "If a set holds 9206 with content 1": the content of 9206 is one byte, and 9206 stands once.
 fn says_seven(set: &[u8]) -> bool
     ensures { λ r. ⌜ r ≡ saysSeven (now (set .entry)) ⌝ }

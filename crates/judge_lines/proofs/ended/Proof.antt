@@ -9,8 +9,8 @@ use Rattle.judge_lines.proofs.LineLoopLaws.{lacks-end, high-end}
 use Rattle.judge_lines.proofs.ended.Statement.{statement}
 use Rattle.judge_lines.proofs.ended.Tie as tie
 
-scan-from-requires : tie.Need-scan-from-requires
-scan-from-requires c κs = search needs
+scan-rest-requires : tie.Need-scan-rest-requires
+scan-rest-requires c κs = search needs
 
 enum-known-unread : tie.Need-enum-known-unread
 enum-known-unread c = search needs
@@ -25,39 +25,39 @@ returns : tie.Need-returns
 returns c =
     let at-finish-at = c .before .before in
     let at-length = at-finish-at .before .before in
-    let at-scan-from = at-length .before .before in
-    lacks-end _ _ _ _ _ (at-finish-at .finish-at .ensures) _ _ (c .if1 .taken) ∙ ap (finishedScan _) (sym (at-length .length .given .1) ∙ at-scan-from .scan-from .ensures)
+    let at-scan-rest = at-length .before .before in
+    lacks-end _ _ _ _ _ (at-finish-at .finish-at .ensures) _ _ (c .if1 .taken) ∙ ap (finishedScan _) (sym (at-length .length .given .1) ∙ at-scan-rest .scan-rest .ensures)
 
 unless-high-requires : tie.Need-unless-high-requires
 unless-high-requires c κs =
     let at-finish-at = c .before .before in
     let at-length = at-finish-at .before .before in
-    let at-scan-from = at-length .before .before in
-    let at-start = at-scan-from .before .before in
+    let at-scan-rest = at-length .before .before in
+    let at-start = at-scan-rest .before .before in
     let a = at-start .args in
-    subst (EndsFrom (a .s .now) (a .from) (a .before)) (sym (at-scan-from .scan-from .ensures) ∙ at-length .length .given .1)
+    subst (EndsFrom (a .s .now) (a .from) (a .before)) (sym (at-scan-rest .scan-rest .ensures) ∙ at-length .length .given .1)
     (scan-ends (a .s .now) (maxLines - a .before) (a .from) (a .before)) .0 (at-start .pre .0)
 
 returns-2 : tie.Need-returns-2
 returns-2 c =
     let at-unread = c .before in
-    let at-scan-from = at-unread .before .before in
-    ap (finishedScan _) (sym (at-unread .unread .given .1) ∙ at-scan-from .scan-from .ensures)
+    let at-scan-rest = at-unread .before .before in
+    ap (finishedScan _) (sym (at-unread .unread .given .1) ∙ at-scan-rest .scan-rest .ensures)
 
 returns-3 : tie.Need-returns-3
 returns-3 c =
     let at-if1 = c .before in
     let at-finish-at = at-if1 .before .before in
     let at-length = at-finish-at .before .before in
-    let at-scan-from = at-length .before .before in
+    let at-scan-rest = at-length .before .before in
     high-end _ _ _ _ _ (at-finish-at .finish-at .ensures) _ _ (at-if1 .if1 .left) _ (c .unless-high .ensures)
-    ∙ ap (finishedScan _) (sym (at-length .length .given .1) ∙ at-scan-from .scan-from .ensures)
+    ∙ ap (finishedScan _) (sym (at-length .length .given .1) ∙ at-scan-rest .scan-rest .ensures)
 
 pub ended-spec : {M : Type 1} → statement M
 ended-spec =
     tie.close
     (tie.spec
-    scan-from-requires
+    scan-rest-requires
     enum-known-unread
     enum-known-length
     finish-at-requires

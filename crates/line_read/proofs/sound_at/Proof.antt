@@ -18,20 +18,12 @@ returns-2 c = λ e. search needs
 usual-lead-requires : tie.Need-usual-lead-requires
 usual-lead-requires c κs = search needs
 
-three-at-requires : tie.Need-three-at-requires
-three-at-requires c κs = search needs
-
-sub-size : tie.Need-sub-size
-sub-size c =
-    let at-if3 = c .before in
-    let at-usual-lead = at-if3 .before in
+size-at-requires : tie.Need-size-at-requires
+size-at-requires c κs =
+    let at-usual-lead = c .before in
     let at-if1 = at-usual-lead .before .before in
     let at-start = at-if1 .before .before in
-    omega (
-      arith,
-      three-least (at-start .args .s .now) (at-start .args .at) (omega arith) (at-usual-lead .usual-lead .ensures (at-if3 .if3 .taken)),
-      c .three-at .ensures .0,
-    )
+    (omega arith, three-least (at-start .args .s .now) (at-start .args .at) (omega arith) (at-usual-lead .usual-lead .ensures (c .if3 .taken)))
 
 returns-3 : tie.Need-returns-3
 returns-3 c = λ e. search needs
@@ -72,11 +64,11 @@ returns-5 c =
     let at-if6 = at-shared-slice-known2 .before in
     let at-clean-content = at-if6 .before in
     let at-if4 = at-clean-content .before .before in
-    let at-three-at = at-if4 .before in
-    let at-if3 = at-three-at .before in
+    let at-size-at = at-if4 .before in
+    let at-if3 = at-size-at .before in
     let at-usual-lead = at-if3 .before in
-    λ e. let end = c .line-ends .ensures e in line-sound _ _ _ _ refl (omega (arith, at-three-at .three-at .ensures .0))
-    (omega (arith, at-three-at .three-at .ensures .0)) (omega (arith, at-three-at .three-at .ensures .0))
+    λ e. let end = c .line-ends .ensures e in line-sound _ _ _ _ refl (omega (arith, at-size-at .size-at .ensures .0))
+    (omega (arith, at-size-at .size-at .ensures .0)) (omega (arith, at-size-at .size-at .ensures .0))
     (at-usual-lead .usual-lead .ensures (at-if3 .if3 .taken)) (at-clean-content .clean-content .ensures (at-if6 .if6 .taken)) (end .0) (end .1)
 
 returns-6 : tie.Need-returns-6
@@ -93,8 +85,7 @@ sound-at-spec =
     sub-if2
     returns-2
     usual-lead-requires
-    three-at-requires
-    sub-size
+    size-at-requires
     returns-3
     sub-if5
     returns-4

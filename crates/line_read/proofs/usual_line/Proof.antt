@@ -4,7 +4,7 @@ use Prim.Native.Nat.{ℕ, _-_}
 use native.Mathlib.Omega.{arith}
 use borrow.Author.Needs.{needs}
 use Rattle.line_read.specs.declared.Line.the-variants.{Read}
-use Rattle.line_read.specs.Told.{threeZeros, fourZeros}
+use Rattle.line_read.specs.Told.{fourZeros}
 use Rattle.line_read.proofs.ToldLaws.{read-bytes}
 use Rattle.line_read.proofs.usual_line.Statement.{statement}
 use Rattle.line_read.proofs.usual_line.Tie as tie
@@ -31,26 +31,20 @@ sub-t6 c =
     let at-start = at-sound-at .before .before in
     omega (arith, read-bytes (at-start .args .s .now) (at-start .args .at) (at-sound-at .sound-at .ensures (at-if1 .if1 .taken)) .2, c .four-at .ensures)
 
-three-at-requires : tie.Need-three-at-requires
-three-at-requires c κs =
+size-at-requires : tie.Need-size-at-requires
+size-at-requires c κs =
     let at-if1 = c .before in
     let at-sound-at = at-if1 .before in
     let at-start = at-sound-at .before .before in
-    omega (arith, read-bytes (at-start .args .s .now) (at-start .args .at) (at-sound-at .sound-at .ensures (at-if1 .if1 .taken)) .0)
-
-sub-t8 : tie.Need-sub-t8
-sub-t8 c =
-    let at-if1 = c .before .before in
-    let at-sound-at = at-if1 .before in
-    let at-start = at-sound-at .before .before in
-    omega (arith, read-bytes (at-start .args .s .now) (at-start .args .at) (at-sound-at .sound-at .ensures (at-if1 .if1 .taken)) .1, c .three-at .ensures .0)
+    let bytes = read-bytes (at-start .args .s .now) (at-start .args .at) (at-sound-at .sound-at .ensures (at-if1 .if1 .taken)) in
+    (omega (arith, bytes .0), omega (arith, bytes .1))
 
 returns : tie.Need-returns
 returns c =
     let at-four-at = c .before in
     let at-if1 = at-four-at .before in
     let at-sound-at = at-if1 .before in
-    ap₂ Read (ap (λ (n : ℕ). n - fourZeros) (at-four-at .four-at .ensures)) (ap (λ (n : ℕ). n - threeZeros) (c .three-at .ensures .0))
+    ap₂ Read (ap (λ (n : ℕ). n - fourZeros) (at-four-at .four-at .ensures)) (c .size-at .ensures .0)
     ∙ sym (at-sound-at .sound-at .ensures (at-if1 .if1 .taken))
 
 line-at-requires : tie.Need-line-at-requires
@@ -67,8 +61,7 @@ usual-line-spec =
     add-four-at
     four-at-requires
     sub-t6
-    three-at-requires
-    sub-t8
+    size-at-requires
     returns
     line-at-requires
     returns-2)
