@@ -3,11 +3,11 @@
    `calls` prints the loads, `calls count LOAD` prints `CALL NO PROVED SECOND`, instructions, for each input of the load and each call
    that answers its number, `calls time LOAD` prints `CALL PROVED SECOND`, nanoseconds of the process, for each sample of the whole load.
    It ends with status 1 if the two answer differently or not the number that the input is made for. The calls on a day file are in
-   bench/days.c. */
+   bench/days.c, those of the cable in bench/cables.c. */
 #include "x86.h"
 #include "icount.h"
 #include "gdt.h"
-#include "inputs.h"
+#include "sets.h"
 
 enum {
     OUT = BUFFER,
@@ -16,21 +16,6 @@ enum {
 #include "tasks.h"
 
 /* ---- The loads --------------------------------------------------------------------------------------------------------------- */
-
-/* The paper's set P. */
-static void paper(struct input *input)
-{
-    line(input, 8000, "6300");
-    line(input, 8100, "00051");
-    line(input, 9218, "02.10");
-    line(input, 3000, "0");
-}
-
-static void long_512(struct input *input)
-{
-    begin(input);
-    lines(input, 507, 6220, forty);
-}
 
 static void long_groups(struct input *input)
 {

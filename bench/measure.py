@@ -1,4 +1,4 @@
-"""measure.py: measures the two programs: instructions and times by bench/calls.c and bench/days.c, stack by harness/stack.c over the stored streams of cases.
+"""measure.py: measures the two programs: instructions and times by bench/calls.c, bench/days.c and bench/cables.c, stack by harness/stack.c over the stored streams of cases.
 Assumes the Rattle kit. Says on standard error what is done; if a program fails it ends with that program's message."""
 import collections
 import concurrent.futures
@@ -11,7 +11,7 @@ ROOT = os.path.dirname(os.path.dirname(os.path.abspath(__file__)))
 sys.path.insert(0, os.path.join(ROOT, "harness"))
 import stream
 
-SETS, DAYS = "calls", "days"  # the programs of bench/: the calls on a set, those on a day file
+SETS, DAYS, CABLES = PROGRAMS = "calls", "days", "cables"  # the programs of bench/: the calls on a set, those on a day file, those of the cable
 FLOOR = "byte_sum"  # it stands among the calls on a set
 EACH = "judge"  # it stands among the calls on a day file: each of its sets is judged by itself
 STACK, JUDGING, LINEAR = "stack", "judging", "linear"  # they stand among the loads of the bounds
@@ -47,10 +47,10 @@ def build():
     """Builds each program of bench/ over the proved library and the second program; for each the names of its loads."""
     since = time.monotonic()
     os.makedirs(path(""), exist_ok=True)
-    for program in (SETS, DAYS):
+    for program in PROGRAMS:
         told(["sh", os.path.join(ROOT, "tools", "both"), "-o", path(program), os.path.join(ROOT, "bench", program + ".c")])
     progress("both programs built", since)
-    return {program: run(program) for program in (SETS, DAYS)}
+    return {program: run(program) for program in PROGRAMS}
 
 
 def in_parallel(function, items):
@@ -150,7 +150,7 @@ def bounds():
     with open(os.path.join(ROOT, "bench", "bounds.txt")) as file:
         tables = "".join(line for line in file if not line.startswith("#")).split("\n\n")
     found = {}
-    for program, table in zip((SETS, DAYS), tables):
+    for program, table in zip(PROGRAMS, tables):
         head, *lines = [line.split() for line in table.strip().split("\n")]
         found[program] = {call: {load: float(most) for load, most in zip(head[1:], numbers) if most != "-"} for call, *numbers in lines}
     return found

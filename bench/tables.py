@@ -11,6 +11,8 @@ import measure
 DOCUMENT = os.path.join(measure.ROOT, "docs", "BENCH.md")
 START, END = "<!-- the tables, by bench/run --write -->\n", "<!-- the end of the tables -->\n"
 NAMES = {"view_copy": "view, copied", measure.FLOOR: "byte sum", "day_build": "day, build", "day_append": "day, append", "day_find": "day, find"}
+NAMES.update(send="cable, send", block="cable, block", receive="cable, receive")
+HEADS = ("The calls on a set:", "The calls on a day file:", "The calls of the serial cable:")
 REFUSED = "refused"
 MACHINE = platform.machine()
 EMULATED = MACHINE != "x86_64"
@@ -101,11 +103,11 @@ def main(words):
     counts, stacks = measure.counts(loads), measure.stacks()
     times = {program: {} for program in loads} if EMULATED else measure.times(loads)
     lines = made_on()
-    for program, what in ((measure.SETS, "The calls on a set:"), (measure.DAYS, "The calls on a day file:")):
+    for program, what in zip(measure.PROGRAMS, HEADS):
         lines += [what, ""] + load_table(counts[program], times[program])
         lines += ["Ratios for each refusal number by itself:", ""] + refused_table(counts[program][REFUSED])
     lines += day_lines(counts[measure.DAYS], bounds[measure.DAYS])
-    lines += ["Stack over the stored streams of cases:", ""] + stack_table(stacks, {**bounds[measure.SETS], **bounds[measure.DAYS]})
+    lines += ["Stack over the stored streams of cases:", ""] + stack_table(stacks, {call: bound for calls in bounds.values() for call, bound in calls.items()})
     text = "".join(line + "\n" for line in lines)
     print(text, end="")
     if words:

@@ -1,11 +1,12 @@
-/* tasks.h: a call of gdt.h as words that either program can be given; its instructions are counted, its time is taken. bench/calls.c and
-   bench/days.c share it. It assumes x86-64 and how words are passed there, and that OUT names the bytes that a call writes at most. */
+/* tasks.h: a call of gdt.h as words that either program can be given; its instructions are counted, its time is taken. bench/calls.c,
+   bench/days.c and bench/cables.c share it. It assumes x86-64 and how words are passed there, and that OUT names the bytes that a call writes
+   at most. */
 #ifndef TASKS_H
 #define TASKS_H
 
 enum {
-    WORDS = 9, /* that a call is given at most */
-    REPLY_WORDS = 6,
+    WORDS = 10, /* that a call is given at most: six in registers, then on the stack */
+    REPLY_WORDS = 8,
     FILL = 0xAA, /* what is lent holds before a call */
     SAMPLES = 3, /* bench/measure.py runs it some times */
     LEAST_SAMPLE = 4000000 /* nanoseconds */
@@ -37,8 +38,8 @@ static void fill(struct task *task)
 /* Makes any call: words in, a word out. */
 __attribute__((noinline)) static uint64_t make(void *function, const uint64_t *w)
 {
-    typedef uint64_t any(uint64_t, uint64_t, uint64_t, uint64_t, uint64_t, uint64_t, uint64_t, uint64_t, uint64_t);
-    return ((any *)function)(w[0], w[1], w[2], w[3], w[4], w[5], w[6], w[7], w[8]);
+    typedef uint64_t any(uint64_t, uint64_t, uint64_t, uint64_t, uint64_t, uint64_t, uint64_t, uint64_t, uint64_t, uint64_t);
+    return ((any *)function)(w[0], w[1], w[2], w[3], w[4], w[5], w[6], w[7], w[8], w[9]);
 }
 
 static bool is(const char *word, const char *other)

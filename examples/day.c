@@ -28,6 +28,7 @@
 #include <string.h>
 #include <unistd.h>
 #include "gdt.h"
+#include "reasons.h"
 
 enum { DONE = 0, REFUSED = 1, WRONG_USAGE = 2 };
 
@@ -73,30 +74,6 @@ struct day {
 
 static struct day day;
 static const char missing[] = "is missing", shorter[] = "belongs to a shorter length of the file";
-
-/* Why a set or a file is refused: the numbers that the calls below can give. */
-static const char *const reasons[GDT_HIGH_BYTE + 1] = {
-    [GDT_EMPTY] = "there is no set",
-    [GDT_BAD_LENGTH] = "a line's length is not three digits, or under 010",
-    [GDT_CUT_LINE] = "a line runs past the end of the bytes",
-    [GDT_BAD_END] = "a line does not end in 0Dh 0Ah",
-    [GDT_BAD_LABEL] = "a label is not four digits",
-    [GDT_BAD_BYTE] = "a content byte is under 20h",
-    [GDT_TOO_MANY_LINES] = "the set has more than 512 lines",
-    [GDT_NO_START] = "line 1 is not 8000",
-    [GDT_UNKNOWN_SET] = "8000 names none of the five types of set",
-    [GDT_NO_SUM] = "line 2 is not 8100",
-    [GDT_NOT_IN_SET] = "the label is not in the table of this type of set",
-    [GDT_STRAY] = "the line stands outside its group, or not right after its name",
-    [GDT_REPEATED] = "the label stands there again, and may not",
-    [GDT_BAD_CONTENT] = "the content breaks the length, kind or rule of its label",
-    [GDT_OTHER_VERSION] = "9218 is not 02.10",
-    [GDT_MISSING] = "the label is required and missing",
-    [GDT_BAD_SUM] = "8100 is not the length of the set",
-    [GDT_BAD_USE] = "another set follows",
-    [GDT_TOO_MANY_SETS] = "a day file has at most 2,048 sets",
-    [GDT_HIGH_BYTE] = "a content byte is over 7Fh, and 9206 says that the set is in the 7-bit code",
-};
 
 /* Says that the set or file with this name is refused, and why. */
 static void tell_refusal(const char *name, struct gdt_made made)

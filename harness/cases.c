@@ -413,6 +413,67 @@ static void case_day_find(void)
     take_back(&asked);
 }
 
+static void case_block(void)
+{
+    size_t number = take_number(), count = take_number();
+    struct lent set = lend_string();
+    struct lent out = lend_room(GDT_BLOCK);
+    print_made(gdt_block(set.at, set.length, number, count, out.at), &out, &set);
+    take_back(&set);
+    take_back(&out);
+}
+
+/* The record stands alone in its memory, so that a sanitizer sees what is touched beside it. */
+static void case_send(void)
+{
+    struct gdt_link *link = memory(sizeof *link), was;
+    link->phase = take_number();
+    link->blocks = take_number();
+    link->attempt = take_number();
+    link->block = take_number();
+    link->errors = take_number();
+    link->count = take_number();
+    was = *link;
+    size_t begin = take_number();
+    struct lent bytes = lend_string();
+    struct gdt_sent sent = gdt_send(link, begin, bytes.at, bytes.length);
+    if (sent.no != 0) {
+        bool empty = sent.what == 0 && sent.block == 0 && sent.count == 0;
+        print_refused(sent.no, sent.place, sent.label, kept(&bytes) && memcmp(link, &was, sizeof was) == 0 && empty);
+    } else {
+        expect_done(sent.place, sent.label);
+        printf("ok %zu %zu %zu %zu:%zu:%zu:%zu:%zu:%zu\n", sent.what, sent.block, sent.count, link->phase, link->blocks, link->attempt,
+               link->block, link->errors, link->count);
+    }
+    free(link);
+    take_back(&bytes);
+}
+
+/* The record of a refusal must be the one that was given. */
+static void case_receive(void)
+{
+    struct gdt_receiver given;
+    given.started = take_number();
+    given.last = take_number();
+    given.open = take_number();
+    given.used = take_number();
+    struct lent buffer = lend_string();
+    struct lent block = lend_string();
+    struct gdt_received received = gdt_receive(given, buffer.at, buffer.length, block.at, block.length);
+    const struct gdt_receiver *now = &received.receiver;
+    if (received.no != 0) {
+        bool same = received.what == 0 && memcmp(now, &given, sizeof given) == 0;
+        print_refused(received.no, received.place, received.label, kept(&buffer) && kept(&block) && same);
+    } else {
+        expect_done(received.place, received.label);
+        printf("ok %zu %zu:%zu:%zu:%zu ", received.what, now->started, now->last, now->open, now->used);
+        print_hex(buffer.at, buffer.length);
+        printf("\n");
+    }
+    take_back(&buffer);
+    take_back(&block);
+}
+
 int main(void)
 {
     read_stream();
@@ -429,6 +490,9 @@ int main(void)
         case 'd': case_day_build(); break;
         case 'a': case_day_append(); break;
         case 'f': case_day_find(); break;
+        case 'b': case_block(); break;
+        case 's': case_send(); break;
+        case 't': case_receive(); break;
         default: stop("unknown case");
         }
         fflush(NULL); /* the lines before a case that ends the program are seen */

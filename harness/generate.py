@@ -7,6 +7,7 @@ import os
 import random
 import sys
 
+import cables
 import days
 import sets
 from rows import FIELDS, SET_TABLES, marked
@@ -25,6 +26,7 @@ ROWS = "rows"  # the stored stream that goes through the tables row by row
 
 # Of a call's cases at least this many in a hundred must be accepted, meet each number, have over 400 lines (of a day call: sets); of lookups find a set.
 LEAST_ACCEPTED, LEAST_NUMBER, LEAST_LONG, LEAST_FOUND = 30, 0.1, 1, 15
+LEAST_ROW, LEAST_MARK = 1, 0.3  # of a call of the cable: each row of its rule table, each mark
 
 # ---- Sets and lists with given faults: those that leave the least standing are made last ----------------------------------------------
 
@@ -307,7 +309,51 @@ def find_case(r, faults):
     return {"room": room_for(r, need, 22 not in faults), "file": data, "index": index, "asked": asked}
 
 
+# ---- A case of each call of the serial cable that has given faults ----------------------------------------------------------------------
+
+
+def lone_set(r, faults):
+    """A set to be sent: one with these faults, another one after it for 18; or one that is accepted, half of the times cut at an edge."""
+    if not faults and r.random() < 0.03:
+        return b"".join(sets.lines_of(sets.accepted(r, 6310, r.randint(MANY_LINES + 1, sets.MOST_LINES), short=r.random() < 0.9)))
+    if not faults and r.random() < 0.5:
+        return cables.cut_set(r)
+    data = b"".join(set_with(r, [no for no in faults if no in SET_FAULTS]))
+    return data + r.choice((b"xyz8000", b"".join(set_with(r, ())))) if 18 in faults else data
+
+
+def block_case(r, faults):
+    data = lone_set(r, faults)
+    count = r.randint(0, cables.LAST_COUNT) if r.random() < 0.9 else cables.large(r)
+    if faults:
+        return {"number": r.choice((0, 0, 1, 2, cables.no_block(r, 2))), "count": count, "set": data}
+    blocks = len(cables.pieces(cables.joined(data)))
+    number = cables.block_number(r, blocks) if r.random() < 0.85 else cables.no_block(r, blocks)
+    return {"number": number, "count": count, "set": data}
+
+
+def send_case(r, faults):
+    begin = r.choice((1, 1, 1, 1, 1, 2, 256, 2**32, days.MOST_NUMBER))
+    if faults:
+        return {**cables.any_link(r), "begin": begin, "bytes": lone_set(r, faults)}
+    link, reply = cables.link_for(r, r.choice(cables.SENDS))
+    return {**link, "begin": begin, "bytes": lone_set(r, ())} if reply is None else {**link, "begin": 0, "bytes": reply}
+
+
+def receive_case(r, faults):
+    """For 25 a block out of turn, or bytes that have not the form of a block; for 26 a wrong CRC; for 22 a small buffer."""
+    turned = 25 in faults and r.random() < 0.75
+    row = r.choice(cables.OUT_OF_TURN if turned else cables.TAKES if 22 in faults else cables.TAKES * 3 + cables.AGAIN * 2)
+    args = cables.receiving(r, row, 22 not in faults)
+    if 26 in faults:
+        args["block"] = cables.not_its_crc(r, args["block"])
+    if 25 in faults and not turned:
+        args["block"] = cables.malformed(r, args["block"])
+    return args
+
+
 MAKERS = {"w": write_case, "c": correct_case, "v": view_case, "d": build_case, "a": append_case, "f": find_case}
+MAKERS.update({"b": block_case, "s": send_case, "t": receive_case})
 
 
 def case_with(r, call, faults):
@@ -334,7 +380,7 @@ def damage(r, case):
     name = r.choice(CALLS[case.call][1])
     value = case.args[name]
     if name in NUMBERS:
-        case.args[name] = max(0, value + r.choice((-20, -2, -1, 1, 2, 20)))
+        case.args[name] = min(max(0, value + r.choice((-20, -2, -1, 1, 2, 20))), days.MOST_NUMBER)
     else:
         case.args[name] = days.scrambled(r, value) if name in LISTS else sets.scrambled(r, value)
     if "lent" in case.args and "index" in case.args:
@@ -514,11 +560,12 @@ def is_long(case):
         return max(len(day_sets(case.args["file"])), len(case.args.get("index", [])) // DAY_ENTRY) > days.MANY_SETS
     if case.call == "w":
         return len(entries(case.args["list"])) + 1 > MANY_LINES
-    return case.args["buffer" if case.call == "c" else "set"].count(b"\r\n") > MANY_LINES
+    return case.args[{"c": "buffer", "s": "bytes", "t": "buffer"}.get(case.call, "set")].count(b"\r\n") > MANY_LINES
 
 
 def met(found, lines):
-    """For each call how many cases had each answer (0: accepted, "long": over 400 lines or sets, "found": a lookup that found a set, "all")."""
+    """For each call how many cases had each answer (0: accepted, "long": over 400 lines or sets, "found": a lookup that found a set, "all"), and of a call of
+    the cable how many met each row and each mark, by its name."""
     counts = collections.defaultdict(collections.Counter)
     for case, line in zip(found, lines):
         words = line.split(" ", 2)
@@ -526,6 +573,8 @@ def met(found, lines):
         counts[case.call]["long"] += is_long(case)
         counts[case.call]["found"] += case.call == "f" and words[0] == "ok" and words[1] != "0"
         counts[case.call][int(words[1]) if words[0] == "refused" else 0] += 1
+        if case.call in cables.ROWS:
+            counts[case.call].update(cables.rows_met(case, line)[0])
     return counts
 
 
@@ -535,9 +584,13 @@ def shortfalls(counts):
     for call, count in counts.items():
         name, form, numbers = CALLS[call]
         least = {0: ("accepted", LEAST_ACCEPTED), **{no: ("refused by %d" % no, LEAST_NUMBER) for no in numbers}}
-        least["long"] = ("over 400 sets" if "file" in form else "over 400 lines", LEAST_LONG)
+        if call != "t":
+            least["long"] = ("over 400 sets" if "file" in form else "over 400 lines", LEAST_LONG)
         if call == "f":
             least["found"] = ("that find a set", LEAST_FOUND)
+        rows, _, marks = cables.ROWS.get(call, cables.NO_ROWS)
+        least.update({row: ("of the row '%s'" % row, LEAST_ROW) for row in rows})
+        least.update({mark: ("with the mark '%s'" % mark, LEAST_MARK) for mark in marks})
         for key, (what, percent) in least.items():
             if 100 * count[key] < percent * count["all"]:
                 out.append("%s: %d of %d cases %s, at least %s %% are wanted" % (name, count[key], count["all"], what, percent))
@@ -553,6 +606,9 @@ def histogram(counts):
         cells = [str(counts[call][key]) if key == "all" else "%.2f" % (100 * counts[call][key] / counts[call]["all"]) for call in calls]
         none = [call != "f" if key == "found" else key not in (*CALLS[call][2], "all", "long", 0) for call in calls]
         out.append("%7s" % name + "".join("%11s" % ("-" if no else cell) for no, cell in zip(none, cells)))
+    for call in calls:
+        rows, _, marks = cables.ROWS.get(call, cables.NO_ROWS)
+        out += ["%7.2f %10s  %s" % (100 * counts[call][name] / counts[call]["all"], CALLS[call][0], name) for name in (*rows, *marks)]
     return out
 
 
@@ -567,6 +623,10 @@ def check(found, aims):
     for number, (case, aim, line) in enumerate(zip(found, aims, told.lines), 1):
         if aim is not None and not line.startswith("refused %d " % aim if aim else "ok "):
             wrong.append("case %d, %s, was made for %d: %s" % (number, CALLS[case.call][0], aim, line[:60]))
+        if case.call in cables.ROWS:
+            rows, right = cables.rows_met(case, line)
+            if line != right:
+                wrong.append("case %d, %s, is told by the row '%s' as %s: %s" % (number, CALLS[case.call][0], rows[0], right[:60], line[:60]))
     return wrong
 
 
@@ -579,7 +639,8 @@ def store():
     streams["day_build"] += build_edges()
     streams["day_append"] += append_edges()
     streams["day_find"] += find_edges()
-    for case in [*seven_set_edges(), *seven_content_edges()]:
+    r = random.Random(STORED_SEED)
+    for case in [*seven_set_edges(), *seven_content_edges(), *cables.block_edges(r), *cables.send_edges(r), *cables.receive_edges()]:
         streams[CALLS[case.call][0]].append(case)
     streams[ROWS] = row_cases()
     for name, found in streams.items():

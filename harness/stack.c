@@ -108,6 +108,52 @@ static struct gdt_made stacked_day_find(const uint8_t *file, size_t file_length,
     return gdt_day_find(file, file_length, index, numbers, asked, asked_length, out, room);
 }
 
+static struct gdt_made stacked_block(const uint8_t *set, size_t set_length, size_t block, size_t count, uint8_t out[GDT_BLOCK])
+{
+    struct gdt_made reply;
+    measure("block", (void *)gdt_block, WORDS(W(&reply), W(set), set_length, block, count, W(out)));
+    return gdt_block(set, set_length, block, count, out);
+}
+
+/* The sender changes its record: it is measured on a copy. */
+static struct gdt_sent stacked_send(struct gdt_link *link, size_t begin, const uint8_t *bytes, size_t length)
+{
+    struct gdt_sent reply;
+    struct gdt_link copy = *link;
+    measure("send", (void *)gdt_send, WORDS(W(&reply), W(&copy), begin, W(bytes), length));
+    return gdt_send(link, begin, bytes, length);
+}
+
+/* The receiver's record is passed in four words on the stack: as a lookup it is made by a function that is given all in a record. What
+   that function takes, 112 bytes, is counted too. A block is put into a copy of the buffer. */
+struct receipt {
+    struct gdt_receiver receiver;
+    uint8_t *buffer;
+    size_t room;
+    const uint8_t *block;
+    size_t block_length;
+};
+
+static void make_receipt(struct gdt_received *reply, const struct receipt *r)
+{
+    *reply = gdt_receive(r->receiver, r->buffer, r->room, r->block, r->block_length);
+}
+
+static struct gdt_received stacked_receive(struct gdt_receiver receiver, uint8_t *buffer, size_t room, const uint8_t *block,
+                                           size_t block_length)
+{
+    struct gdt_received reply;
+    uint8_t *copy = malloc(room + 1);
+    if (copy == NULL) {
+        exit(2);
+    }
+    memcpy(copy, buffer, room);
+    const struct receipt given = {receiver, copy, room, block, block_length};
+    measure("receive", (void *)make_receipt, WORDS(W(&reply), W(&given)));
+    free(copy);
+    return gdt_receive(receiver, buffer, room, block, block_length);
+}
+
 #define gdt_judge stacked_judge
 #define gdt_index stacked_index
 #define gdt_list stacked_list
@@ -118,4 +164,7 @@ static struct gdt_made stacked_day_find(const uint8_t *file, size_t file_length,
 #define gdt_day_build stacked_day_build
 #define gdt_day_append stacked_day_append
 #define gdt_day_find stacked_day_find
+#define gdt_block stacked_block
+#define gdt_send stacked_send
+#define gdt_receive stacked_receive
 #include "cases.c"

@@ -23,12 +23,17 @@ CALLS = {
     "d": ("day_build", ("lent", "file"), [*SET_FAULTS[1:], 23, 22]),
     "a": ("day_append", ("old", "count", "lent", "index", "file"), [*SET_FAULTS, 18, 23, 22]),
     "f": ("day_find", ("room", "file", "index", "asked"), [22]),
+    "b": ("block", ("number", "count", "set"), [*SET_FAULTS, 18]),
+    "s": ("send", ("phase", "blocks", "attempt", "number", "errors", "count", "begin", "bytes"), [*SET_FAULTS, 18]),
+    "t": ("receive", ("started", "last", "open", "used", "buffer", "block"), [25, 26, 22]),
 }
 LAST_NUMBER = max(no for _, _, numbers in CALLS.values() for no in numbers)
-NUMBERS = ("room", "used", "line", "lent", "old", "count")
+LINK = ("phase", "blocks", "attempt", "number", "errors", "count")  # of the sender's record; `number` is that of a block
+RECEIVER = ("started", "last", "open", "used")
+NUMBERS = ("room", "line", "lent", "old", "begin", *LINK, *RECEIVER)
 LISTS = ("index",)  # of numbers; all others are bytes
 DAY_ENTRY = 4  # numbers that a set has in the index of a day file
-STORED = ("correct", "day_append", "day_build", "day_find", "index", "judge", "list", "rows", "view", "write")  # the streams of harness/streams/
+STORED = ("block", "correct", "day_append", "day_build", "day_find", "index", "judge", "list", "receive", "rows", "send", "view", "write")  # harness/streams/
 MOST_ROWS = 600  # of a set, a day file or its index that are shown
 NOTHING = b"j" + bytes(8)  # the shortest stream of one case: judge is given no bytes
 
@@ -164,7 +169,7 @@ def told(case):
             out += few(["%7d  %s" % (number, ":".join(map(str, row))) for number, row in enumerate(fours(value), 1)])
         elif arg in ("list", "sheet"):
             out += ["%7d  %5d %s" % (at, label, text(content)) for at, label, content in entries(value)]
-        elif arg in ("content", "asked"):
+        elif arg in ("content", "asked", "block"):
             out.append("         " + text(value))
         else:
             at, rows = 0, []

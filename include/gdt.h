@@ -1,9 +1,9 @@
-/* gdt.h: reading, writing and correcting GDT 2.1 sets, and day files of them.
+/* gdt.h: reading, writing and correcting GDT 2.1 sets, day files of them, and the serial cable.
 
    Every call takes any bytes from anyone. It answers a record of numbers by value (gdt_view_copy a length). `no` is 0 if the call was
-   done, else the number of the refusal (GDT_EMPTY to GDT_HIGH_BYTE); then `place` says where, and `label` which label is concerned.
-   Both are 0 if the call was done, and `label` is 0 if no label is concerned. After a refusal every lent byte, entry and number is what
-   it was before, and the other numbers of the record are 0.
+   done, else the number of the refusal (GDT_EMPTY to GDT_BAD_CRC); then `place` says where, and `label` which label is concerned.
+   Both are 0 if the call was done, and `label` is 0 if no label is concerned. After a refusal every lent byte, entry, number and record is
+   what it was before, and the other numbers of the answer are 0 (in gdt_received the receiver's four are those given).
 
    `place` is the offset of the first byte of the line concerned, for GDT_BAD_BYTE and GDT_HIGH_BYTE of the byte concerned; what differs is
    said at the number. It counts in the set; for gdt_write in the list (the entry's first byte); for an entry of a sheet in the sheet; for
@@ -25,11 +25,19 @@
    the file by whoever calls. `numbers` says how many numbers a slice has, four for each entry; one to three numbers after the last four
    are no entry. A count, and the need of GDT_NO_ROOM, are entries, not numbers.
 
+   The serial cable (appendix A of the description; docs/CABLE.md has what it leaves open). The data of a set are its lines joined by one
+   1Ch in the place of their 0Dh 0Ah, none after the last; the three digits of a line still count both. They are cut every 128 bytes; data
+   of at most 128 bytes are cut once, after their first 1Ch: so a set has two blocks or more. A block is the sequence count, a digit; the
+   label, B00 for the first block, B02 for the last, B01 between; the data; four upper-case hex digits, the CRC-16 of all before them, by
+   the program of appendix C; and 0Dh. ACK 1 is 06h 31h, ACK 0 is 06h 30h. Each end keeps a record of its own: zeros at the start, then what
+   the calls leave in it. A record may hold any numbers: nothing is assumed of it.
+
    A pointer must not be null, also if its length is 0. What is lent to be written overlaps nothing else that is lent.
    No call keeps a pointer, allocates, or uses more than 8 KiB of stack.
 
-   Two programs stand behind this header: the proved library, in three archives (`rt staticlib gdt`; `rt staticlib gdtwrite` for
-   gdt_write; `rt staticlib gdtday` for the three day calls), and the second, independent program in second/. */
+   Two programs stand behind this header: the proved library, in four archives (`rt staticlib gdt`; `rt staticlib gdtwrite` for
+   gdt_write; `rt staticlib gdtday` for the three day calls; `rt staticlib gdtcable` for the three calls of the cable), and the second,
+   independent program in second/. */
 #ifndef GDT_H
 #define GDT_H
 
@@ -61,8 +69,13 @@ enum {
     GDT_BAD_LIST = 21,       /* an entry is cut, or its label is over 9999 */
     GDT_NO_ROOM = 22,        /* more room is needed; place: how many bytes, entries or found sets */
     GDT_TOO_MANY_SETS = 23,  /* a 2,049th set of a day file (place: its offset in the file) */
-    GDT_HIGH_BYTE = 24       /* a content byte is over 7Fh, and the set has 9206 with content 1 (place: the first such byte; label 0) */
+    GDT_HIGH_BYTE = 24,      /* a content byte is over 7Fh, and the set has 9206 with content 1 (place: the first such byte; label 0) */
+    GDT_BAD_BLOCK = 25,      /* received bytes have not the form of a block, or its count or its label is not in turn (place: 0) */
+    GDT_BAD_CRC = 26         /* the four hex digits of a block are not its CRC (place: 0) */
 };
+
+/* The greatest length of a block. */
+enum { GDT_BLOCK = 137 };
 
 /* What judging a set answers: its length in bytes, its lines, and the number of its type, as 6310. */
 struct gdt_judged {
@@ -70,8 +83,9 @@ struct gdt_judged {
     size_t length, lines, type;
 };
 
-/* What index, list, writer, correction and the day calls answer: how many entries or bytes were made; of a correction the new used
-   length; of gdt_day_build and gdt_day_append the entries of the index, of gdt_day_find the sets that were found. */
+/* What index, list, writer, correction, the day calls and gdt_block answer: how many entries or bytes were made; of a correction the new used
+   length; of gdt_day_build and gdt_day_append the entries of the index, of gdt_day_find the sets that were found; of gdt_block the length
+   of the block. */
 struct gdt_made {
     size_t no, place, label;
     size_t count;
@@ -132,5 +146,76 @@ struct gdt_made gdt_day_append(const uint8_t *file, size_t file_length, size_t o
    the entries that match as the need; `room` and this need are single numbers. Numbers of `out` after the count stay as they were.
    The entry with number n is index[4 * (n - 1)] to index[4 * (n - 1) + 3]: offset, length, type, place. */
 struct gdt_made gdt_day_find(const uint8_t *file, size_t file_length, const size_t *index, size_t numbers, const uint8_t *asked, size_t asked_length, size_t *out, size_t room);
+
+/* The sender's record. Six zeros are a fresh link.
+   phase: one of the four below; any other number counts as GDT_IDLE, and stays.
+   blocks: how many blocks the set has. attempt: 0 and 1 are the first, any more is the second.
+   block: the number, from 0, of the block that is to be sent, or was sent last; it is the last one if block + 1 >= blocks.
+   errors: 0 if no error was heard for that block yet, else one was. count: the block's sequence count. */
+struct gdt_link {
+    size_t phase, blocks, attempt, block, errors, count;
+};
+
+/* Phases of a link, and `what` of an answer to the sender: nothing is under way; send this block with this count; the set is delivered;
+   it is given up. */
+enum { GDT_IDLE = 0, GDT_UNDER_WAY = 1, GDT_DELIVERED = 2, GDT_GIVEN_UP = 3 };
+
+/* What the sender has to do next. `what` is GDT_UNDER_WAY if block number `block`, from 0, has to be sent with count `count` (gdt_block
+   makes it) and a reply awaited; else both are 0. */
+struct gdt_sent {
+    size_t no, place, label;
+    size_t what, block, count;
+};
+
+/* What `bytes` are that gdt_send is given: a reply, none for a timeout; or a set (any number but 0). */
+enum { GDT_REPLY = 0, GDT_BEGIN = 1 };
+
+/* The sender: updates the link's record and says what to do next.
+   To begin, `bytes` are the one set that is to be sent: refused as gdt_judge refuses it, or by GDT_BAD_USE if another set follows (place: the
+   first one's length). All six numbers are written: GDT_UNDER_WAY, the number of blocks, attempt 1, block 0, errors 0, and as count the one
+   after that of the link if its phase was GDT_DELIVERED, else 0; so a set that was under way counts as given up.
+   Else `bytes` are the reply to the block that was sent last; a reply is never refused. Under way: ACK 1, just 06h 31h, leads to the next
+   block with the next count (1 to 9, then 1 again; 1 follows any count of 9 or more) and errors 0, after the last block to GDT_DELIVERED.
+   Anything else is an error: the first one on a block sends it again with the same count and writes errors 1; the second in a row begins
+   the second attempt (attempt 2, block 0, errors 0, count 0), or in the second attempt ends with GDT_GIVEN_UP. At an end only the phase
+   changes. If nothing is under way the record stays as it is, and the answer is its end again, or GDT_IDLE. Of n blocks the sender is at
+   an end after at most 4n replies and timeouts.
+   The caller waits up to 10 seconds for a reply, and drops one that comes later before it sends again: else it is heard for the next block,
+   and GDT_DELIVERED need not mean that the set arrived. A set that is given up may have arrived. */
+struct gdt_sent gdt_send(struct gdt_link *link, size_t begin, const uint8_t *bytes, size_t length);
+
+/* Writes block number `block`, from 0, of the one set in the bytes with this count, and answers its length; the other bytes of `out` become
+   zero. Refused as gdt_send is at the beginning. Else the length is 0 if the set has no such block, or the count is over 9. The set is
+   judged anew in each call, since no record holds it. */
+struct gdt_made gdt_block(const uint8_t *set, size_t set_length, size_t block, size_t count, uint8_t out[GDT_BLOCK]);
+
+/* The receiver's record. Four zeros are a fresh receiver. started: 0 if no block was taken yet, and then the other three mean nothing, else
+   there is a last one. last: the count of the block that was taken last. open: not 0 if that was no B02, so that its set is not whole.
+   used: how many bytes of the set stand in the buffer. A call that takes a block writes 1 for yes. */
+struct gdt_receiver {
+    size_t started, last, open, used;
+};
+
+/* What became of a block: taken; acknowledged again, and nothing else; taken, and the set of `used` bytes is whole. */
+enum { GDT_TAKEN = 1, GDT_AGAIN = 2, GDT_WHOLE = 3 };
+
+/* What the receiver answers: `what`, and its record after the call, to be kept. The reply to send is ACK 1 if `no` is 0, else ACK 0. */
+struct gdt_received {
+    size_t no, place, label;
+    size_t what;
+    struct gdt_receiver receiver;
+};
+
+/* The receiver: takes a block, all bytes up to and with its 0Dh, and puts the bytes of the set that it stands for into the buffer: 0Dh 0Ah
+   for each 1Ch, and once more after the data of a B02. If the block is taken, the bytes after the used ones become zero; else no byte
+   changes. In this order:
+   GDT_BAD_BLOCK for the form: 9 to 137 bytes, a digit, B00, B01 or B02, data bytes 1Ch or 20h to FFh (there may be none), four upper-case
+   hex digits, 0Dh. GDT_BAD_CRC. Count 0 with B00 starts a set at the front, whatever the record says; with another label it is
+   GDT_BAD_BLOCK. If `started` is 0 there is neither a last count nor a next one. The last count again is acknowledged again, whatever its
+   label and data. The next count (as at gdt_send) is taken: B01 and B02 in an open set, after the used bytes; B00 if none is open, at the
+   front. Anything else is GDT_BAD_BLOCK. If a block that would be taken does not fit, GDT_NO_ROOM (place: the used bytes that it would
+   lead to; 2^64 - 1 if they are more).
+   B00 is put at the front: take a whole set out of the buffer before the next block. What was received is not judged; gdt_judge does that. */
+struct gdt_received gdt_receive(struct gdt_receiver receiver, uint8_t *buffer, size_t room, const uint8_t *block, size_t block_length);
 
 #endif

@@ -1,9 +1,10 @@
-/* gdt.c: reading, writing and correcting GDT 2.1 sets, and the index of a day file, all functions of gdt.h.
+/* gdt.c: reading, writing and correcting GDT 2.1 sets, the index of a day file, and the serial cable, all functions of gdt.h.
 
    Order of the file: limits and records; the rows; contents; the line syntax and the entries of a list; groups; the rules of a
-   line; a whole set and a whole list; the public functions; the day file (request E1) with its public functions. Words in quotes
-   are the rules paper's, for the day file and for seven bits (E2) the request's, and a bare number such as 14 is one of the
-   numbered replies. "B12", "E1a" and the like are points of docs/DECISIONS.md. */
+   line; a whole set and a whole list; the public functions; the day file (request E1) with its public functions; the serial
+   cable (E3) with its own. Words in quotes are the rules paper's, for the day file, for seven bits (E2) and for the cable the
+   request's, and a bare number such as 14 is one of the numbered replies. "B12", "E1a" and the like are points of
+   docs/DECISIONS.md. */
 #include "gdt.h"
 
 #include <string.h>
@@ -1144,4 +1145,349 @@ struct gdt_made gdt_day_find(const uint8_t *file, size_t file_length, const size
         }
     }
     return made_of(found);
+}
+
+/* ---- The serial cable ------------------------------------------------------------------------------------------------------ */
+
+_Static_assert(sizeof(struct gdt_link) == 6 * sizeof(size_t), "the sender's record is six numbers");
+_Static_assert(sizeof(struct gdt_sent) == 6 * sizeof(size_t), "what it has to do is six numbers");
+_Static_assert(sizeof(struct gdt_receiver) == 4 * sizeof(size_t), "the receiver's record is four numbers");
+_Static_assert(sizeof(struct gdt_received) == 8 * sizeof(size_t), "what it answers is eight numbers");
+
+enum {
+    SEPARATOR = 0x1C, /* "one 1Ch in place of their 0Dh 0Ah" */
+    ACK = 0x06,       /* the first byte of a reply */
+    BLOCK_HEAD = 4,   /* count and label stand before the data */
+    BLOCK_DATA = 128, /* "up to 128 data bytes" */
+    CRC_DIGITS = 4,   /* "CRC-16 as four hex digits" */
+    BLOCK_FRAME = 9,  /* count, label, digits and 0Dh */
+    FIRST_CUT = 12,   /* line 1 has 13 bytes, so its 1Ch is the 12th byte of the data */
+    LAST_COUNT = 9    /* "Count 1 to 9 then 1 again" */
+};
+
+_Static_assert(BLOCK_HEAD + CRC_DIGITS + 1 == BLOCK_FRAME, "a block without data");
+_Static_assert(BLOCK_FRAME + BLOCK_DATA == GDT_BLOCK, "the greatest block");
+
+/* The labels B00, B01 and B02, by their last digit. */
+enum { FIRST_BLOCK, INNER_BLOCK, LAST_BLOCK };
+
+/* The count after this one; 1 follows a count that no call left, too (E3o). */
+static size_t next_count(size_t count)
+{
+    return count >= LAST_COUNT ? 1 : count + 1;
+}
+
+/* "The CRC program of appendix C decides": start 0, the highest bit of a byte first, 8005h for each bit that leaves at the top, all
+   of it modulo 65536. */
+static unsigned crc_of(const uint8_t *bytes, size_t length)
+{
+    unsigned crc = 0;
+    for (size_t i = 0; i < length; i++) {
+        for (unsigned bit = 0x80; bit != 0; bit >>= 1) {
+            unsigned top = ((bytes[i] & bit) != 0) != ((crc & 0x8000) != 0);
+            crc = (crc << 1) & 0xFFFF;
+            crc ^= top ? 0x8005 : 0;
+        }
+    }
+    return crc;
+}
+
+/* The bytes of a set's data. "Lines are joined": none of the 1Ch stands after the last line (E3a). */
+static size_t data_length(const struct lines *set)
+{
+    return set->length - set->count - 1;
+}
+
+/* How many blocks the data have: two or more (E3b). */
+static size_t blocks_of(size_t data)
+{
+    return data <= BLOCK_DATA ? 2 : (data + BLOCK_DATA - 1) / BLOCK_DATA;
+}
+
+/* The place in the data at which the block starts; for the number after the last one their end. "The data are cut every 128 bytes;
+   a set that would fit one block is cut after its first 1Ch." */
+static size_t cut_at(size_t data, size_t block)
+{
+    if (block >= blocks_of(data)) {
+        return data;
+    }
+    return data <= BLOCK_DATA ? block * FIRST_CUT : block * BLOCK_DATA;
+}
+
+/* Copies the data from `start` to `end`. No content byte is under 20h, so each 0Dh ends a line and each 0Ah follows one. */
+static void put_data(uint8_t *out, const struct lines *set, size_t start, size_t end)
+{
+    size_t place = 0;
+    for (const uint8_t *p = set->bytes; place < end; p++) {
+        if (*p == '\n') {
+            continue;
+        }
+        if (place >= start) {
+            out[place - start] = *p == '\r' ? SEPARATOR : *p;
+        }
+        place++;
+    }
+}
+
+static void put_crc(uint8_t *out, unsigned crc)
+{
+    for (int i = CRC_DIGITS - 1; i >= 0; i--) {
+        out[i] = (uint8_t)"0123456789ABCDEF"[crc & 15];
+        crc >>= 4;
+    }
+}
+
+/* "reply in, next action out": what a link's record says is to be done. */
+static struct gdt_sent next_action(const struct gdt_link *link)
+{
+    struct gdt_sent sent = {0, 0, 0, GDT_IDLE, 0, 0};
+    if (link->phase == GDT_UNDER_WAY) {
+        sent.block = link->block;
+        sent.count = link->count;
+    }
+    if (link->phase <= GDT_GIVEN_UP) {
+        sent.what = link->phase;
+    }
+    return sent;
+}
+
+/* "The sender refuses as the set does, and 18 for a second set." The count goes on after a set that was delivered; it is "0 at the
+   start, after a given-up set", and after one that was under way (E3f, E3g). */
+static struct gdt_sent begin_set(struct gdt_link *link, const uint8_t *bytes, size_t length)
+{
+    struct lines set;
+    struct refusal refusal = read_lone_set(&set, bytes, length);
+    if (refusal.no != 0) {
+        struct gdt_sent sent = {refusal.no, refusal.place, refusal.label, 0, 0, 0};
+        return sent;
+    }
+    link->count = link->phase == GDT_DELIVERED ? next_count(link->count) : 0;
+    link->phase = GDT_UNDER_WAY;
+    link->blocks = blocks_of(data_length(&set));
+    link->attempt = 1;
+    link->block = 0;
+    link->errors = 0;
+    return next_action(link);
+}
+
+/* Whether the block that was sent last is the last one: block + 1 >= blocks, whatever the numbers are (E3o). */
+static int at_last_block(const struct gdt_link *link)
+{
+    return link->blocks == 0 || link->block >= link->blocks - 1;
+}
+
+/* A block was taken: the next one, or the end. */
+static void go_on(struct gdt_link *link)
+{
+    if (at_last_block(link)) {
+        link->phase = GDT_DELIVERED;
+        return;
+    }
+    link->block++;
+    link->errors = 0; /* "in a row on a block" */
+    link->count = next_count(link->count);
+}
+
+/* "A second error in a row on a block starts again from B00 with count 0; a second failed attempt ends it." */
+static void try_again(struct gdt_link *link)
+{
+    if (link->errors == 0) {
+        link->errors = 1;
+    } else if (link->attempt <= 1) {
+        link->attempt = 2;
+        link->block = 0;
+        link->errors = 0;
+        link->count = 0;
+    } else {
+        link->phase = GDT_GIVEN_UP;
+    }
+}
+
+/* "A timeout or any reply but ACK 1 is an error." */
+static int is_ack_1(const uint8_t *bytes, size_t length)
+{
+    return length == 2 && bytes[0] == ACK && bytes[1] == '1';
+}
+
+/* A reply changes the record only if a set is under way; "calls after the end answer so". */
+struct gdt_sent gdt_send(struct gdt_link *link, size_t begin, const uint8_t *bytes, size_t length)
+{
+    if (begin != GDT_REPLY) {
+        return begin_set(link, bytes, length);
+    }
+    if (link->phase == GDT_UNDER_WAY) {
+        if (is_ack_1(bytes, length)) {
+            go_on(link);
+        } else {
+            try_again(link);
+        }
+    }
+    return next_action(link);
+}
+
+/* "A block is sequence count, label B00, B01 or B02, up to 128 data bytes, CRC-16 as four hex digits, 0Dh." The CRC is of all
+   before it (E3c). Length 0 for a block that the set does not have, and for a count that is no digit (E3h). */
+struct gdt_made gdt_block(const uint8_t *set, size_t set_length, size_t block, size_t count, uint8_t out[GDT_BLOCK])
+{
+    struct lines lines;
+    struct refusal refusal = read_lone_set(&lines, set, set_length);
+    size_t data, start, end, at;
+    unsigned label;
+    if (refusal.no != 0) {
+        return refused(refusal);
+    }
+    memset(out, 0, GDT_BLOCK);
+    data = data_length(&lines);
+    if (block >= blocks_of(data) || count > LAST_COUNT) {
+        return made_of(0);
+    }
+    start = cut_at(data, block);
+    end = cut_at(data, block + 1);
+    label = block == 0 ? FIRST_BLOCK : end == data ? LAST_BLOCK : INNER_BLOCK;
+    out[0] = (uint8_t)('0' + count);
+    out[1] = 'B';
+    out[2] = '0';
+    out[3] = (uint8_t)('0' + label);
+    put_data(out + BLOCK_HEAD, &lines, start, end);
+    at = BLOCK_HEAD + end - start;
+    put_crc(out + at, crc_of(out, at));
+    out[at + CRC_DIGITS] = '\r';
+    return made_of(at + BLOCK_FRAME - BLOCK_HEAD);
+}
+
+/* The value of an upper-case hex digit; 16 for another byte. A lower-case one is not of the form (E3c). */
+static unsigned hex_digit(uint8_t byte)
+{
+    if (digit(byte) <= 9) {
+        return digit(byte);
+    }
+    return byte >= 'A' && byte <= 'F' ? byte - 'A' + 10u : 16;
+}
+
+/* The value of the four hex digits of a block; over FFFFh for other bytes. */
+static unsigned crc_in(const uint8_t *p)
+{
+    unsigned crc = 0;
+    for (int i = 0; i < CRC_DIGITS; i++) {
+        if (hex_digit(p[i]) > 15) {
+            return 0x10000;
+        }
+        crc = crc << 4 | hex_digit(p[i]);
+    }
+    return crc;
+}
+
+/* "Apart from the field separator, no other ASCII character used in a data field may be less than 20h." */
+static int is_data(const uint8_t *p, size_t n)
+{
+    for (size_t i = 0; i < n; i++) {
+        if (p[i] < 0x20 && p[i] != SEPARATOR) {
+            return 0;
+        }
+    }
+    return 1;
+}
+
+/* "BadBlock (25) for the form" (E3d). */
+static int is_block(const uint8_t *p, size_t n)
+{
+    return n >= BLOCK_FRAME && n <= GDT_BLOCK && digit(p[0]) <= 9 && p[1] == 'B' && p[2] == '0' && digit(p[3]) <= LAST_BLOCK
+        && is_data(p + BLOCK_HEAD, n - BLOCK_FRAME) && crc_in(p + n - 1 - CRC_DIGITS) <= 0xFFFF && p[n - 1] == '\r';
+}
+
+/* What becomes of a block with this count and label; 0 if they are not in turn. "The receiver takes the next count, acknowledges
+   the last one again without taking it, and starts afresh on 0 with B00." The label of the last one is not asked again (E3l). */
+static size_t in_turn(const struct gdt_receiver *receiver, size_t count, unsigned label)
+{
+    size_t taken = label == LAST_BLOCK ? GDT_WHOLE : GDT_TAKEN;
+    if (count == 0) {
+        return label == FIRST_BLOCK ? taken : 0;
+    }
+    if (receiver->started == 0) {
+        return 0; /* "0 at the start" (E3j) */
+    }
+    if (count == receiver->last) {
+        return GDT_AGAIN;
+    }
+    if (count != next_count(receiver->last)) {
+        return 0;
+    }
+    return (label == FIRST_BLOCK) == (receiver->open == 0) ? taken : 0;
+}
+
+/* The bytes of a set that the data stand for: 0Dh 0Ah is one more than 1Ch. */
+static size_t set_bytes_of(const uint8_t *data, size_t n)
+{
+    size_t bytes = n;
+    for (size_t i = 0; i < n; i++) {
+        bytes += data[i] == SEPARATOR ? 1 : 0;
+    }
+    return bytes;
+}
+
+/* Writes these bytes of a set, and answers where they end. */
+static uint8_t *put_set_bytes(uint8_t *out, const uint8_t *data, size_t n)
+{
+    for (size_t i = 0; i < n; i++) {
+        if (data[i] == SEPARATOR) {
+            *out++ = '\r';
+            *out++ = '\n';
+        } else {
+            *out++ = data[i];
+        }
+    }
+    return out;
+}
+
+static struct gdt_received not_taken(size_t no, size_t place, struct gdt_receiver receiver)
+{
+    struct gdt_received received = {no, place, 0, 0, receiver};
+    return received;
+}
+
+/* "BadBlock (25) for the form, BadCrc (26), 25 for another count or a label out of turn, NoRoom." A B00 starts at the front of the
+   buffer, the others after the used bytes, whatever the record says of them; the need stops at the greatest number (E3m). */
+struct gdt_received gdt_receive(struct gdt_receiver receiver, uint8_t *buffer, size_t room, const uint8_t *block,
+                                size_t block_length)
+{
+    const size_t most = (size_t)-1;
+    struct gdt_received received = {0, 0, 0, 0, receiver};
+    const uint8_t *data;
+    size_t data_bytes, count, start, more, new_used;
+    unsigned label;
+    uint8_t *end;
+    if (!is_block(block, block_length)) {
+        return not_taken(GDT_BAD_BLOCK, 0, receiver);
+    }
+    data = block + BLOCK_HEAD;
+    data_bytes = block_length - BLOCK_FRAME;
+    if (crc_in(data + data_bytes) != crc_of(block, BLOCK_HEAD + data_bytes)) {
+        return not_taken(GDT_BAD_CRC, 0, receiver);
+    }
+    count = digit(block[0]);
+    label = digit(block[3]);
+    received.what = in_turn(&receiver, count, label);
+    if (received.what == 0) {
+        return not_taken(GDT_BAD_BLOCK, 0, receiver);
+    }
+    if (received.what == GDT_AGAIN) {
+        return received;
+    }
+    start = label == FIRST_BLOCK ? 0 : receiver.used;
+    more = set_bytes_of(data, data_bytes) + (label == LAST_BLOCK ? LINE_END : 0);
+    new_used = more > most - start ? most : start + more;
+    if (new_used > room) {
+        return not_taken(GDT_NO_ROOM, new_used, receiver);
+    }
+    end = put_set_bytes(buffer + start, data, data_bytes);
+    if (label == LAST_BLOCK) {
+        end[0] = '\r';
+        end[1] = '\n';
+    }
+    memset(buffer + new_used, 0, room - new_used);
+    received.receiver.started = 1;
+    received.receiver.last = count;
+    received.receiver.open = label == LAST_BLOCK ? 0 : 1;
+    received.receiver.used = new_used;
+    return received;
 }

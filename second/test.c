@@ -1,6 +1,6 @@
-/* test.c: tests of gdt.c: the ten examples of the rules paper, the index that its gdtlist example prints, and cases from
-   the points B1 to B44, E1a to E1i and E2a to E2d of docs/DECISIONS.md. Each checks the reply and every byte of the lent buffers,
-   which stand between guard bytes.
+/* test.c: tests of gdt.c: the ten examples of the rules paper, the index that its gdtlist example prints, the sample blocks of
+   appendix A, and cases from the points B1 to B44, E1a to E1i, E2a to E2d and E3a to E3o of docs/DECISIONS.md. Each checks the
+   reply and every byte of the lent buffers and records, which stand between guard bytes.
    Prints `ok - NAME` or `FAILED - NAME` for each, and answers 1 if any failed.
 
    Sets, lists and sheets are given as text: lines or entries parted by `|`, each four digits (label, or line number in a sheet)
@@ -347,14 +347,60 @@ static int finds(const struct bytes *file, const size_t *index, size_t numbers, 
         & equal(have, want);
 }
 
+/* The sender: from one record to the other, in the answer what it has to do. */
+static int sends(struct gdt_link from, size_t begin, const void *bytes, size_t n, struct reply want, struct gdt_link to)
+{
+    const uint8_t *lent = lend(&lent_in, bytes, n);
+    struct gdt_link *link;
+    struct gdt_sent got;
+    struct reply have;
+    memcpy(kept, noise(sizeof *kept), sizeof *kept);
+    memcpy(kept + 1, &from, sizeof from);
+    link = (struct gdt_link *)(void *)lend_numbers(&lent_out, kept, 6);
+    got = gdt_send(link, begin, lent, n);
+    memcpy(kept + 1, &to, sizeof to);
+    have = (struct reply){got.no, got.place, got.label, got.what, got.block, got.count};
+    return holds(&lent_in, bytes) & holds(&lent_out, kept) & equal(have, want);
+}
+
+/* A block of a set; `made` are its bytes, zeros follow them. */
+static int blocks(const struct bytes *set, size_t block, size_t count, struct reply want, const void *made)
+{
+    const uint8_t *bytes = lend(&lent_in, set->of, set->n);
+    struct gdt_made got = gdt_block(bytes, set->n, block, count, lend(&lent_out, noise(GDT_BLOCK), GDT_BLOCK));
+    struct reply have = {got.no, got.place, got.label, got.count, 0, 0};
+    scratch.n = 0;
+    if (want.no == 0) {
+        add(&scratch, made, want.a);
+        pad(&scratch, GDT_BLOCK);
+    } else {
+        add(&scratch, noise(GDT_BLOCK), GDT_BLOCK);
+    }
+    return holds(&lent_in, set->of) & holds(&lent_out, scratch.of) & equal(have, want);
+}
+
+/* The receiver with a buffer; `made` is what the buffer holds after the call, up to its length. The other numbers of the answer are
+   those of the record. */
+static int receives(struct gdt_receiver from, const struct bytes *buffer, const struct bytes *block, struct reply want,
+                    struct gdt_receiver to, const struct bytes *made)
+{
+    const uint8_t *bytes = lend(&lent_also, block->of, block->n);
+    struct gdt_received got = gdt_receive(from, lend(&lent_in, buffer->of, buffer->n), buffer->n, bytes, block->n);
+    struct reply have = {got.no, got.place, got.label, got.what, 0, 0};
+    return holds(&lent_in, made->of) & holds(&lent_also, block->of) & equal(have, want)
+        & (memcmp(&got.receiver, &to, sizeof to) == 0);
+}
+
 /* ---- Sets ------------------------------------------------------------------------------------------------------------------ */
 
 /* A set that is refused is refused alike by every function that reads one. */
 static int refused_by_all(const struct bytes *set, struct reply want)
 {
     static const struct bytes sheet = {{0}, 0};
+    const struct gdt_link link = {GDT_DELIVERED, 3, 1, 2, 0, 8};
     return judges(set, want) & indexes(set, MANY, want, NULL) & makes(gdt_list, set, 9000, want, NULL)
-        & corrects(set, set->n + 20, set->n, 1, "x", want, NULL) & views(set, &sheet, 1, want);
+        & corrects(set, set->n + 20, set->n, 1, "x", want, NULL) & views(set, &sheet, 1, want)
+        & sends(link, GDT_BEGIN, set->of, set->n, want, link) & blocks(set, 0, 0, want, NULL);
 }
 
 /* The list of an accepted set is written as that set again. Bytes after the set are not part of it. */
@@ -1288,6 +1334,762 @@ static void test_long_find(void)
     report("E1h more than 65,535 entries", passed);
 }
 
+/* ---- The serial cable ------------------------------------------------------------------------------------------------------ */
+
+/* The CRC by another way than appendix C: the rest of the bytes, with 16 zero bits after them, divided by x^16 + x^15 + x^2 + 1, as
+   polynomials over two elements. */
+static unsigned rest_of(const uint8_t *bytes, size_t n)
+{
+    uint32_t rest = 0;
+    for (size_t i = 0; i < n + 2; i++) {
+        rest = rest << 8 | (i < n ? bytes[i] : 0u);
+        for (int bit = 23; bit >= 16; bit--) {
+            if ((rest >> bit & 1) != 0) {
+                rest ^= (uint32_t)0x18005 << (bit - 16);
+            }
+        }
+    }
+    return rest;
+}
+
+/* Adds the four digits of a CRC and 0Dh. */
+static void add_crc(struct bytes *b, unsigned crc)
+{
+    char digits[8];
+    snprintf(digits, sizeof digits, "%04X\r", crc & 0xFFFF);
+    add(b, digits, 5);
+}
+
+/* A block from its text, `|` for 1Ch, with the CRC that it should have. */
+static void make_block(struct bytes *b, const char *text)
+{
+    b->n = 0;
+    add_text(b, text);
+    for (size_t i = 0; i < b->n; i++) {
+        b->of[i] = b->of[i] == '|' ? 0x1C : b->of[i];
+    }
+    add_crc(b, rest_of(b->of, b->n));
+}
+
+/* Block number `block` of a set, with the cuts written as the request says them. Answers whether the set has it. */
+static int make_nth(struct bytes *b, const struct bytes *set, size_t block, size_t count)
+{
+    static struct bytes data;
+    size_t first = 0, start, end;
+    char head[8];
+    data.n = 0;
+    for (size_t i = 0; i + 2 < set->n; i++) {
+        if (set->of[i] != '\n') {
+            add(&data, set->of[i] == '\r' ? (const uint8_t *)"\x1C" : set->of + i, 1);
+        }
+    }
+    while (data.of[first] != 0x1C) {
+        first++;
+    }
+    if (data.n <= 128) {
+        start = block == 0 ? 0 : block == 1 ? first + 1 : data.n;
+        end = block == 0 ? first + 1 : data.n;
+    } else {
+        start = block > data.n / 128 ? data.n : 128 * block;
+        end = start + 128 < data.n ? start + 128 : data.n;
+    }
+    b->n = 0;
+    if (start == data.n) {
+        return 0;
+    }
+    snprintf(head, sizeof head, "%zuB0%c", count % 10, start == 0 ? '0' : end == data.n ? '2' : '1');
+    add_text(b, head);
+    add(b, data.of + start, end - start);
+    add_crc(b, rest_of(b->of, b->n));
+    return 1;
+}
+
+/* The CRC of bytes. */
+static const struct crc_case {
+    const char *name, *bytes;
+    size_t n;
+    unsigned crc;
+} crc_cases[] = {
+    {"no bytes", "", 0, 0x0000},
+    {"00h", "\0", 1, 0x0000},
+    {"80h", "\x80", 1, 0x8303},
+    {"FFh", "\xFF", 1, 0x0202},
+    {"A", "A", 1, 0x0186},
+    {"123456789", "123456789", 9, 0xFEE8},
+    {"81h 84h 94h E1h", "\x81\x84\x94\xE1", 4, 0xE423},
+    {"0B00", "0B00", 4, 0x6582},
+    {"1B00", "1B00", 4, 0xF181},
+    {"1B02", "1B02", 4, 0x718E},
+    {"3B010133101M 81h ller", "3B010133101M\x81ller", 17, 0xD709},
+};
+
+/* Whether the receiver takes 0B00 with these data and this CRC, and by any other CRC refuses it by 26. */
+static int has_crc(const uint8_t *data, size_t n, unsigned crc)
+{
+    static struct bytes block, buffer, made;
+    const struct gdt_receiver fresh = {0, 0, 0, 0}, taken = {1, 0, 1, n};
+    int passed;
+    buffer.n = 0;
+    add(&buffer, noise(200), 200);
+    made.n = 0;
+    add(&made, data, n);
+    pad(&made, 200);
+    block.n = 0;
+    add_text(&block, "0B00");
+    add(&block, data, n);
+    add_crc(&block, crc);
+    passed = receives(fresh, &buffer, &block, (struct reply){0, 0, 0, GDT_TAKEN, 0, 0}, taken, &made);
+    for (unsigned bit = 0; bit < 16; bit++) {
+        block.n -= 5;
+        add_crc(&block, crc ^ 1u << bit);
+        passed &= receives(fresh, &buffer, &block, (struct reply){26, 0, 0, 0, 0, 0}, fresh, &buffer);
+    }
+    return passed;
+}
+
+/* The receiver takes no bytes but those of a block. But the CRCs of two texts of one length differ by that of their difference: so
+   those of a mask and of the bytes under it, both data of a block, must differ by the CRC of the bytes. */
+static int crc_under_mask(const uint8_t *bytes, size_t n, unsigned crc)
+{
+    uint8_t masks[4 + 128], masked[128];
+    unsigned of_masks;
+    memcpy(masks, "0B00", 4);
+    for (size_t i = 0; i < n; i++) {
+        masks[4 + i] = (bytes[i] ^ 0x40) >= 0x20 ? 0x40 : 0x80;
+        masked[i] = bytes[i] ^ masks[4 + i];
+    }
+    of_masks = rest_of(masks, 4 + n);
+    return has_crc(masks + 4, n, of_masks) & has_crc(masked, n, of_masks ^ crc);
+}
+
+static void test_crc(void)
+{
+    static struct bytes block;
+    const struct gdt_receiver fresh = {0, 0, 0, 0};
+    uint8_t all[256];
+    char name[80];
+    int passed = 1;
+    for (size_t i = 0; i < sizeof crc_cases / sizeof *crc_cases; i++) {
+        const struct crc_case *c = &crc_cases[i];
+        const uint8_t *bytes = (const uint8_t *)c->bytes;
+        snprintf(name, sizeof name, "E3c the CRC of %s is %04X", c->name, c->crc);
+        report(name, (rest_of(bytes, c->n) == c->crc) & crc_under_mask(bytes, c->n, c->crc));
+    }
+    for (size_t i = 0; i < sizeof all; i++) {
+        all[i] = (uint8_t)i;
+        passed &= crc_under_mask(all + i, 1, rest_of(all + i, 1));
+    }
+    report("E3c the CRC of each byte", passed);
+    report("E3c the CRC of all bytes is 3B7A", (rest_of(all, 256) == 0x3B7A) & crc_under_mask(all, 128, rest_of(all, 128))
+           & crc_under_mask(all + 128, 128, rest_of(all + 128, 128)));
+    passed = 1;
+    make_block(&block, "0B0001380006300|");
+    block.n -= 5;
+    for (unsigned crc = 0; crc <= 0xFFFF; crc++) {
+        uint8_t out[40];
+        struct gdt_received got;
+        add_crc(&block, crc);
+        got = gdt_receive(fresh, out, sizeof out, block.of, block.n);
+        passed &= got.no == (crc == 0x6525 ? 0 : GDT_BAD_CRC);
+        block.n -= 5;
+    }
+    report("E3c one CRC of all that four digits can say", passed);
+}
+
+/* A set of which the data have this many bytes: b, and lines 6220 after it. */
+static void make_data(struct bytes *set, size_t data)
+{
+    char line[64 + 1];
+    size_t left = data - 59;
+    set->n = 0;
+    add_all(set, B, add_line);
+    memset(line, 'x', sizeof line);
+    memcpy(line, "6220", 4);
+    while (left > 0) {
+        size_t n = left <= 68 ? left : left - 68 >= 9 ? 68 : 59;
+        add_line(set, line, n - 4);
+        left -= n;
+    }
+    add_sum(set);
+}
+
+/* Whether all blocks of a set are as they should be, with each count, and there are `want` of them. */
+static int cut_into(const struct bytes *set, size_t want)
+{
+    static struct bytes block;
+    const struct gdt_link idle = {0, 0, 0, 0, 0, 0}, begun = {GDT_UNDER_WAY, want, 1, 0, 0, 0};
+    int passed = sends(idle, GDT_BEGIN, set->of, set->n, (struct reply){0, 0, 0, GDT_UNDER_WAY, 0, 0}, begun);
+    for (size_t i = 0; i < want + 3; i++) {
+        size_t count = i % 10;
+        int there = make_nth(&block, set, i, count);
+        passed &= there == (i < want) && blocks(set, i, count, (struct reply){0, 0, 0, block.n, 0, 0}, block.of);
+    }
+    return passed;
+}
+
+static void test_blocks(void)
+{
+    static struct bytes set, block;
+    static const size_t lengths[] = {59, 68, 76, 127, 128, 129, 130, 255, 256, 257, 383, 384, 385, 512, 1280, 1281};
+    const struct reply nothing = {0, 0, 0, 0, 0, 0};
+    const size_t most = (size_t)-1;
+    int passed = 1;
+    make_set(&set, P);
+    report("E3e the first block of P",
+           blocks(&set, 0, 0, (struct reply){0, 0, 0, 21, 0, 0}, "0B0001380006300\x1C" "6525\r"));
+    report("E3e the second block of P",
+           blocks(&set, 1, 1, (struct reply){0, 0, 0, 43, 0, 0}, "1B02014810000051\x1C" "014921802.10\x1C" "010300004226\r"));
+    for (size_t count = 0; count <= 9; count++) {
+        for (size_t i = 0; i < 2; i++) {
+            make_nth(&block, &set, i, count);
+            passed &= blocks(&set, i, count, (struct reply){0, 0, 0, block.n, 0, 0}, block.of);
+        }
+    }
+    report("E3 the blocks of P with each count", passed);
+    report("E3h a block that the set does not have", blocks(&set, 2, 0, nothing, "") & blocks(&set, 3, 1, nothing, "")
+           & blocks(&set, 1u << 31, 1, nothing, "") & blocks(&set, most / 128 + 1, 1, nothing, "")
+           & blocks(&set, most / 128 + 2, 1, nothing, "") & blocks(&set, most / 12 + 1, 1, nothing, "")
+           & blocks(&set, most - 1, 1, nothing, "") & blocks(&set, most, 1, nothing, ""));
+    report("E3h a count over 9", blocks(&set, 0, 10, nothing, "") & blocks(&set, 1, 10, nothing, "")
+           & blocks(&set, 1, 256, nothing, "") & blocks(&set, 0, most - 5, nothing, "") & blocks(&set, 0, most, nothing, ""));
+    add_text(&set, "xyz8000");
+    report("E3h a second set, whatever is asked for", blocks(&set, 0, 0, (struct reply){18, 51, 0, 0, 0, 0}, NULL)
+           & blocks(&set, 2, 0, (struct reply){18, 51, 0, 0, 0, 0}, NULL)
+           & blocks(&set, 0, 10, (struct reply){18, 51, 0, 0, 0, 0}, NULL));
+    set.of[24]++;
+    report("E3h the set's own refusal, before a second set", blocks(&set, 0, 0, (struct reply){17, 13, 0, 0, 0, 0}, NULL)
+           & blocks(&set, most, most, (struct reply){17, 13, 0, 0, 0, 0}, NULL));
+    make_set(&set, "80006310|8100?????|921802.10|30007|8402EKG01|8410FEV1|8420-3.7|8421l");
+    make_nth(&block, &set, 0, 0);
+    report("E3e the CRCs of example 8 are E532 and 102E", (memcmp(block.of + block.n - 5, "E532\r", 5) == 0)
+           & blocks(&set, 0, 0, (struct reply){0, 0, 0, 21, 0, 0}, block.of)
+           & (make_nth(&block, &set, 1, 1) && memcmp(block.of + block.n - 5, "102E\r", 5) == 0)
+           & blocks(&set, 1, 1, (struct reply){0, 0, 0, block.n, 0, 0}, block.of));
+    for (size_t i = 0; i < sizeof lengths / sizeof *lengths; i++) {
+        char name[60];
+        make_data(&set, lengths[i]);
+        snprintf(name, sizeof name, "E3b data of %zu bytes", lengths[i]);
+        report(name, cut_into(&set, lengths[i] <= 128 ? 2 : (lengths[i] + 127) / 128));
+    }
+    passed = 1;
+    for (size_t data = 77; data < 400; data++) {
+        make_data(&set, data);
+        passed &= cut_into(&set, data <= 128 ? 2 : (data + 127) / 128);
+    }
+    report("E3b data of every length around two cuts", passed);
+    make_set(&set, "80006301|8100?????|310301101945|3102J\xFFhn|3101M\x81ller \x7F|30002345|921802.10");
+    report("E3 bytes up to FFh", cut_into(&set, 2));
+    set.n = 0;
+    add_all(&set, "80006310|8100?????|921802.10|30000123456789|8402EKG012", add_line);
+    for (size_t i = 5; i < 512; i++) {
+        add_line(&set, "6220123456789012345678901234567890123456789012345678901234567890", 64);
+    }
+    add_sum(&set);
+    report("E3b the largest set has 270 blocks", (set.n == 35058) & cut_into(&set, 270));
+}
+
+static const char ack_1[] = "\x06" "1", ack_0[] = "\x06" "0";
+
+/* What is no ACK 1: each is an error. */
+static const struct answer {
+    const char *bytes;
+    size_t n;
+} errors[] = {
+    {ack_0, 2}, {"", 0}, {"\x06", 1}, {"1", 1}, {"1\x06", 2}, {"\x06" "11", 3}, {"\x06" "1\r", 3}, {" \x06" "1", 3},
+    {"\x06" "2", 2}, {"\x06" "\1", 2}, {"\x15" "1", 2}, {"\x86" "1", 2}, {"\x06\xB1", 2}, {"\0\0", 2}, {"\x06" "1\0", 3},
+    {"1B00", 4}, {"\x06" "1\x06" "1", 4},
+};
+
+/* The sender hears an error, whichever it is. */
+static int errs(struct gdt_link from, struct reply want, struct gdt_link to)
+{
+    int passed = 1;
+    for (size_t i = 0; i < sizeof errors / sizeof *errors; i++) {
+        passed &= sends(from, GDT_REPLY, errors[i].bytes, errors[i].n, want, to);
+    }
+    return passed;
+}
+
+/* The sender hears ACK 1. */
+static int acks(struct gdt_link from, struct reply want, struct gdt_link to)
+{
+    return sends(from, GDT_REPLY, ack_1, 2, want, to);
+}
+
+/* The sender stays as it is, whatever it hears, and answers so. */
+static int stays(struct gdt_link link, size_t what)
+{
+    const struct reply want = {0, 0, 0, what, 0, 0};
+    return acks(link, want, link) & errs(link, want, link);
+}
+
+#define MOST ((size_t)-1)
+#define ASKS(block, count) ((struct reply){0, 0, 0, GDT_UNDER_WAY, block, count})
+#define ENDS(what) ((struct reply){0, 0, 0, what, 0, 0})
+#define LINK(...) ((struct gdt_link){__VA_ARGS__})
+#define RUNS GDT_UNDER_WAY
+
+static void test_sender(void)
+{
+    static struct bytes p, two;
+    static const size_t begins[] = {1, 2, 256, (size_t)1 << 32, MOST};
+    int passed = 1;
+    make_set(&p, P);
+    report("E3 a set begins on a fresh link", sends(LINK(0, 0, 0, 0, 0, 0), 1, p.of, p.n, ASKS(0, 0), LINK(RUNS, 2, 1, 0, 0, 0)));
+    for (size_t i = 0; i < sizeof begins / sizeof *begins; i++) {
+        passed &= sends(LINK(0, 0, 0, 0, 0, 0), begins[i], p.of, p.n, ASKS(0, 0), LINK(RUNS, 2, 1, 0, 0, 0));
+    }
+    report("E3 any number but 0 begins a set", passed);
+    report("E3 a set as a reply is an error", sends(LINK(0, 0, 0, 0, 0, 0), 0, p.of, p.n, ENDS(GDT_IDLE), LINK(0, 0, 0, 0, 0, 0))
+           & sends(LINK(RUNS, 2, 1, 0, 0, 0), 0, p.of, p.n, ASKS(0, 0), LINK(RUNS, 2, 1, 0, 1, 0)));
+    passed = 1;
+    for (size_t count = 0; count <= 9; count++) {
+        size_t next = count == 9 ? 1 : count + 1;
+        passed &= sends(LINK(GDT_DELIVERED, 7, 2, 6, 1, count), 1, p.of, p.n, ASKS(0, next), LINK(RUNS, 2, 1, 0, 0, next));
+        passed &= sends(LINK(GDT_GIVEN_UP, 7, 2, 6, 1, count), 1, p.of, p.n, ASKS(0, 0), LINK(RUNS, 2, 1, 0, 0, 0));
+        passed &= sends(LINK(RUNS, 7, 2, 6, 1, count), 1, p.of, p.n, ASKS(0, 0), LINK(RUNS, 2, 1, 0, 0, 0));
+        passed &= sends(LINK(GDT_IDLE, 7, 2, 6, 1, count), 1, p.of, p.n, ASKS(0, 0), LINK(RUNS, 2, 1, 0, 0, 0));
+        passed &= sends(LINK(4, 7, 2, 6, 1, count), 1, p.of, p.n, ASKS(0, 0), LINK(RUNS, 2, 1, 0, 0, 0));
+    }
+    report("E3f E3g with which count a set begins", passed);
+    report("E3o a set begins after a foreign record",
+           sends(LINK(GDT_DELIVERED, MOST, MOST, MOST, MOST, 10), 1, p.of, p.n, ASKS(0, 1), LINK(RUNS, 2, 1, 0, 0, 1))
+           & sends(LINK(GDT_DELIVERED, 0, 0, 0, 0, MOST), 1, p.of, p.n, ASKS(0, 1), LINK(RUNS, 2, 1, 0, 0, 1))
+           & sends(LINK(MOST, MOST, MOST, MOST, MOST, MOST), 1, p.of, p.n, ASKS(0, 0), LINK(RUNS, 2, 1, 0, 0, 0))
+           & sends(LINK(RUNS, MOST, MOST, MOST, MOST, MOST), 1, p.of, p.n, ASKS(0, 0), LINK(RUNS, 2, 1, 0, 0, 0)));
+    two = p;
+    add_text(&two, "xyz8000");
+    report("E3h a second set at the beginning",
+           sends(LINK(RUNS, 9, 1, 3, 1, 4), 1, two.of, two.n, (struct reply){18, 51, 0, 0, 0, 0}, LINK(RUNS, 9, 1, 3, 1, 4)));
+    report("E3h no set at the beginning",
+           sends(LINK(GDT_DELIVERED, 9, 1, 8, 1, 4), 1, p.of, 0, (struct reply){1, 0, 0, 0, 0, 0},
+                 LINK(GDT_DELIVERED, 9, 1, 8, 1, 4))
+           & sends(LINK(MOST, MOST, MOST, MOST, MOST, MOST), 1, ack_1, 2, (struct reply){2, 0, 0, 0, 0, 0},
+                   LINK(MOST, MOST, MOST, MOST, MOST, MOST)));
+    passed = 1;
+    for (size_t count = 0; count <= 9; count++) {
+        size_t next = count == 9 ? 1 : count + 1;
+        passed &= acks(LINK(RUNS, 3, 1, 0, 0, count), ASKS(1, next), LINK(RUNS, 3, 1, 1, 0, next));
+        passed &= acks(LINK(RUNS, 3, 2, 1, 1, count), ASKS(2, next), LINK(RUNS, 3, 2, 2, 0, next));
+        passed &= acks(LINK(RUNS, 3, 1, 2, 0, count), ENDS(GDT_DELIVERED), LINK(GDT_DELIVERED, 3, 1, 2, 0, count));
+        passed &= acks(LINK(RUNS, 3, 2, 2, 1, count), ENDS(GDT_DELIVERED), LINK(GDT_DELIVERED, 3, 2, 2, 1, count));
+        passed &= errs(LINK(RUNS, 3, 1, 0, 0, count), ASKS(0, count), LINK(RUNS, 3, 1, 0, 1, count));
+        passed &= errs(LINK(RUNS, 3, 2, 2, 0, count), ASKS(2, count), LINK(RUNS, 3, 2, 2, 1, count));
+        passed &= errs(LINK(RUNS, 3, 1, 2, 1, count), ASKS(0, 0), LINK(RUNS, 3, 2, 0, 0, 0));
+        passed &= errs(LINK(RUNS, 3, 1, 0, 1, count), ASKS(0, 0), LINK(RUNS, 3, 2, 0, 0, 0));
+        passed &= errs(LINK(RUNS, 3, 2, 1, 1, count), ENDS(GDT_GIVEN_UP), LINK(GDT_GIVEN_UP, 3, 2, 1, 1, count));
+    }
+    report("E3 each row of the sender under way, with each count", passed);
+    report("E3 a reply at an end, and with nothing under way", stays(LINK(GDT_DELIVERED, 3, 1, 2, 0, 4), GDT_DELIVERED)
+           & stays(LINK(GDT_GIVEN_UP, 3, 2, 1, 1, 4), GDT_GIVEN_UP) & stays(LINK(0, 0, 0, 0, 0, 0), GDT_IDLE)
+           & stays(LINK(GDT_IDLE, 3, 1, 1, 1, 4), GDT_IDLE));
+    report("E3o a reply in a foreign phase", stays(LINK(4, 3, 1, 1, 0, 4), GDT_IDLE) & stays(LINK(5, 3, 1, 1, 1, 4), GDT_IDLE)
+           & stays(LINK(257, 3, 1, 1, 1, 4), GDT_IDLE) & stays(LINK(((size_t)1 << 32) + 1, 3, 1, 1, 1, 4), GDT_IDLE)
+           & stays(LINK(MOST, MOST, MOST, MOST, MOST, MOST), GDT_IDLE)
+           & stays(LINK(GDT_DELIVERED, MOST, MOST, MOST, MOST, MOST), GDT_DELIVERED)
+           & stays(LINK(GDT_GIVEN_UP, 0, 0, MOST, 0, MOST), GDT_GIVEN_UP));
+    report("E3o a block that is the last one, whatever the numbers are",
+           acks(LINK(RUNS, 0, 1, 0, 0, 4), ENDS(GDT_DELIVERED), LINK(GDT_DELIVERED, 0, 1, 0, 0, 4))
+           & acks(LINK(RUNS, 1, 1, 0, 0, 4), ENDS(GDT_DELIVERED), LINK(GDT_DELIVERED, 1, 1, 0, 0, 4))
+           & acks(LINK(RUNS, 3, 1, 3, 0, 4), ENDS(GDT_DELIVERED), LINK(GDT_DELIVERED, 3, 1, 3, 0, 4))
+           & acks(LINK(RUNS, 0, 1, MOST, 0, 4), ENDS(GDT_DELIVERED), LINK(GDT_DELIVERED, 0, 1, MOST, 0, 4))
+           & acks(LINK(RUNS, 3, 1, MOST, 7, 4), ENDS(GDT_DELIVERED), LINK(GDT_DELIVERED, 3, 1, MOST, 7, 4))
+           & acks(LINK(RUNS, MOST, 1, MOST, 0, 4), ENDS(GDT_DELIVERED), LINK(GDT_DELIVERED, MOST, 1, MOST, 0, 4))
+           & acks(LINK(RUNS, MOST, 0, MOST - 1, 0, 99), ENDS(GDT_DELIVERED), LINK(GDT_DELIVERED, MOST, 0, MOST - 1, 0, 99))
+           & acks(LINK(RUNS, MOST, 0, MOST - 2, 0, 4), ASKS(MOST - 1, 5), LINK(RUNS, MOST, 0, MOST - 1, 0, 5)));
+    report("E3o counts over 9", acks(LINK(RUNS, 3, 1, 0, 0, 10), ASKS(1, 1), LINK(RUNS, 3, 1, 1, 0, 1))
+           & acks(LINK(RUNS, 3, 1, 0, 0, MOST), ASKS(1, 1), LINK(RUNS, 3, 1, 1, 0, 1))
+           & errs(LINK(RUNS, 3, 1, 1, 0, 10), ASKS(1, 10), LINK(RUNS, 3, 1, 1, 1, 10))
+           & errs(LINK(RUNS, 3, 1, 1, 0, MOST), ASKS(1, MOST), LINK(RUNS, 3, 1, 1, 1, MOST))
+           & acks(LINK(RUNS, 3, 1, 2, 0, MOST), ENDS(GDT_DELIVERED), LINK(GDT_DELIVERED, 3, 1, 2, 0, MOST)));
+    report("E3o attempts", acks(LINK(RUNS, 3, 0, 0, 1, 4), ASKS(1, 5), LINK(RUNS, 3, 0, 1, 0, 5))
+           & errs(LINK(RUNS, 3, 0, 1, 0, 4), ASKS(1, 4), LINK(RUNS, 3, 0, 1, 1, 4))
+           & errs(LINK(RUNS, 3, 0, 1, 1, 4), ASKS(0, 0), LINK(RUNS, 3, 2, 0, 0, 0))
+           & errs(LINK(RUNS, 3, 3, 1, 1, 4), ENDS(GDT_GIVEN_UP), LINK(GDT_GIVEN_UP, 3, 3, 1, 1, 4))
+           & errs(LINK(RUNS, 3, 3, 1, 0, 4), ASKS(1, 4), LINK(RUNS, 3, 3, 1, 1, 4))
+           & acks(LINK(RUNS, 3, 3, 1, 1, 4), ASKS(2, 5), LINK(RUNS, 3, 3, 2, 0, 5))
+           & errs(LINK(RUNS, 3, MOST, 1, 1, 4), ENDS(GDT_GIVEN_UP), LINK(GDT_GIVEN_UP, 3, MOST, 1, 1, 4)));
+    report("E3o errors", errs(LINK(RUNS, 3, 1, 1, 2, 4), ASKS(0, 0), LINK(RUNS, 3, 2, 0, 0, 0))
+           & errs(LINK(RUNS, 3, 1, 1, MOST, 4), ASKS(0, 0), LINK(RUNS, 3, 2, 0, 0, 0))
+           & errs(LINK(RUNS, 3, 2, 1, MOST, 4), ENDS(GDT_GIVEN_UP), LINK(GDT_GIVEN_UP, 3, 2, 1, MOST, 4))
+           & acks(LINK(RUNS, 3, 2, 1, MOST, 4), ASKS(2, 5), LINK(RUNS, 3, 2, 2, 0, 5))
+           & errs(LINK(RUNS, 0, 1, MOST, 0, 4), ASKS(MOST, 4), LINK(RUNS, 0, 1, MOST, 1, 4))
+           & errs(LINK(RUNS, MOST, 1, MOST, 1, MOST), ASKS(0, 0), LINK(RUNS, MOST, 2, 0, 0, 0)));
+}
+
+/* The most replies after which the link is at an end, whatever they are; MOST if it may not be after four times its blocks. */
+static size_t longest_run(struct gdt_link link, size_t replies)
+{
+    size_t most = 0;
+    if (link.phase != GDT_UNDER_WAY) {
+        return replies;
+    }
+    if (replies == 4 * link.blocks) {
+        return MOST;
+    }
+    for (int i = 0; i < 2; i++) {
+        struct gdt_link next = link;
+        size_t run;
+        gdt_send(&next, GDT_REPLY, (const uint8_t *)(i == 0 ? ack_1 : ack_0), 2);
+        run = longest_run(next, replies + 1);
+        most = run > most ? run : most;
+    }
+    return most;
+}
+
+static void test_bound(void)
+{
+    int passed = 1;
+    for (size_t n = 2; n <= 5; n++) {
+        passed &= longest_run(LINK(RUNS, n, 1, 0, 0, 0), 0) == 4 * n;
+    }
+    report("E3 a set of two to five blocks is at an end after at most 4n replies, and after no less", passed);
+}
+
+#define RECEIVER(...) ((struct gdt_receiver){__VA_ARGS__})
+#define TAKEN ((struct reply){0, 0, 0, GDT_TAKEN, 0, 0})
+#define AGAIN ((struct reply){0, 0, 0, GDT_AGAIN, 0, 0})
+#define WHOLE ((struct reply){0, 0, 0, GDT_WHOLE, 0, 0})
+#define BAD_BLOCK ((struct reply){25, 0, 0, 0, 0, 0})
+#define BAD_CRC ((struct reply){26, 0, 0, 0, 0, 0})
+#define NO_ROOM(need) ((struct reply){22, need, 0, 0, 0, 0})
+
+/* A block of text that is not taken, or acknowledged again: record and buffer stay, whatever room there is. */
+static int leaves(struct gdt_receiver from, const char *text, struct reply want)
+{
+    static struct bytes block, buffer;
+    int passed;
+    make_block(&block, text);
+    buffer.n = 0;
+    passed = receives(from, &buffer, &block, want, from, &buffer);
+    add(&buffer, noise(300), 300);
+    return passed & receives(from, &buffer, &block, want, from, &buffer);
+}
+
+/* A block of text that is taken: its bytes `more` come after the first `start` bytes of the buffer, in all rooms from just enough
+   on; in any less it is refused by 22. */
+static int takes(struct gdt_receiver from, const char *text, size_t start, const char *more, struct reply want,
+                 struct gdt_receiver to)
+{
+    static struct bytes block, buffer, made;
+    size_t need = start + strlen(more);
+    int passed = to.used == need;
+    make_block(&block, text);
+    for (size_t room = 0; room < need + 20; room++) {
+        buffer.n = 0;
+        add(&buffer, noise(room), room);
+        if (room < need) {
+            passed &= receives(from, &buffer, &block, NO_ROOM(need), from, &buffer);
+            continue;
+        }
+        made.n = 0;
+        add(&made, buffer.of, start);
+        add_text(&made, more);
+        pad(&made, room);
+        passed &= receives(from, &buffer, &block, want, to, &made);
+    }
+    return passed;
+}
+
+/* The need of a block after the used bytes that a foreign record tells of, in a buffer of 300 bytes and in one of none. */
+static const struct used_case {
+    size_t used;
+    const char *block;
+    size_t need;
+} used_cases[] = {
+    {301, "4B01", 301}, {301, "4B02", 303}, {300, "4B01x", 301}, {299, "4B01|", 301}, {299, "4B02", 301}, {400, "4B01x|", 403},
+    {(size_t)1 << 63, "4B01x", ((size_t)1 << 63) + 1}, {MOST - 6, "4B02x|", MOST - 1}, {MOST - 5, "4B02x|", MOST},
+    {MOST - 4, "4B02x|", MOST}, {MOST - 2, "4B01x", MOST - 1}, {MOST - 2, "4B01|", MOST}, {MOST - 2, "4B01x|", MOST},
+    {MOST - 2, "4B02", MOST}, {MOST - 1, "4B01", MOST - 1}, {MOST - 1, "4B01x", MOST}, {MOST - 1, "4B01xyz", MOST},
+    {MOST - 1, "4B02", MOST}, {MOST, "4B01", MOST}, {MOST, "4B01x", MOST}, {MOST, "4B02", MOST},
+};
+
+static void test_receiver(void)
+{
+    static const char *const labels[] = {"B00", "B01", "B02"};
+    int passed = 1;
+    report("E3k 0B00 starts a set", takes(RECEIVER(0, 0, 0, 0), "0B00ab|c|", 0, "ab\r\nc\r\n", TAKEN, RECEIVER(1, 0, 1, 7))
+           & takes(RECEIVER(1, 0, 1, 7), "0B00ab|c|", 0, "ab\r\nc\r\n", TAKEN, RECEIVER(1, 0, 1, 7))
+           & takes(RECEIVER(1, 5, 1, 99), "0B00x", 0, "x", TAKEN, RECEIVER(1, 0, 1, 1))
+           & takes(RECEIVER(1, 5, 0, 99), "0B00x", 0, "x", TAKEN, RECEIVER(1, 0, 1, 1))
+           & takes(RECEIVER(MOST, MOST, MOST, MOST), "0B00x|", 0, "x\r\n", TAKEN, RECEIVER(1, 0, 1, 3))
+           & takes(RECEIVER(0, MOST, 0, MOST), "0B00x|", 0, "x\r\n", TAKEN, RECEIVER(1, 0, 1, 3)));
+    report("E3 count 0 with another label", leaves(RECEIVER(0, 0, 0, 0), "0B01x", BAD_BLOCK)
+           & leaves(RECEIVER(0, 0, 0, 0), "0B02x", BAD_BLOCK) & leaves(RECEIVER(1, 0, 1, 7), "0B01x", BAD_BLOCK)
+           & leaves(RECEIVER(1, 0, 1, 7), "0B02x", BAD_BLOCK) & leaves(RECEIVER(1, 9, 1, 7), "0B01x", BAD_BLOCK)
+           & leaves(RECEIVER(1, 9, 1, 7), "0B02x", BAD_BLOCK) & leaves(RECEIVER(1, 0, 0, 7), "0B01x", BAD_BLOCK)
+           & leaves(RECEIVER(2, MOST, 2, MOST), "0B02x", BAD_BLOCK));
+    for (size_t last = 0; last <= 11; last++) {
+        size_t next = last >= 9 ? 1 : last + 1;
+        for (size_t count = 0; count <= 9; count++) {
+            for (size_t label = 0; label < 3; label++) {
+                for (size_t open = 0; open <= 2; open++) {
+                    char text[12];
+                    snprintf(text, sizeof text, "%zu%sab|", count, labels[label]);
+                    if (count == 0 && label == 0) {
+                        passed &= takes(RECEIVER(1, last, open, 3), text, 0, "ab\r\n", TAKEN, RECEIVER(1, 0, 1, 4));
+                    } else if (count == last && count != 0) {
+                        passed &= leaves(RECEIVER(1, last, open, 3), text, AGAIN);
+                    } else if (count == next && open != 0 && label == 1) {
+                        passed &= takes(RECEIVER(1, last, open, 3), text, 3, "ab\r\n", TAKEN, RECEIVER(1, count, 1, 7));
+                    } else if (count == next && open != 0 && label == 2) {
+                        passed &= takes(RECEIVER(7, last, open, 3), text, 3, "ab\r\n\r\n", WHOLE, RECEIVER(1, count, 0, 9));
+                    } else if (count == next && open == 0 && label == 0) {
+                        passed &= takes(RECEIVER(MOST, last, open, 3), text, 0, "ab\r\n", TAKEN, RECEIVER(1, count, 1, 4));
+                    } else {
+                        passed &= leaves(RECEIVER(1, last, open, 3), text, BAD_BLOCK);
+                    }
+                }
+            }
+        }
+    }
+    report("E3 each row of the receiver, with each last count, count and label", passed);
+    passed = 1;
+    for (size_t count = 1; count <= 9; count++) {
+        for (size_t label = 0; label < 3; label++) {
+            char text[12];
+            snprintf(text, sizeof text, "%zu%sx", count, labels[label]);
+            passed &= leaves(RECEIVER(0, 0, 0, 0), text, BAD_BLOCK) & leaves(RECEIVER(0, count, 1, 3), text, BAD_BLOCK)
+                & leaves(RECEIVER(0, count - 1, 1, 3), text, BAD_BLOCK) & leaves(RECEIVER(0, count - 1, 0, 3), text, BAD_BLOCK)
+                & leaves(RECEIVER(0, MOST, MOST, MOST), text, BAD_BLOCK);
+        }
+    }
+    report("E3j a fresh receiver takes 0 alone", passed);
+    passed = 1;
+    report("E3l the last count again, another label and other data", leaves(RECEIVER(1, 3, 0, 7), "3B02x", AGAIN)
+           & leaves(RECEIVER(1, 3, 0, 7), "3B00", AGAIN) & leaves(RECEIVER(1, 3, 1, MOST), "3B01yz|", AGAIN)
+           & leaves(RECEIVER(MOST, 3, MOST, MOST), "3B00yz|", AGAIN));
+    report("E3o a last count over 9", leaves(RECEIVER(1, 10, 1, 3), "9B01x", BAD_BLOCK)
+           & takes(RECEIVER(1, 10, 1, 3), "1B01x", 3, "x", TAKEN, RECEIVER(1, 1, 1, 4))
+           & takes(RECEIVER(1, MOST, 1, 3), "1B02x", 3, "x\r\n", WHOLE, RECEIVER(1, 1, 0, 6))
+           & takes(RECEIVER(1, MOST, 0, MOST), "1B00x", 0, "x", TAKEN, RECEIVER(1, 1, 1, 1))
+           & leaves(RECEIVER(1, MOST, 0, 3), "2B00x", BAD_BLOCK) & leaves(RECEIVER(1, 256 + 3, 1, 3), "3B01x", BAD_BLOCK)
+           & leaves(RECEIVER(1, 256 + 3, 1, 3), "4B01x", BAD_BLOCK));
+    for (size_t i = 0; i < sizeof used_cases / sizeof *used_cases; i++) {
+        const struct used_case *c = &used_cases[i];
+        passed &= leaves(RECEIVER(1, 3, 1, c->used), c->block, NO_ROOM(c->need));
+    }
+    report("E3m the used length of a foreign record", passed);
+    report("E3d blocks without data", takes(RECEIVER(0, 0, 0, 0), "0B00", 0, "", TAKEN, RECEIVER(1, 0, 1, 0))
+           & takes(RECEIVER(1, 0, 1, 5), "1B01", 5, "", TAKEN, RECEIVER(1, 1, 1, 5))
+           & takes(RECEIVER(1, 0, 1, 5), "1B02", 5, "\r\n", WHOLE, RECEIVER(1, 1, 0, 7)));
+    report("E3a 1Ch alone, first and last", takes(RECEIVER(0, 0, 0, 0), "0B00|", 0, "\r\n", TAKEN, RECEIVER(1, 0, 1, 2))
+           & takes(RECEIVER(1, 0, 1, 5), "1B01|x||", 5, "\r\nx\r\n\r\n", TAKEN, RECEIVER(1, 1, 1, 12))
+           & takes(RECEIVER(1, 0, 1, 5), "1B02|x|", 5, "\r\nx\r\n\r\n", WHOLE, RECEIVER(1, 1, 0, 12)));
+}
+
+/* Bytes that are given as a block as they stand: refused by the number, nothing changed. */
+static int is_refused(const struct bytes *block, struct reply want)
+{
+    static struct bytes buffer;
+    const struct gdt_receiver open = {1, 3, 1, 7}, fresh = {0, 0, 0, 0}, foreign = {MOST, 4, MOST, MOST};
+    int passed;
+    buffer.n = 0;
+    passed = receives(fresh, &buffer, block, want, fresh, &buffer);
+    add(&buffer, noise(60), 60);
+    return passed & receives(open, &buffer, block, want, open, &buffer) & receives(foreign, &buffer, block, want, foreign, &buffer);
+}
+
+static int text_refused(const char *text, size_t n, struct reply want)
+{
+    static struct bytes block;
+    block.n = 0;
+    add(&block, text, n);
+    return is_refused(&block, want);
+}
+
+/* A block with one byte more, less or another one; its CRC is made anew if that is asked. */
+static int damaged(const char *text, size_t at, size_t cut, const char *more, int anew, struct reply want)
+{
+    static struct bytes whole, other;
+    make_block(&whole, text);
+    other.n = 0;
+    add(&other, whole.of, at);
+    add_text(&other, more);
+    add(&other, whole.of + at + cut, whole.n - at - cut);
+    if (anew) {
+        other.n -= 5;
+        add_crc(&other, rest_of(other.of, other.n));
+    }
+    return is_refused(&other, want);
+}
+
+static void test_form(void)
+{
+    static struct bytes block, other;
+    char text[160] = "4B01", ends[2 * 128 + 1];
+    int passed = 1;
+    report("E3d no bytes, and up to eight", text_refused("", 0, BAD_BLOCK) & text_refused("\r", 1, BAD_BLOCK)
+           & text_refused("4", 1, BAD_BLOCK) & text_refused("4B01", 4, BAD_BLOCK) & text_refused("4B01\r", 5, BAD_BLOCK)
+           & text_refused("4B01000\r", 8, BAD_BLOCK) & text_refused("0B006582", 8, BAD_BLOCK)
+           & text_refused("B006582\r", 8, BAD_BLOCK));
+    make_block(&block, "4B010133101M\x81ller|0103");
+    for (size_t n = 0; n < block.n; n++) {
+        other.n = 0;
+        add(&other, block.of, n);
+        passed &= is_refused(&other, BAD_BLOCK);
+    }
+    report("E3d a block that is cut anywhere", passed);
+    memset(text + 4, 'x', 130);
+    text[4 + 128] = 0;
+    passed = takes(RECEIVER(1, 3, 1, 7), text, 7, text + 4, TAKEN, RECEIVER(1, 4, 1, 135));
+    for (size_t i = 0; i < 128; i++) {
+        text[4 + i] = '|';
+        memcpy(ends + 2 * i, "\r\n", 3);
+    }
+    make_block(&block, text);
+    report("E3d a block of 137 bytes", passed & (block.n == GDT_BLOCK)
+           & takes(RECEIVER(1, 3, 1, 7), text, 7, ends, TAKEN, RECEIVER(1, 4, 1, 7 + 256)));
+    memcpy(text + 4 + 128, "x", 2);
+    passed = leaves(RECEIVER(1, 3, 1, 0), text, BAD_BLOCK);
+    memcpy(text + 4 + 129, "|", 2);
+    report("E3d a block of 138 bytes and more", passed & leaves(RECEIVER(1, 3, 1, 0), text, BAD_BLOCK));
+    passed = 1;
+    for (unsigned byte = 1; byte <= 0xFF; byte++) {
+        const char more[] = {(char)byte, 0};
+        int digit = byte >= '0' && byte <= '9', upper = byte >= 'A' && byte <= 'F';
+        if (!digit) {
+            passed &= damaged("4B01ab", 0, 1, more, 1, BAD_BLOCK);
+        }
+        if (byte != 'B') {
+            passed &= damaged("4B01ab", 1, 1, more, 1, BAD_BLOCK);
+        }
+        if (byte != '0') {
+            passed &= damaged("4B01ab", 2, 1, more, 1, BAD_BLOCK);
+        }
+        if (byte < '0' || byte > '2') {
+            passed &= damaged("4B01ab", 3, 1, more, 1, BAD_BLOCK);
+        }
+        make_block(&block, "4B01ab");
+        for (size_t at = 4; at < 6; at++) {
+            int data = byte >= 0x20 || byte == 0x1C;
+            passed &= byte == block.of[at] || damaged("4B01ab", at, 1, more, 0, data ? BAD_CRC : BAD_BLOCK);
+            passed &= data || damaged("4B01ab", at, 1, more, 1, BAD_BLOCK);
+        }
+        for (size_t at = 6; at < 10; at++) {
+            passed &= byte == block.of[at] || damaged("4B01ab", at, 1, more, 0, digit || upper ? BAD_CRC : BAD_BLOCK);
+        }
+        passed &= byte == '\r' || damaged("4B01ab", 10, 1, more, 0, BAD_BLOCK);
+    }
+    report("E3d every byte at every place of a block", passed);
+    report("E3d a byte 00h", text_refused("4B01\0" "0000\r", 10, BAD_BLOCK) & text_refused("\0B01" "0000\r", 9, BAD_BLOCK));
+    report("E3c lower-case digits", text_refused("0B00" "f184\r", 9, BAD_BLOCK) & text_refused("1B00" "f181\r", 9, BAD_BLOCK)
+           & text_refused("1B02" "718e\r", 9, BAD_BLOCK) & text_refused("1B02" "718g\r", 9, BAD_BLOCK)
+           & text_refused("1B02" "718G\r", 9, BAD_BLOCK) & text_refused("1B02" "718@\r", 9, BAD_BLOCK)
+           & text_refused("1B02" "718:\r", 9, BAD_BLOCK) & text_refused("1B02" "718/\r", 9, BAD_BLOCK));
+    report("E3d the order: form, CRC, turn", text_refused("0B02" "0000\r", 9, BAD_CRC) & text_refused("7B00" "0000\r", 9, BAD_CRC)
+           & text_refused("7B03" "0000\r", 9, BAD_BLOCK) & text_refused("7B00" "000a\r", 9, BAD_BLOCK)
+           & text_refused("7B00" "0000\n", 9, BAD_BLOCK) & text_refused("0B00" "6583\r", 9, BAD_CRC));
+    report("E3c the CRC of another way", text_refused("0B00" "8265\r", 9, BAD_CRC) & text_refused("1B00" "81F1\r", 9, BAD_CRC));
+    passed = 1;
+    make_block(&block, "4B010133101M\x81ller|0103");
+    for (size_t at = 0; at < block.n; at++) {
+        for (unsigned bit = 0; bit < 8; bit++) {
+            struct gdt_received got;
+            uint8_t buffer[60];
+            other = block;
+            other.of[at] ^= (uint8_t)(1u << bit);
+            got = gdt_receive(RECEIVER(1, 3, 1, 7), buffer, sizeof buffer, other.of, other.n);
+            passed &= got.no == GDT_BAD_BLOCK || got.no == GDT_BAD_CRC;
+            passed &= is_refused(&other, (struct reply){got.no, 0, 0, 0, 0, 0});
+        }
+    }
+    report("E3 every flipped bit of a block is seen", passed);
+}
+
+/* The blocks of appendix A, with the record that they come to, and the CRC that they have. */
+static const struct sample {
+    const char *block, *crc;
+    struct gdt_receiver from;
+    const char *more;
+    size_t what;
+    struct gdt_receiver to;
+} samples[] = {
+    {"1B0001380006300|014810000075|0178315QMS-STAR|017", "1DEB", {1, 9, 0, 77},
+     "01380006300\r\n014810000075\r\n0178315QMS-STAR\r\n017", GDT_TAKEN, {1, 1, 1, 47}},
+    {"2B028316ROP200U1|014921801.00", "D0DD", {1, 1, 1, 47}, "8316ROP200U1\r\n014921801.00\r\n", GDT_WHOLE, {1, 2, 0, 75}},
+    {"7B0001380006301|014810000142|", "D834", {1, 6, 0, 75}, "01380006301\r\n014810000142\r\n", GDT_TAKEN, {1, 7, 1, 27}},
+    {"8B010178315ROP200U1|0178316QMS-STAR|01492180", "7976", {1, 7, 1, 27}, "0178315ROP200U1\r\n0178316QMS-STAR\r\n01492180",
+     GDT_TAKEN, {1, 8, 1, 69}},
+    {"9B011.00|014300010027|0123101Axt|0143102Berta", "2CA9", {1, 8, 1, 69}, "1.00\r\n014300010027\r\n0123101Axt\r\n0143102Berta",
+     GDT_TAKEN, {1, 9, 1, 113}},
+    {"1B02|017310331121937|01031102", "56E8", {1, 9, 1, 113}, "\r\n017310331121937\r\n01031102\r\n", GDT_WHOLE, {1, 1, 0, 142}},
+    {"0B0001380006300|014810000075|0178315QMS-STAR|017", "F184", {1, 2, 1, 47},
+     "01380006300\r\n014810000075\r\n0178315QMS-STAR\r\n017", GDT_TAKEN, {1, 0, 1, 47}},
+    {"1B028316ROP200U1|014921801.00", "D0D4", {1, 0, 1, 47}, "8316ROP200U1\r\n014921801.00\r\n", GDT_WHOLE, {1, 1, 0, 75}},
+    {"1B0001380006300|014810000075|0178315MEDISTAR|017", "5EAA", {1, 9, 0, 75},
+     "01380006300\r\n014810000075\r\n0178315MEDISTAR\r\n017", GDT_TAKEN, {1, 1, 1, 47}},
+    {"0B0001380006301|014810000141|", "D221", {0, 0, 0, 0}, "01380006301\r\n014810000141\r\n", GDT_TAKEN, {1, 0, 1, 27}},
+};
+
+static void test_samples(void)
+{
+    static struct bytes block;
+    char name[80];
+    for (size_t i = 0; i < sizeof samples / sizeof *samples; i++) {
+        const struct sample *s = &samples[i];
+        const struct reply want = {0, 0, 0, s->what, 0, 0};
+        size_t start = s->block[3] == '0' ? 0 : s->from.used;
+        make_block(&block, s->block);
+        snprintf(name, sizeof name, "the sample %.4s.. with CRC %s", s->block, s->crc);
+        report(name, (memcmp(block.of + block.n - 5, s->crc, 4) == 0) & takes(s->from, s->block, start, s->more, want, s->to));
+    }
+}
+
+/* One exchange of a set: 0 the reply is heard, 1 it is lost, 2 the block is lost, 3 the block comes damaged. Answers whether every
+   transfer from here on that ends with GDT_DELIVERED leaves the set in the buffer, and none goes on for too long. */
+static int delivers(const struct bytes *set, struct gdt_link link, struct gdt_receiver receiver, const uint8_t *buffer,
+                    size_t exchanges, size_t *ends)
+{
+    uint8_t block[GDT_BLOCK], after[80];
+    struct gdt_made made;
+    int passed = 1;
+    if (link.phase != GDT_UNDER_WAY) {
+        ends[link.phase]++;
+        return link.phase == GDT_GIVEN_UP
+            || (receiver.open == 0 && receiver.used == set->n && memcmp(buffer, set->of, set->n) == 0);
+    }
+    if (exchanges == 4 * link.blocks) {
+        return 0;
+    }
+    made = gdt_block(set->of, set->n, link.block, link.count, block);
+    for (int way = 0; way < 4; way++) {
+        struct gdt_link next = link;
+        struct gdt_received got = {0, 0, 0, 0, receiver};
+        memcpy(after, buffer, sizeof after);
+        if (way < 2) {
+            got = gdt_receive(receiver, after, sizeof after, block, made.count);
+            passed &= got.no == 0;
+        } else if (way == 3) {
+            block[made.count / 2] ^= 2;
+            got = gdt_receive(receiver, after, sizeof after, block, made.count);
+            block[made.count / 2] ^= 2;
+            passed &= got.no != 0;
+        }
+        gdt_send(&next, GDT_REPLY, (const uint8_t *)(got.no == 0 ? ack_1 : ack_0), way == 0 || way == 3 ? 2 : 0);
+        passed &= delivers(set, next, got.receiver, after, exchanges + 1, ends);
+    }
+    return passed;
+}
+
+static void test_transfer(void)
+{
+    static struct bytes set;
+    static const struct gdt_receiver receivers[] = {{1, 0, 0, 0}, {1, 4, 0, 51}, {1, 9, 0, 3}};
+    uint8_t buffer[80] = {0};
+    size_t ends[4] = {0, 0, 0, 0};
+    int passed = 1;
+    make_set(&set, P);
+    for (size_t i = 0; i < sizeof receivers / sizeof *receivers; i++) {
+        size_t next = receivers[i].last == 9 ? 1 : receivers[i].last + 1;
+        passed &= delivers(&set, LINK(RUNS, 2, 1, 0, 0, next), receivers[i], buffer, 0, ends);
+    }
+    passed &= delivers(&set, LINK(RUNS, 2, 1, 0, 0, 0), RECEIVER(0, 0, 0, 0), buffer, 0, ends);
+    passed &= delivers(&set, LINK(RUNS, 2, 1, 0, 0, 0), RECEIVER(1, 1, 1, 9), buffer, 0, ends);
+    report("E3 what is delivered is there, in all ways to lose or to damage the exchanges of P",
+           passed & (ends[GDT_DELIVERED] > 1000) & (ends[GDT_GIVEN_UP] > 1000));
+}
+
 int main(void)
 {
     test_sets();
@@ -1310,5 +2112,13 @@ int main(void)
     test_find();
     test_foreign_find();
     test_long_find();
+    test_crc();
+    test_blocks();
+    test_sender();
+    test_bound();
+    test_receiver();
+    test_form();
+    test_samples();
+    test_transfer();
     return failures != 0;
 }

@@ -78,11 +78,17 @@ tooManySets = 23
 abbrev pub highByte : ℕ
 highByte = 24
 
+abbrev pub badBlock : ℕ
+badBlock = 25
+
+abbrev pub badCrc : ℕ
+badCrc = 26
+
 abbrev pub numbers : List ℕ
 numbers =
     empty ∷ badLength ∷ cutLine ∷ badEnd ∷ badLabel ∷ badByte ∷ tooManyLines ∷ noStart ∷ unknownSet ∷ noSum ∷ notInSet
     ∷ stray ∷ repeated ∷ badContent ∷ otherVersion ∷ missing ∷ badSum ∷ badUse ∷ noSuchLine ∷ fixedLine ∷ badList ∷ noRoom ∷ tooManySets
-    ∷ highByte ∷ []
+    ∷ highByte ∷ badBlock ∷ badCrc ∷ []
 
 abbrev pub refusal : ℕ → ℕ → ℕ → Refusal
 refusal n p l = record { no = n; place = p; label = l }

@@ -229,8 +229,12 @@ impl Refusal {
 
     pub const HIGH_BYTE: usize = 24;
 
+    pub const BAD_BLOCK: usize = 25;
+
+    pub const BAD_CRC: usize = 26;
+
     // Called by nobody: its proof says that the numbers are those of specs/, in the paper's order.
-    pub fn numbers() -> [usize; 24]
+    pub fn numbers() -> [usize; 26]
         ensures { λ r. ⌜ r ≡ numbers ⌝ }
     {
         [
@@ -258,6 +262,8 @@ impl Refusal {
             Refusal::NO_ROOM,
             Refusal::TOO_MANY_SETS,
             Refusal::HIGH_BYTE,
+            Refusal::BAD_BLOCK,
+            Refusal::BAD_CRC,
         ]
     }
 

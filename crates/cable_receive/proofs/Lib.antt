@@ -1,0 +1,3 @@
+-- The laws of this crate.
+pub mod TurnLaws
+pub mod RoomLaws

@@ -1,0 +1,3 @@
+-- Both ends of the cable together.
+pub mod Carrying
+pub mod Transfers
