@@ -43,6 +43,11 @@ def progress(what, since):
     print("%s: %.0f s" % (what, time.monotonic() - since), file=sys.stderr, flush=True)
 
 
+def archives():
+    """The archives of the proved library."""
+    return told(["sh", os.path.join(ROOT, "tools", "library")])
+
+
 def build():
     """Builds each program of bench/ over the proved library and the second program; for each the names of its loads."""
     since = time.monotonic()

@@ -6,6 +6,7 @@ import platform
 import statistics
 import sys
 
+import frames
 import measure
 
 DOCUMENT = os.path.join(measure.ROOT, "docs", "BENCH.md")
@@ -76,12 +77,13 @@ def refused_table(refused):
     return table(("Number", *(NAMES.get(call, call) for call in calls)), found)
 
 
-def stack_table(stacks, bounds):
+def stack_table(stacks, library, bounds):
     found = []
     for call, bound in bounds.items():
-        most = stacks[call]
-        found.append((NAMES.get(call, call), most.made, most.longest, most.bytes, int(bound[measure.STACK]), "%s: %s" % (most.case, most.answer[:24])))
-    return table(("Call", "Times called", "Longest case, bytes", "Stack, bytes", "At most", "One of the deepest cases, and its answer"), found)
+        most, path = stacks[call], library.largest("gdt_" + call).bytes
+        deepest = "%s: %s" % (most.case, most.answer[:24])
+        found.append((NAMES.get(call, call), most.made, most.longest, most.bytes, path, int(bound[measure.STACK]), deepest))
+    return table(("Call", "Times called", "Longest case, bytes", "Stack, bytes", "Largest path, bytes", "At most", "One of the deepest cases, and its answer"), found)
 
 
 def day_lines(days, bounds):
@@ -107,7 +109,8 @@ def main(words):
         lines += [what, ""] + load_table(counts[program], times[program])
         lines += ["Ratios for each refusal number by itself:", ""] + refused_table(counts[program][REFUSED])
     lines += day_lines(counts[measure.DAYS], bounds[measure.DAYS])
-    lines += ["Stack over the stored streams of cases:", ""] + stack_table(stacks, {call: bound for calls in bounds.values() for call, bound in calls.items()})
+    all_bounds = {call: bound for calls in bounds.values() for call, bound in calls.items()}
+    lines += ["Stack over the stored streams of cases, and on the largest path through the code:", ""] + stack_table(stacks, frames.Library(measure.archives()), all_bounds)
     text = "".join(line + "\n" for line in lines)
     print(text, end="")
     if words:
