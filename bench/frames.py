@@ -3,7 +3,7 @@ the paths that were taken. Shared by tests/stack and bench/tables.py.
 
 The height of the stack is followed from a function's first instruction along every branch: by push, pop, and add or sub of a number. At a call the callee's most is added; at a jump
 into another function too, which uses the return address that is there already. A function that has an address below its stack pointer is given the whole red zone. So the answer is
-exact but for the red zone, for what OUTSIDE assumes, and for branches that no input takes together. It counts what painting counts: from the caller's stack pointer before the call,
+exact but for the red zone, for what OUTSIDE assumes, and for paths that no input takes. It counts what painting counts: from the caller's stack pointer before the call,
 with the return address, without words that the caller passes on the stack.
 
 It is Trouble, and there is no answer,
@@ -23,7 +23,7 @@ from x86 import RSP, Trouble
 
 HEADER = os.path.join(os.path.dirname(os.path.dirname(os.path.abspath(__file__))), "include", "gdt.h")
 # What the compiler may call of the C library by itself, to copy, fill and compare. It is not in the archives: that each takes at most this much, with its return address, is an
-# assumption. Painted, glibc's memset takes the return address alone. What the loader takes to bind a name at its first call is not counted.
+# assumption. Painted, glibc's memset takes the return address alone. What the loader takes to bind a name at its first call is not counted (docs/BENCH.md).
 OUTSIDE = ("memcpy", "memmove", "memset", "memcmp", "bcmp")
 OUTSIDE_MOST = 256
 WORD = 8  # bytes of a return address, and of what is pushed
