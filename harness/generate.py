@@ -27,6 +27,7 @@ ROWS = "rows"  # the stored stream that goes through the tables row by row
 # Of a call's cases at least this many in a hundred must be accepted, meet each number, have over 400 lines (of a day call: sets); of lookups find a set.
 LEAST_ACCEPTED, LEAST_NUMBER, LEAST_LONG, LEAST_FOUND = 30, 0.1, 1, 15
 LEAST_ROW, LEAST_MARK = 1, 0.3  # of a call of the cable: each row of its rule table, each mark
+LEAST_CORRECTED = {"that grow the set": 10, "that shrink the set": 10, "that fill the buffer to its last byte": 1}  # of the accepted corrections
 
 # ---- Sets and lists with given faults: those that leave the least standing are made last ----------------------------------------------
 
@@ -563,9 +564,15 @@ def is_long(case):
     return case.args[{"c": "buffer", "s": "bytes", "t": "buffer"}.get(case.call, "set")].count(b"\r\n") > MANY_LINES
 
 
+def corrected(case, total):
+    """Which of the names in LEAST_CORRECTED an accepted correction has, by the set's new length."""
+    used, room = case.args["used"], len(case.args["buffer"])
+    return [name for name, holds in zip(LEAST_CORRECTED, (total > used, total < used, total == room)) if holds]
+
+
 def met(found, lines):
-    """For each call how many cases had each answer (0: accepted, "long": over 400 lines or sets, "found": a lookup that found a set, "all"), and of a call of
-    the cable how many met each row and each mark, by its name."""
+    """For each call how many cases had each answer (0: accepted, "long": over 400 lines or sets, "found": a lookup that found a set, "all"), of the corrections
+    how many have each name in LEAST_CORRECTED, and of a call of the cable how many met each row and each mark, by its name."""
     counts = collections.defaultdict(collections.Counter)
     for case, line in zip(found, lines):
         words = line.split(" ", 2)
@@ -573,6 +580,8 @@ def met(found, lines):
         counts[case.call]["long"] += is_long(case)
         counts[case.call]["found"] += case.call == "f" and words[0] == "ok" and words[1] != "0"
         counts[case.call][int(words[1]) if words[0] == "refused" else 0] += 1
+        if case.call == "c" and words[0] == "ok":
+            counts[case.call].update(corrected(case, int(words[1])))
         if case.call in cables.ROWS:
             counts[case.call].update(cables.rows_met(case, line)[0])
     return counts
@@ -591,9 +600,12 @@ def shortfalls(counts):
         rows, _, marks = cables.ROWS.get(call, cables.NO_ROWS)
         least.update({row: ("of the row '%s'" % row, LEAST_ROW) for row in rows})
         least.update({mark: ("with the mark '%s'" % mark, LEAST_MARK) for mark in marks})
-        for key, (what, percent) in least.items():
-            if 100 * count[key] < percent * count["all"]:
-                out.append("%s: %d of %d cases %s, at least %s %% are wanted" % (name, count[key], count["all"], what, percent))
+        wanted = [(key, "cases " + what, count["all"], percent) for key, (what, percent) in least.items()]
+        if call == "c":
+            wanted += [(kind, "accepted cases " + kind, count[0], percent) for kind, percent in LEAST_CORRECTED.items()]
+        for key, what, whole, percent in wanted:
+            if 100 * count[key] < percent * whole:
+                out.append("%s: %d of %d %s, at least %s %% are wanted" % (name, count[key], whole, what, percent))
     return out
 
 
@@ -609,6 +621,9 @@ def histogram(counts):
     for call in calls:
         rows, _, marks = cables.ROWS.get(call, cables.NO_ROWS)
         out += ["%7.2f %10s  %s" % (100 * counts[call][name] / counts[call]["all"], CALLS[call][0], name) for name in (*rows, *marks)]
+        if call == "c":
+            accepted = max(counts[call][0], 1)
+            out += ["%7.2f %10s  of the accepted: %s" % (100 * counts[call][name] / accepted, CALLS[call][0], name) for name in LEAST_CORRECTED]
     return out
 
 
