@@ -11,9 +11,48 @@
 
 enum {
     OUT = BUFFER,
-    SPARE = 8 /* bytes that a correction has after the set */
+    SPARE = 7, /* bytes that a correction has after the set, as it is or as it becomes */
+    CHANGED_LINE = 9, /* in the loads of corrections; its content may have 1 to 60 bytes */
+    CHANGES = 2 /* that such a load has at most */
 };
 #include "tasks.h"
+
+/* ---- The calls --------------------------------------------------------------------------------------------------------------- */
+
+extern __typeof__(gdt_judge) second_judge;
+extern __typeof__(gdt_index) second_index;
+extern __typeof__(gdt_list) second_list;
+extern __typeof__(gdt_write) second_write;
+extern __typeof__(gdt_correct) second_correct;
+extern __typeof__(gdt_view) second_view;
+extern __typeof__(gdt_view_copy) second_view_copy;
+
+/* The floor: each byte of the set is read once. It stands in the place of both programs, as does the C library's move of the lines that a
+   correction moves. */
+static uint64_t byte_sum(const uint8_t *bytes, size_t length)
+{
+    uint64_t sum = 0;
+    for (size_t i = 0; i < length; i++) {
+        sum += bytes[i];
+    }
+    return sum;
+}
+
+enum { JUDGE, INDEX, LIST, WRITE, CORRECT, VIEW, VIEW_COPY, BYTE_SUM, MOVE, CALLS };
+
+static const struct call calls[CALLS] = {
+    [JUDGE] = {"judge", (void *)gdt_judge, (void *)second_judge},
+    [INDEX] = {"index", (void *)gdt_index, (void *)second_index},
+    [LIST] = {"list", (void *)gdt_list, (void *)second_list},
+    [WRITE] = {"write", (void *)gdt_write, (void *)second_write},
+    [CORRECT] = {"correct", (void *)gdt_correct, (void *)second_correct},
+    [VIEW] = {"view", (void *)gdt_view, (void *)second_view},
+    [VIEW_COPY] = {"view_copy", (void *)gdt_view_copy, (void *)second_view_copy},
+    [BYTE_SUM] = {"byte_sum", (void *)byte_sum, (void *)byte_sum},
+    [MOVE] = {"move", (void *)memmove, (void *)memmove},
+};
+
+#define OF(call) (1u << (call))
 
 /* ---- The loads --------------------------------------------------------------------------------------------------------------- */
 
@@ -29,71 +68,49 @@ static void long_groups(struct input *input)
     lines(input, 3, 6220, forty);
 }
 
+enum { ON_SET = OF(MOVE) - 1, CORRECTION = OF(CORRECT) | OF(MOVE) };
+
 static const struct load {
     const char *name;
     void (*build)(struct input *); /* none: each refusal number once */
+    unsigned made; /* the calls that are made on it */
+    size_t count, lengths[CHANGES]; /* of its inputs; of the new contents of CHANGED_LINE, 0: line 4 gets one byte more */
 } loads[] = {
-    {"P", paper},
-    {"77x6", short_77},
-    {"77x6-7bit", seven_bit_77},
-    {"512x6", short_512},
-    {"512x40", long_512},
-    {"groups", long_groups},
-    {"refused", NULL},
+    {"P", paper, ON_SET, 1, {0}},
+    {"77x6", short_77, ON_SET, 1, {0}},
+    {"77x6-7bit", seven_bit_77, ON_SET, 1, {0}},
+    {"512x6", short_512, ON_SET | OF(MOVE), 1, {0}},
+    {"512x40", long_512, ON_SET | OF(MOVE), 1, {0}},
+    {"groups", long_groups, ON_SET, 1, {0}},
+    {"512x6-longer", short_512, CORRECTION, 1, {60}},
+    {"512x6-shorter", short_512, CORRECTION, 2, {5, 1}},
+    {"512x40-longer", long_512, CORRECTION, 1, {60}},
+    {"512x40-shorter", long_512, CORRECTION, 2, {39, 1}},
+    {"refused", NULL, ON_SET, GDT_HIGH_BYTE, {0}},
 };
 
 enum { LOADS = sizeof loads / sizeof *loads };
 
 static struct input inputs[GDT_HIGH_BYTE];
-static size_t input_count;
 
-static void build(const struct load *load)
+static void build(const struct load *load, size_t number)
 {
-    if (load->build != NULL) {
-        load->build(&inputs[0]);
-        finish(&inputs[0]);
-        input_count = 1;
+    struct input *input = &inputs[number];
+    if (load->build == NULL) {
+        refused(input, number + 1);
         return;
     }
-    for (input_count = 0; input_count < GDT_HIGH_BYTE; input_count++) {
-        refused(&inputs[input_count], input_count + 1);
+    load->build(input);
+    finish(input);
+    if (load->lengths[0] != 0) {
+        change_line(input, CHANGED_LINE, load->lengths[number]);
     }
 }
 
-/* ---- The calls --------------------------------------------------------------------------------------------------------------- */
+/* ---- Tasks ------------------------------------------------------------------------------------------------------------------- */
 
-extern __typeof__(gdt_judge) second_judge;
-extern __typeof__(gdt_index) second_index;
-extern __typeof__(gdt_list) second_list;
-extern __typeof__(gdt_write) second_write;
-extern __typeof__(gdt_correct) second_correct;
-extern __typeof__(gdt_view) second_view;
-extern __typeof__(gdt_view_copy) second_view_copy;
-
-/* The floor: each byte of the set is read once. It stands in the place of both programs. */
-static uint64_t byte_sum(const uint8_t *bytes, size_t length)
-{
-    uint64_t sum = 0;
-    for (size_t i = 0; i < length; i++) {
-        sum += bytes[i];
-    }
-    return sum;
-}
-
-enum { JUDGE, INDEX, LIST, WRITE, CORRECT, VIEW, VIEW_COPY, BYTE_SUM, CALLS };
-
-static const struct call calls[CALLS] = {
-    [JUDGE] = {"judge", (void *)gdt_judge, (void *)second_judge},
-    [INDEX] = {"index", (void *)gdt_index, (void *)second_index},
-    [LIST] = {"list", (void *)gdt_list, (void *)second_list},
-    [WRITE] = {"write", (void *)gdt_write, (void *)second_write},
-    [CORRECT] = {"correct", (void *)gdt_correct, (void *)second_correct},
-    [VIEW] = {"view", (void *)gdt_view, (void *)second_view},
-    [VIEW_COPY] = {"view_copy", (void *)gdt_view_copy, (void *)second_view_copy},
-    [BYTE_SUM] = {"byte_sum", (void *)byte_sum, (void *)byte_sum},
-};
-
-/* Whether a call can answer a number, 0 if it is done; the byte sum goes with judge. GDT_TOO_MANY_SETS is a day file's alone. */
+/* Whether a call can answer a number, 0 if it is done; the byte sum goes with judge, the move with a correction that is made.
+   GDT_TOO_MANY_SETS is a day file's alone. */
 static bool can_answer(int call, size_t no)
 {
     bool of_set = no <= GDT_BAD_SUM || no == GDT_HIGH_BYTE;
@@ -107,39 +124,74 @@ static bool can_answer(int call, size_t no)
     case LIST: return of_set || no == GDT_NO_ROOM;
     case WRITE: return no <= GDT_EMPTY || (no >= GDT_BAD_BYTE && no <= GDT_MISSING && no != GDT_NO_SUM) || no >= GDT_BAD_LIST;
     case CORRECT: return no != GDT_BAD_LIST;
+    case MOVE: return no == 0;
     default: return no != GDT_NO_ROOM;
     }
 }
 
 static struct task ours[GDT_HIGH_BYTE], theirs[GDT_HIGH_BYTE];
 
+/* The used length once the line is corrected. */
+static size_t used_then(const struct input *input)
+{
+    return input->used + input->content_length - input->old_length;
+}
+
+static size_t buffer_room(const struct input *input)
+{
+    size_t used = input->used, then = used_then(input);
+    return input->no == GDT_NO_ROOM ? used : (then > used ? then : used) + SPARE;
+}
+
+/* The move of all lines after the corrected one. */
+static void put_move(struct task *task, const struct input *input)
+{
+    size_t used = input->used, tail = place_of(input, input->line + 1);
+    uint64_t from = W(task->out) + tail;
+    GIVE(from + used_then(input) - used, from, used - tail);
+}
+
 /* A call that answers a record is given its place as the first word. */
 static void put_words(struct task *task, int call, const struct input *input)
 {
     bool tight = input->no == GDT_NO_ROOM;
     uint64_t reply = W(task->reply), out = W(task->out), set = W(input->set), sheet = W(input->sheet), content = W(input->content);
-    size_t used = input->used, list_room = tight ? input->list_used - 1 : used, buffer_room = tight ? used : used + SPARE;
+    size_t used = input->used, list_room = tight ? input->list_used - 1 : used;
     switch (call) {
     case JUDGE: GIVE(reply, set, used); return;
     case INDEX: GIVE(reply, set, used, out, input->lines - tight); return;
     case LIST: GIVE(reply, set, used, out, list_room); return;
     case WRITE: GIVE(reply, W(input->list), input->list_used, out, used - tight); return;
-    case CORRECT: GIVE(reply, out, buffer_room, used, input->line, content, input->content_length); return;
+    case CORRECT: GIVE(reply, out, buffer_room(input), used, input->line, content, input->content_length); return;
     case VIEW: GIVE(reply, set, used, sheet, input->sheet_used, input->line); return;
     case VIEW_COPY: GIVE(set, used, sheet, input->sheet_used, input->line, out, input->content_length); return;
     case BYTE_SUM: GIVE(set, used); return;
+    case MOVE: put_move(task, input); return;
+    }
+}
+
+/* The call after it: a correction with the old content, the move of the lines back to their place. */
+static void turn_back(struct task *task, int call, const struct input *input)
+{
+    enum { TO_WORD = 0, FROM_WORD = 1, USED_WORD = 3, CONTENT_WORD = 5, LENGTH_WORD = 6 };
+    uint64_t *back = task->words[1];
+    if (call == MOVE) {
+        back[TO_WORD] = task->words[0][FROM_WORD];
+        back[FROM_WORD] = task->words[0][TO_WORD];
+    } else if (input->no == 0) {
+        back[USED_WORD] = used_then(input);
+        back[CONTENT_WORD] = W(input->old);
+        back[LENGTH_WORD] = input->old_length;
     }
 }
 
 static void prepare(struct task *task, int call, const struct input *input)
 {
-    enum { USED_WORD = 3, LENGTH_WORD = 6 };
     put_words(task, call, input);
     fill(task);
-    if (call == CORRECT) {
+    if (call == CORRECT || call == MOVE) {
         memcpy(task->out, input->set, input->used);
-        task->words[1][USED_WORD] += input->no == 0; /* the new content is the old one and one byte more */
-        task->words[1][LENGTH_WORD] -= input->no == 0;
+        turn_back(task, call, input);
     }
 }
 
@@ -164,7 +216,7 @@ static void count(int call, const struct input *input)
     proved = counted_in(&ours[0], call, calls[call].proved);
     second = counted_in(&theirs[0], call, calls[call].second);
     bool same = alike(&ours[0], &theirs[0]);
-    bool right = call == BYTE_SUM || ours[0].reply[0] == (call == VIEW_COPY ? copied : input->no);
+    bool right = call == BYTE_SUM || call == MOVE || ours[0].reply[0] == (call == VIEW_COPY ? copied : input->no);
     if (!same || !right) {
         dprintf(2, "calls: %s, an input made for %zu: %zu answered, %s\n", calls[call].name, input->no, (size_t)ours[0].reply[0],
                 same ? "both alike" : "not both alike");
@@ -173,16 +225,32 @@ static void count(int call, const struct input *input)
     printf("%s %zu %zu %zu\n", calls[call].name, input->no, (size_t)proved, (size_t)second);
 }
 
-static void time_call(int call)
+static void measure(const struct load *load, int call, bool time)
 {
     size_t task_count = 0;
-    for (size_t i = 0; i < input_count; i++) {
-        if (can_answer(call, inputs[i].no)) {
+    for (size_t i = 0; i < load->count; i++) {
+        if (can_answer(call, inputs[i].no) && time) {
             prepare(&ours[task_count], call, &inputs[i]);
             prepare(&theirs[task_count++], call, &inputs[i]);
+        } else if (can_answer(call, inputs[i].no)) {
+            count(call, &inputs[i]);
         }
     }
-    print_times(&calls[call], ours, theirs, task_count);
+    if (time) {
+        print_times(&calls[call], ours, theirs, task_count);
+    }
+}
+
+static void measure_all(const struct load *load, bool time)
+{
+    for (size_t i = 0; i < load->count; i++) {
+        build(load, i);
+    }
+    for (int call = 0; call < CALLS; call++) {
+        if (load->made & OF(call)) {
+            measure(load, call, time);
+        }
+    }
 }
 
 int main(int word_count, char **words)
@@ -192,18 +260,7 @@ int main(int word_count, char **words)
         if (!asked) {
             puts(loads[i].name);
         } else if (is(words[2], loads[i].name)) {
-            build(&loads[i]);
-        }
-    }
-    for (int call = 0; call < CALLS && input_count > 0; call++) {
-        if (is(words[1], "time")) {
-            time_call(call);
-            continue;
-        }
-        for (size_t i = 0; i < input_count; i++) {
-            if (can_answer(call, inputs[i].no)) {
-                count(call, &inputs[i]);
-            }
+            measure_all(&loads[i], is(words[1], "time"));
         }
     }
     return 0;

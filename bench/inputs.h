@@ -6,7 +6,7 @@
 
 enum {
     BUFFER = 40000, /* bytes, for a set or a list */
-    SHEET = 64,
+    SHEET = 80,
     SUM_LINE = 2,
     FIXED_LINE = 3,
     PATIENT_LINE = 4,
@@ -14,12 +14,12 @@ enum {
     LINE_HEAD = LENGTH_DIGITS + LABEL_DIGITS
 };
 
-/* What a call is given: a set and its list; the line that is corrected and viewed, its new content, and a sheet for it. The call must
-   answer the number `no`. */
+/* What a call is given: a set and its list; the line that is corrected and viewed, its new content and its old one, and a sheet for it.
+   The call must answer the number `no`. */
 struct input {
     size_t no;
-    uint8_t set[BUFFER], list[BUFFER], sheet[SHEET], content[SHEET];
-    size_t used, lines, list_used, sheet_used, content_length, line;
+    uint8_t set[BUFFER], list[BUFFER], sheet[SHEET], content[SHEET], old[SHEET];
+    size_t used, lines, list_used, sheet_used, content_length, old_length, line;
 };
 
 /* ---- Lines and entries ------------------------------------------------------------------------------------------------------- */
@@ -46,13 +46,19 @@ static size_t number_at(const uint8_t *digits, int width)
     return number;
 }
 
+/* Where a line of the set starts; of the number after the last line's, where the set ends. */
+static size_t place_of(const struct input *input, size_t number)
+{
+    size_t place = 0;
+    for (size_t i = 1; i < number; i++) {
+        place += number_at(input->set + place, LENGTH_DIGITS);
+    }
+    return place;
+}
+
 static uint8_t *line_at(struct input *input, size_t number)
 {
-    uint8_t *at = input->set;
-    for (size_t i = 1; i < number; i++) {
-        at += number_at(at, LENGTH_DIGITS);
-    }
-    return at;
+    return input->set + place_of(input, number);
 }
 
 static void put_entry(uint8_t *bytes, size_t *used, size_t label, const uint8_t *content, size_t length)
@@ -92,17 +98,24 @@ static void put_sum(struct input *input)
     put_digits(line_at(input, SUM_LINE), &sum_at, input->used, SUM_DIGITS);
 }
 
+/* A new content for a line, its old one cut to `length` bytes or with sevens after it. */
+static void change_line(struct input *input, size_t number, size_t length)
+{
+    const uint8_t *at = line_at(input, number);
+    input->old_length = number_at(at, LENGTH_DIGITS) - LINE_FRAME;
+    memcpy(input->old, at + LINE_HEAD, input->old_length);
+    memset(input->content, '7', length);
+    memcpy(input->content, input->old, length < input->old_length ? length : input->old_length);
+    input->content_length = length;
+    choose_line(input, number);
+}
+
 /* After the last line: the sum, the list, and a new content of the patient's line, one byte longer than the old one. */
 static void finish(struct input *input)
 {
-    const uint8_t *patient = line_at(input, PATIENT_LINE);
-    size_t length = number_at(patient, LENGTH_DIGITS) - LINE_FRAME;
     put_sum(input);
     put_list(input);
-    memcpy(input->content, patient + LINE_HEAD, length);
-    input->content[length] = '7';
-    input->content_length = length + 1;
-    choose_line(input, PATIENT_LINE);
+    change_line(input, PATIENT_LINE, number_at(line_at(input, PATIENT_LINE), LENGTH_DIGITS) - LINE_FRAME + 1);
 }
 
 /* ---- Sets -------------------------------------------------------------------------------------------------------------------- */

@@ -12,12 +12,14 @@ sys.path.insert(0, os.path.join(ROOT, "harness"))
 import stream
 
 SETS, DAYS, CABLES = PROGRAMS = "calls", "days", "cables"  # the programs of bench/: the calls on a set, those on a day file, those of the cable
-FLOOR = "byte_sum"  # it stands among the calls on a set
+FLOOR, MOVE = NO_PROGRAM = "byte_sum", "move"  # they stand among the calls on a set, and in the place of both programs
 EACH = "judge"  # it stands among the calls on a day file: each of its sets is judged by itself
-STACK, JUDGING, LINEAR = "stack", "judging", "linear"  # they stand among the loads of the bounds
+STACK, JUDGING, LINEAR, MOVING = NO_LOADS = "stack", "judging", "linear", "moving"  # they stand among the loads of the bounds
+LONGER, SHORTER = WAYS = "longer", "shorter"  # a correction makes a line so: the name of its load ends with it, after that of its set
 RUNS = 7  # for the times of a load
-# The C library compares bytes by wider code on a processor that has AVX2. Instructions are counted without it, so that they are nearly the same on every machine.
-PLAIN_LIBRARY = {"GLIBC_TUNABLES": "glibc.cpu.hwcaps=-AVX2"}
+# The C library compares bytes by wider code on a processor that has AVX2, and moves and fills many of them by one instruction on one that has ERMS, which the trap flag
+# counts once for each byte. Instructions are counted without both, so that they are nearly the same on every machine.
+PLAIN_LIBRARY = {"GLIBC_TUNABLES": "glibc.cpu.hwcaps=-AVX2,-ERMS"}
 
 Count = collections.namedtuple("Count", "no proved second")  # instructions for one input; no: the number of its refusal or 0
 Stack = collections.namedtuple("Stack", "bytes case answer made longest")  # the most that a call took, in which case; calls made, longest case in bytes
@@ -107,6 +109,15 @@ def linear(days):
     return most / least
 
 
+def moving(sets):
+    """For each load of which the move is counted: its way, instructions of its corrections, and those of judging its set and moving the lines after the corrected one."""
+    for load, calls in sets.items():
+        if MOVE in calls:
+            size, _, way = load.partition("-")
+            judged = proved(sets[size]["judge"]) * len(calls["correct"])
+            yield load, way or LONGER, proved(calls["correct"]), judged + proved(calls[MOVE])
+
+
 def times(loads):
     """For each program, load and call the ratio of the times in each sample. There are some runs, since the places of a process's code and data move a ratio."""
     found = {program: {load: collections.defaultdict(list) for load in names} for program, names in loads.items()}
@@ -151,11 +162,17 @@ def stacks():
 
 def bounds():
     """For each program and call the bounds of its table in bench/bounds.txt: a ratio for each load that the call is measured on, bytes of stack, and what
-    else a day call is held to."""
+    else a call is held to. The last table has the loads that few calls on a set are measured on, a line for each."""
     with open(os.path.join(ROOT, "bench", "bounds.txt")) as file:
-        tables = "".join(line for line in file if not line.startswith("#")).split("\n\n")
-    found = {}
-    for program, table in zip(PROGRAMS, tables):
-        head, *lines = [line.split() for line in table.strip().split("\n")]
-        found[program] = {call: {load: float(most) for load, most in zip(head[1:], numbers) if most != "-"} for call, *numbers in lines}
+        *tables, few = "".join(line for line in file if not line.startswith("#")).split("\n\n")
+    found = {program: table_bounds(table) for program, table in zip(PROGRAMS, tables)}
+    for load, calls in table_bounds(few).items():
+        for call, most in calls.items():
+            found[SETS][call][load] = most
     return found
+
+
+def table_bounds(table):
+    """For the first word of each line the numbers in it, by the words of the table's head."""
+    head, *lines = [line.split() for line in table.strip().split("\n")]
+    return {first: {word: float(most) for word, most in zip(head[1:], numbers) if most != "-"} for first, *numbers in lines}

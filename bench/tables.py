@@ -11,7 +11,7 @@ import measure
 
 DOCUMENT = os.path.join(measure.ROOT, "docs", "BENCH.md")
 START, END = "<!-- the tables, by bench/run --write -->\n", "<!-- the end of the tables -->\n"
-NAMES = {"view_copy": "view, copied", measure.FLOOR: "byte sum", "day_build": "day, build", "day_append": "day, append", "day_find": "day, find"}
+NAMES = {"view_copy": "view, copied", measure.FLOOR: "byte sum", measure.MOVE: "move of the tail", "day_build": "day, build", "day_append": "day, append", "day_find": "day, find"}
 NAMES.update(send="cable, send", block="cable, block", receive="cable, receive")
 HEADS = ("The calls on a set:", "The calls on a day file:", "The calls of the serial cable:")
 REFUSED = "refused"
@@ -69,7 +69,7 @@ def load_table(counts, times):
 
 def refused_table(refused):
     """A row for each number: the ratio of each call that answers it, the worst one of a call in bold."""
-    calls = {call: {count.no: measure.ratio([count]) for count in inputs} for call, inputs in refused.items() if call != measure.FLOOR}
+    calls = {call: {count.no: measure.ratio([count]) for count in inputs} for call, inputs in refused.items() if call not in measure.NO_PROGRAM}
     found = []
     for no in sorted({no for ratios in calls.values() for no in ratios}):
         cells = [("**%.2f**" if ratios[no] == max(ratios.values()) else "%.2f") % ratios[no] if no in ratios else "" for ratios in calls.values()]
@@ -84,6 +84,13 @@ def stack_table(stacks, library, bounds):
         deepest = "%s: %s" % (most.case, most.answer[:24])
         found.append((NAMES.get(call, call), most.made, most.longest, most.bytes, path, int(bound[measure.STACK]), deepest))
     return table(("Call", "Times called", "Longest case, bytes", "Stack, bytes", "Largest path, bytes", "At most", "One of the deepest cases, and its answer"), found)
+
+
+def moving_table(sets, bounds):
+    """What a correction takes over judging the set and moving its tail."""
+    head = "A correction over judging its set and moving the tail, which is all lines after the corrected one (at most %.2f):" % bounds["correct"][measure.MOVING]
+    found = [(load, way, correct, floor, "%.2f" % (correct / floor)) for load, way, correct, floor in measure.moving(sets)]
+    return [head, ""] + table(("Load", "The line becomes", "Correct, instructions", "Judge and move, instructions", "Ratio"), found)
 
 
 def day_lines(days, bounds):
@@ -108,6 +115,7 @@ def main(words):
     for program, what in zip(measure.PROGRAMS, HEADS):
         lines += [what, ""] + load_table(counts[program], times[program])
         lines += ["Ratios for each refusal number by itself:", ""] + refused_table(counts[program][REFUSED])
+    lines += moving_table(counts[measure.SETS], bounds[measure.SETS])
     lines += day_lines(counts[measure.DAYS], bounds[measure.DAYS])
     all_bounds = {call: bound for calls in bounds.values() for call, bound in calls.items()}
     lines += ["Stack over the stored streams of cases, and on the largest path through the code:", ""] + stack_table(stacks, frames.Library(measure.archives()), all_bounds)
