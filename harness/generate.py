@@ -6,6 +6,7 @@ import lzma
 import os
 import random
 import sys
+from typing import Callable, NamedTuple
 
 import cables
 import days
@@ -22,11 +23,13 @@ CONTENT_ORDER = {"c": (19, 20, 6, 14, 24, 22), "v": (21, 19, 20, 6, 14, 24)}  # 
 MANY_LINES = 400
 STORED_CASES, STORED_DAYS = 1200, 500  # of each call on sets, of each day call
 STORED_SEED = 21
+EDGES = 0.02  # how many of the cases of a call in FORMS are made by edge_case; those of the stored streams are put at their end, all of them
 ROWS = "rows"  # the stored stream that goes through the tables row by row
 
 # Of a call's cases at least this many in a hundred must be accepted, meet each number, have over 400 lines (of a day call: sets); of lookups find a set.
 LEAST_ACCEPTED, LEAST_NUMBER, LEAST_LONG, LEAST_FOUND = 30, 0.1, 1, 15
 LEAST_ROW, LEAST_MARK = 1, 0.3  # of a call of the cable: each row of its rule table, each mark
+LEAST_EDGE = 0.1  # of a call in FORMS: each of EDGE_MARKS
 LEAST_CORRECTED = {"that grow the set": 10, "that shrink the set": 10, "that fill the buffer to its last byte": 1}  # of the accepted corrections
 
 # ---- Sets and lists with given faults: those that leave the least standing are made last ----------------------------------------------
@@ -83,7 +86,7 @@ def list_with(r, faults):
         if no == 6:
             found = sets.low_entry(r, found)
         if no == 7:
-            found = found + [r.choice((sets.entry(6228, b"one more"), b"\x00", sets.entry(3000, b"\x07"), sets.entry(10000, b"7")))]
+            found = sets.too_many_entries(r, found)
         if no == 21:
             found = r.choice((sets.cut_entries, sets.label_over))(r, found)
     return found, need
@@ -363,6 +366,50 @@ def case_with(r, call, faults):
     return Case(call, read_case(r, call, faults))
 
 
+# ---- Edges that faults at random places hardly meet -------------------------------------------------------------------------------------
+
+
+class Form(NamedTuple):
+    """What the edges of a set and of a list are made of: fields as lines or entries, the unusual ones, lengths that a content with an unknown label has, one line
+    or entry too many, and what may stand after a full set or list."""
+
+    pieces: Callable
+    piece: Callable
+    unusual: list
+    lengths: tuple
+    too_many: Callable
+    after: tuple
+
+
+AFTER_SET = (b"", b"x", b"013800", b"xyz8000", bytes(8), sets.line(6228, b"\x07"), b"0096228\r\n", b"9996228x\r\n", b"0106228x\r\r")
+AFTER_LIST = (b"", b"\x00", sets.entry(10000, b"7"), sets.entry(3000, b"\x07"))
+IN_SET = Form(sets.lines_of, sets.line, sets.UNUSUAL, (1, 60, 61, sets.MOST_CONTENT), sets.too_many, AFTER_SET)
+IN_LIST = Form(sets.entries_of, sets.entry, sets.UNUSUAL_ENTRIES, (0, 1, 60, 61, sets.MOST_CONTENT + 1), sets.too_many_entries, AFTER_LIST)
+FORMS = {**dict.fromkeys("jilcvdabs", IN_SET), "w": IN_LIST}  # of each call that reads sets, and of the writer
+EDGE_MARKS = ("11 for the label 0", "7 after an unusual last field")
+
+
+def reading(call, data):
+    """A case of a call that reads this set, or of the writer that reads this list. A day call has a set before it, correct and view a new content for line 4."""
+    before = days.small_set(b"7", False) if "file" in CALLS[call][1] else b""
+    given = dict.fromkeys(CALLS[call][1], 0)
+    given.update({"room": 3 * len(data), "used": len(data), "line": 4, "content": b"7", "sheet": sets.entry(4, b"7")})
+    given.update({"lent": 2 * DAY_ENTRY, "old": len(before), "count": 1, "index": [], "begin": 1})
+    given.update(dict.fromkeys(("set", "list", "buffer", "file", "bytes"), before + data))
+    return Case(call, {name: given[name] for name in CALLS[call][1]})
+
+
+def edge_case(r, call):
+    """A case, and the number that it was made for: one field too many after an unusual last one; or the label 0, which no table has, with a content of any length."""
+    form = FORMS[call]
+    if r.random() < 0.5:
+        fields = sets.accepted(r, 6310, sets.MOST_LINES - 2, short=True) + [sets.PLAIN, r.choice(form.unusual)]
+        return reading(call, b"".join(form.too_many(r, form.pieces(fields)))), 7
+    fields = sets.accepted(r, r.choice((*SET_TABLES,)), r.choice((0, 8, 14)), short=True)
+    fields.insert(r.randint(2, len(fields)), (0, sets.prose(r, r.choice((*form.lengths, r.randint(1, sets.MOST_CONTENT))))))
+    return reading(call, b"".join(form.pieces(fields))), 11
+
+
 # ---- A stream -------------------------------------------------------------------------------------------------------------------------
 
 
@@ -393,8 +440,8 @@ def rare(call, no):
     return no == 7 or (call, no) == ("d", 23)
 
 
-def cases(seed, count, calls):
-    """This many cases of each call, and beside each the number that it was made for; None if more than one fault was made."""
+def cases(seed, count, calls, edges=EDGES):
+    """This many cases of each call, and beside each the number that it was made for; None if more than one fault was made. This part of them is at the edges."""
     r = random.Random("%s %s" % (seed, calls))
     turns = collections.Counter()
     for _ in range(count):
@@ -409,10 +456,12 @@ def cases(seed, count, calls):
             elif way < 0.93:
                 turns[call] += 1
                 yield case_with(r, call, some_faults(r, call, numbers, turns[call])), None
-            else:
+            elif way < 1 - edges or call not in FORMS:
                 case = case_with(r, call, ())
                 damage(r, case)
                 yield case, None
+            else:
+                yield edge_case(r, call)
 
 
 def plain_fields(set_type, leave_out):
@@ -552,16 +601,59 @@ def find_edges():
                 yield Case("f", {"room": room, "file": data, "index": index, "asked": asked})
 
 
+BROKEN_LAST = (b"0096228x\r\n", b"0106228x\r\r", b"010622/x\r\n", b"0106228\x1f\r\n")
+
+
+def unknown_fields(lengths):
+    """The fields of sets of every type with the label 0 or 9999, which no table has: after line 2 and at the end, in 6310 in a group, with contents of these
+    lengths."""
+    for set_type in SET_TABLES:
+        fields = plain_fields(set_type, None) + [(8410, b"x")] * (set_type == 6310)
+        for field in [(label, b"x" * length) for label in (0, 9999) for length in lengths]:
+            yield fields[:2] + [field] + fields[2:]
+            yield fields + [field]
+
+
+def edges_in(form):
+    """The lines of sets, or the entries of lists: with an unknown label; full ones that have an unusual field at their end, or near their front, and one more after
+    all; full ones that end with an unusual field that is kept; full ones with anything after them."""
+    more = form.piece(*sets.PLAIN)
+    found = [form.pieces(fields) for fields in unknown_fields(form.lengths)]
+    found += [form.pieces(sets.full(field)) + [more] for field in form.unusual]
+    found += [form.pieces(sets.full(field, sets.EARLY)) + [more] for field in sets.UNUSUAL_EARLY]
+    found += [form.pieces(sets.full(field)) for field in sets.UNUSUAL_KEPT]
+    return found + [form.pieces(sets.full(sets.PLAIN)) + [after] for after in form.after]
+
+
+def edge_cases():
+    """For every call that reads sets, and for the writer: all these edges, and for a set a last line that is broken, with one more after it."""
+    broken = [sets.lines_of(sets.full(sets.PLAIN))[: sets.LAST] + [last, sets.line(*sets.PLAIN)] for last in BROKEN_LAST]
+    for call, form in FORMS.items():
+        yield from (reading(call, b"".join(found)) for found in edges_in(form) + broken * (form is IN_SET))
+
+
 # ---- What a stream meets ----------------------------------------------------------------------------------------------------------------
+
+
+def read_bytes(case):
+    """What a call reads: a set, a list, a day file or a buffer."""
+    return next(case.args[name] for name in ("set", "list", "file", "buffer", "bytes") if name in case.args)
 
 
 def is_long(case):
     """Whether a set or list has over 400 lines, a day file or its index over 400 sets."""
+    data = read_bytes(case)
     if "file" in case.args:
-        return max(len(day_sets(case.args["file"])), len(case.args.get("index", [])) // DAY_ENTRY) > days.MANY_SETS
-    if case.call == "w":
-        return len(entries(case.args["list"])) + 1 > MANY_LINES
-    return case.args[{"c": "buffer", "s": "bytes", "t": "buffer"}.get(case.call, "set")].count(b"\r\n") > MANY_LINES
+        return max(len(day_sets(data)), len(case.args.get("index", [])) // DAY_ENTRY) > days.MANY_SETS
+    return (len(entries(data)) + 1 if case.call == "w" else data.count(b"\r\n")) > MANY_LINES
+
+
+def edges_met(case, line):
+    """Which of EDGE_MARKS a refused case has."""
+    _, no, place, label, _ = line.split(" ")
+    form = FORMS[case.call]
+    unusual_last = no == "7" and read_bytes(case)[: int(place)].endswith(tuple(form.piece(*field) for field in form.unusual))
+    return [mark for mark, holds in zip(EDGE_MARKS, ((no, label) == ("11", "0"), unusual_last)) if holds]
 
 
 def corrected(case, total):
@@ -572,7 +664,8 @@ def corrected(case, total):
 
 def met(found, lines):
     """For each call how many cases had each answer (0: accepted, "long": over 400 lines or sets, "found": a lookup that found a set, "all"), of the corrections
-    how many have each name in LEAST_CORRECTED, and of a call of the cable how many met each row and each mark, by its name."""
+    how many have each name in LEAST_CORRECTED, of a call in FORMS how many have each of EDGE_MARKS, and of a call of the cable how many met each
+    row and each mark, by its name."""
     counts = collections.defaultdict(collections.Counter)
     for case, line in zip(found, lines):
         words = line.split(" ", 2)
@@ -582,6 +675,8 @@ def met(found, lines):
         counts[case.call][int(words[1]) if words[0] == "refused" else 0] += 1
         if case.call == "c" and words[0] == "ok":
             counts[case.call].update(corrected(case, int(words[1])))
+        if case.call in FORMS and words[0] == "refused":
+            counts[case.call].update(edges_met(case, line))
         if case.call in cables.ROWS:
             counts[case.call].update(cables.rows_met(case, line)[0])
     return counts
@@ -600,6 +695,8 @@ def shortfalls(counts):
         rows, _, marks = cables.ROWS.get(call, cables.NO_ROWS)
         least.update({row: ("of the row '%s'" % row, LEAST_ROW) for row in rows})
         least.update({mark: ("with the mark '%s'" % mark, LEAST_MARK) for mark in marks})
+        if call in FORMS:
+            least.update({mark: ("with the mark '%s'" % mark, LEAST_EDGE) for mark in EDGE_MARKS})
         wanted = [(key, "cases " + what, count["all"], percent) for key, (what, percent) in least.items()]
         if call == "c":
             wanted += [(kind, "accepted cases " + kind, count[0], percent) for kind, percent in LEAST_CORRECTED.items()]
@@ -620,7 +717,8 @@ def histogram(counts):
         out.append("%7s" % name + "".join("%11s" % ("-" if no else cell) for no, cell in zip(none, cells)))
     for call in calls:
         rows, _, marks = cables.ROWS.get(call, cables.NO_ROWS)
-        out += ["%7.2f %10s  %s" % (100 * counts[call][name] / counts[call]["all"], CALLS[call][0], name) for name in (*rows, *marks)]
+        names = (*rows, *marks, *(EDGE_MARKS if call in FORMS else ()))
+        out += ["%7.2f %10s  %s" % (100 * counts[call][name] / counts[call]["all"], CALLS[call][0], name) for name in names]
         if call == "c":
             accepted = max(counts[call][0], 1)
             out += ["%7.2f %10s  of the accepted: %s" % (100 * counts[call][name] / accepted, CALLS[call][0], name) for name in LEAST_CORRECTED]
@@ -649,13 +747,13 @@ def store():
     """Writes the stored streams: one for each call, and one for the rows."""
     streams = {}
     for call, (name, form, _) in CALLS.items():
-        streams[name] = [case for case, _ in cases(STORED_SEED, STORED_DAYS if "file" in form else STORED_CASES, call)]
+        streams[name] = [case for case, _ in cases(STORED_SEED, STORED_DAYS if "file" in form else STORED_CASES, call, edges=0)]
     streams["write"] += again_cases()
     streams["day_build"] += build_edges()
     streams["day_append"] += append_edges()
     streams["day_find"] += find_edges()
     r = random.Random(STORED_SEED)
-    for case in [*seven_set_edges(), *seven_content_edges(), *cables.block_edges(r), *cables.send_edges(r), *cables.receive_edges()]:
+    for case in [*seven_set_edges(), *seven_content_edges(), *cables.block_edges(r), *cables.send_edges(r), *cables.receive_edges(), *edge_cases()]:
         streams[CALLS[case.call][0]].append(case)
     streams[ROWS] = row_cases()
     for name, found in streams.items():

@@ -427,6 +427,32 @@ def bad_byte(r, lines, at):
 
 LINE_FAULTS = {2: bad_length, 3: cut_line, 4: bad_end, 5: bad_label, 6: bad_byte}
 
+# ---- Sets that are full, and what is too much after them -----------------------------------------------------------------------------
+
+PLAIN = (6228, b"x")
+# Fields that a fast reader may take by themselves: a rare first byte, a long content, one that looks like the start of a set; and by its number what a rule
+# refuses at this field. Wherever they stand, the 513th line of a set, or the 512th entry of a list, is one too many.
+UNUSUAL_KEPT = [(6228, content) for content in (b"\xfe", b"\xff", b"\xff" * 60, b"\xfe" + b"x" * 31, b"x" * 60, b"8000", b"0138000")] + [(8410, b"\xff")]
+UNUSUAL_REFUSED = {
+    11: [(0, b"7"), (9999, b"\xff")],
+    12: [(8420, b"1"), (6331, b"x")],
+    13: [(8100, b"00051"), (8402, b"\xfe")],
+    14: [(6228, b"x" * 61), (6228, b"x" * MOST_CONTENT), (6226, b"x"), (9218, b"\xfe2.10")],
+    15: [(9218, b"02.00")],
+    16: [(6330, b"x")],
+}
+UNUSUAL = UNUSUAL_KEPT + [field for fields in UNUSUAL_REFUSED.values() for field in fields]
+UNUSUAL_ENTRIES = UNUSUAL + [(6228, b""), (6228, b"x" * (MOST_CONTENT + 1)), (8000, b"6310")]  # with those that no line has
+UNUSUAL_EARLY = UNUSUAL_KEPT[:1] + [fields[0] for fields in UNUSUAL_REFUSED.values()]
+LAST, EARLY = MOST_LINES - 1, 5  # places of lines, counted from 0
+
+
+def full(field, at=LAST):
+    """The fields of a 6310 set of as many lines as there may be, with this one at a place. No other field of it is refused."""
+    fields = [(8000, b"6310"), (8100, None), (3000, b"7"), (8402, b"EKG01")] + [(9218, b"02.10")] * (field[0] != 9218)
+    fields += [PLAIN] * (MOST_LINES - 1 - len(fields))
+    return fields[:at] + [field] + fields[at:]
+
 
 def far(r, lines, count):
     """A set of this many lines, those from the third on of 999 bytes: places that 16 bits do not hold."""
@@ -456,6 +482,11 @@ def cut_entries(r, found):
 def far_entries(r, found, count, lengths):
     """A list of this many entries, those from the second on long."""
     return found[:1] + [entry(6228, prose(r, r.choice(lengths)))] * (count - 1)
+
+
+def too_many_entries(r, found):
+    """After 511 entries another one, or anything."""
+    return found + [r.choice((entry(6228, b"one more"), b"\x00", entry(3000, b"\x07"), entry(10000, b"7")))]
 
 
 def label_over(r, found):
