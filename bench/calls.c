@@ -2,24 +2,28 @@
    It assumes x86-64 and how words are passed there; tools/both builds it, and bench/measure.py runs it and reads its lines:
    `calls` prints the loads, `calls count LOAD` prints `CALL NO PROVED SECOND`, instructions, for each input of the load and each call
    that answers its number, `calls time LOAD` prints `CALL PROVED SECOND`, nanoseconds of the process, for each sample of the whole load.
+   The loads varied and varied-refused read a stream of the harness from standard input (bench/varied.h).
    It ends with status 1 if the two answer differently or not the number that the input is made for. The calls on a day file are in
    bench/days.c, those of the cable in bench/cables.c. */
 #include "x86.h"
 #include "icount.h"
 #include "gdt.h"
 #include "sets.h"
+#include "varied.h"
 
 enum {
     OUT = BUFFER,
     SPARE = 7, /* bytes that a correction has after the set, as it is or as it becomes */
     CHANGED_LINE = 9, /* in the loads of corrections; its content may have 1 to 60 bytes */
-    CHANGES = 2 /* that such a load has at most */
+    LONGEST_CONTENT = 990, /* bytes: a line has at most 999 */
+    MOST_SIZES = 6,
+    MOST_INPUTS = 256, /* of a load; if it has as many, instructions are counted of each COUNTED-th one alone, times are taken of all */
+    COUNTED = 16
 };
 #include "tasks.h"
 
 /* ---- The calls --------------------------------------------------------------------------------------------------------------- */
 
-extern __typeof__(gdt_judge) second_judge;
 extern __typeof__(gdt_index) second_index;
 extern __typeof__(gdt_list) second_list;
 extern __typeof__(gdt_write) second_write;
@@ -68,42 +72,135 @@ static void long_groups(struct input *input)
     lines(input, 3, 6220, forty);
 }
 
-enum { ON_SET = OF(MOVE) - 1, CORRECTION = OF(CORRECT) | OF(MOVE) };
+/* Lines of this many letters until the set has `count` lines. */
+static void fill_lines(struct input *input, size_t count, size_t length)
+{
+    static char text[LONGEST_CONTENT + 1];
+    memset(text, 'a', length);
+    text[length] = 0;
+    lines(input, count - input->lines, 6220, text);
+}
+
+static void sixty_512(struct input *input)
+{
+    begin(input);
+    fill_lines(input, 512, MOST_CONTENT);
+}
+
+static void lines_of_6(struct input *input, size_t count)
+{
+    begin(input);
+    fill_lines(input, count, 6);
+    finish(input);
+}
+
+static void lines_of_40(struct input *input, size_t count)
+{
+    begin(input);
+    fill_lines(input, count, 40);
+    finish(input);
+}
+
+/* Line 6 has an unknown label. All lines after it have to be read, since a fault of their bytes would be answered before it. */
+static void unknown_label(struct input *input, size_t count, size_t length)
+{
+    begin(input);
+    line(input, 9999, "abcdef");
+    fill_lines(input, count, length);
+    finish(input);
+    input->no = GDT_NOT_IN_SET;
+}
+
+static void unknown_then_40(struct input *input, size_t count)
+{
+    unknown_label(input, count, 40);
+}
+
+static void unknown_then_990(struct input *input, size_t count)
+{
+    unknown_label(input, count, LONGEST_CONTENT);
+}
+
+static void new_length(struct input *input, size_t length)
+{
+    change_line(input, CHANGED_LINE, length);
+}
+
+/* A sheet of this many entries for the last line. */
+static void long_sheet(struct input *input, size_t entries)
+{
+    static const uint8_t content[] = {'a', 'b', 'c', 'd', 'e'};
+    input->line = input->lines;
+    input->sheet_used = 0;
+    for (size_t i = 0; i < entries; i++) {
+        put_entry(input->sheet, &input->sheet_used, input->line, content, sizeof content);
+    }
+}
+
+static void next_accepted(struct input *input, size_t number)
+{
+    (void)number;
+    next_input(input, false);
+}
+
+static void next_refused(struct input *input, size_t number)
+{
+    (void)number;
+    next_input(input, true);
+}
+
+/* The calls that are made on a load. */
+enum {
+    ON_SET = OF(MOVE) - 1,
+    ON_BYTES = OF(JUDGE) | OF(LIST) | OF(WRITE),
+    ON_BAD_LINES = OF(JUDGE) | OF(WRITE),
+    ON_VARIED = OF(JUDGE) | OF(INDEX) | OF(LIST) | OF(CORRECT) | OF(VIEW),
+    CORRECTION = OF(CORRECT) | OF(MOVE)
+};
 
 static const struct load {
     const char *name;
-    void (*build)(struct input *); /* none: each refusal number once */
-    unsigned made; /* the calls that are made on it */
-    size_t count, lengths[CHANGES]; /* of its inputs; of the new contents of CHANGED_LINE, 0: line 4 gets one byte more */
+    void (*set)(struct input *); /* which is finished then; none: `put` puts all */
+    void (*put)(struct input *, size_t); /* puts what differs, for each of the sizes; without any, for 1, 2, 3 .. */
+    unsigned made;
+    size_t count, sizes[MOST_SIZES]; /* of the inputs */
 } loads[] = {
-    {"P", paper, ON_SET, 1, {0}},
-    {"77x6", short_77, ON_SET, 1, {0}},
-    {"77x6-7bit", seven_bit_77, ON_SET, 1, {0}},
-    {"512x6", short_512, ON_SET | OF(MOVE), 1, {0}},
-    {"512x40", long_512, ON_SET | OF(MOVE), 1, {0}},
-    {"groups", long_groups, ON_SET, 1, {0}},
-    {"512x6-longer", short_512, CORRECTION, 1, {60}},
-    {"512x6-shorter", short_512, CORRECTION, 2, {5, 1}},
-    {"512x40-longer", long_512, CORRECTION, 1, {60}},
-    {"512x40-shorter", long_512, CORRECTION, 2, {39, 1}},
-    {"refused", NULL, ON_SET, GDT_HIGH_BYTE, {0}},
+    {"P", paper, NULL, ON_SET, 1, {0}},
+    {"77x6", short_77, NULL, ON_SET, 1, {0}},
+    {"77x6-7bit", seven_bit_77, NULL, ON_SET, 1, {0}},
+    {"512x6", short_512, NULL, ON_SET | OF(MOVE), 1, {0}},
+    {"512x40", long_512, NULL, ON_SET | OF(MOVE), 1, {0}},
+    {"512x60", sixty_512, NULL, ON_BYTES, 1, {0}},
+    {"groups", long_groups, NULL, ON_SET, 1, {0}},
+    {"512x6-longer", short_512, new_length, CORRECTION, 1, {60}},
+    {"512x6-shorter", short_512, new_length, CORRECTION, 2, {5, 1}},
+    {"512x40-longer", long_512, new_length, CORRECTION, 1, {60}},
+    {"512x40-shorter", long_512, new_length, CORRECTION, 2, {39, 1}},
+    {"lines6", NULL, lines_of_6, OF(JUDGE), 6, {16, 32, 64, 128, 256, 512}},
+    {"lines40", NULL, lines_of_40, OF(JUDGE), 6, {16, 32, 64, 128, 256, 512}},
+    {"sheet16", short_512, long_sheet, OF(VIEW), 1, {16}},
+    {"sheet256", short_512, long_sheet, OF(VIEW), 1, {256}},
+    {"sheet4096", short_512, long_sheet, OF(VIEW), 1, {4096}},
+    {"varied", NULL, next_accepted, ON_VARIED | OF(WRITE), MOST_INPUTS, {0}},
+    {"varied-refused", NULL, next_refused, ON_VARIED, MOST_INPUTS, {0}},
+    {"unknown40", NULL, unknown_then_40, ON_BAD_LINES, 1, {512}},
+    {"unknown990", NULL, unknown_then_990, ON_BAD_LINES, 1, {44}},
+    {"refused", NULL, refused, ON_SET, GDT_HIGH_BYTE, {0}},
 };
 
 enum { LOADS = sizeof loads / sizeof *loads };
 
-static struct input inputs[GDT_HIGH_BYTE];
+static struct input inputs[MOST_INPUTS];
 
 static void build(const struct load *load, size_t number)
 {
     struct input *input = &inputs[number];
-    if (load->build == NULL) {
-        refused(input, number + 1);
-        return;
+    if (load->set != NULL) {
+        load->set(input);
+        finish(input);
     }
-    load->build(input);
-    finish(input);
-    if (load->lengths[0] != 0) {
-        change_line(input, CHANGED_LINE, load->lengths[number]);
+    if (load->put != NULL) {
+        load->put(input, load->sizes[0] == 0 ? number + 1 : load->sizes[number]);
     }
 }
 
@@ -129,7 +226,7 @@ static bool can_answer(int call, size_t no)
     }
 }
 
-static struct task ours[GDT_HIGH_BYTE], theirs[GDT_HIGH_BYTE];
+static struct task ours[MOST_INPUTS], theirs[MOST_INPUTS];
 
 /* The used length once the line is corrected. */
 static size_t used_then(const struct input *input)
@@ -227,8 +324,8 @@ static void count(int call, const struct input *input)
 
 static void measure(const struct load *load, int call, bool time)
 {
-    size_t task_count = 0;
-    for (size_t i = 0; i < load->count; i++) {
+    size_t task_count = 0, step = time || load->count < MOST_INPUTS ? 1 : COUNTED;
+    for (size_t i = 0; i < load->count; i += step) {
         if (can_answer(call, inputs[i].no) && time) {
             prepare(&ours[task_count], call, &inputs[i]);
             prepare(&theirs[task_count++], call, &inputs[i]);

@@ -20,7 +20,7 @@ enum {
    answer the number `no`. */
 struct day {
     size_t no;
-    uint8_t file[FILE_BYTES], asked[SHEET];
+    uint8_t file[FILE_BYTES], asked[MOST_CONTENT];
     size_t index[MOST_NUMBERS];
     size_t used, sets, built, old, count, asked_length, matches;
 };

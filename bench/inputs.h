@@ -5,8 +5,8 @@
 #include "putline.h"
 
 enum {
-    BUFFER = 40000, /* bytes, for a set or a list */
-    SHEET = 80,
+    BUFFER = 40000, /* bytes, for a set, a list or a sheet */
+    MOST_CONTENT = 60, /* bytes, of a field that has no other bound */
     SUM_LINE = 2,
     FIXED_LINE = 3,
     PATIENT_LINE = 4,
@@ -18,7 +18,7 @@ enum {
    The call must answer the number `no`. */
 struct input {
     size_t no;
-    uint8_t set[BUFFER], list[BUFFER], sheet[SHEET], content[SHEET], old[SHEET];
+    uint8_t set[BUFFER], list[BUFFER], sheet[BUFFER], content[MOST_CONTENT], old[MOST_CONTENT];
     size_t used, lines, list_used, sheet_used, content_length, old_length, line;
 };
 
@@ -98,12 +98,16 @@ static void put_sum(struct input *input)
     put_digits(line_at(input, SUM_LINE), &sum_at, input->used, SUM_DIGITS);
 }
 
+static size_t content_length(struct input *input, size_t number)
+{
+    return number_at(line_at(input, number), LENGTH_DIGITS) - LINE_FRAME;
+}
+
 /* A new content for a line, its old one cut to `length` bytes or with sevens after it. */
 static void change_line(struct input *input, size_t number, size_t length)
 {
-    const uint8_t *at = line_at(input, number);
-    input->old_length = number_at(at, LENGTH_DIGITS) - LINE_FRAME;
-    memcpy(input->old, at + LINE_HEAD, input->old_length);
+    input->old_length = content_length(input, number);
+    memcpy(input->old, line_at(input, number) + LINE_HEAD, input->old_length);
     memset(input->content, '7', length);
     memcpy(input->content, input->old, length < input->old_length ? length : input->old_length);
     input->content_length = length;
@@ -115,7 +119,7 @@ static void finish(struct input *input)
 {
     put_sum(input);
     put_list(input);
-    change_line(input, PATIENT_LINE, number_at(line_at(input, PATIENT_LINE), LENGTH_DIGITS) - LINE_FRAME + 1);
+    change_line(input, PATIENT_LINE, content_length(input, PATIENT_LINE) + 1);
 }
 
 /* ---- Sets -------------------------------------------------------------------------------------------------------------------- */

@@ -2,6 +2,7 @@
 Assumes the Rattle kit. Says on standard error what is done; if a program fails it ends with that program's message."""
 import collections
 import concurrent.futures
+import lzma
 import os
 import subprocess
 import sys
@@ -14,8 +15,11 @@ import stream
 SETS, DAYS, CABLES = PROGRAMS = "calls", "days", "cables"  # the programs of bench/: the calls on a set, those on a day file, those of the cable
 FLOOR, MOVE = NO_PROGRAM = "byte_sum", "move"  # they stand among the calls on a set, and in the place of both programs
 EACH = "judge"  # it stands among the calls on a day file: each of its sets is judged by itself
-STACK, JUDGING, LINEAR, MOVING = NO_LOADS = "stack", "judging", "linear", "moving"  # they stand among the loads of the bounds
+STACK, JUDGING, LINEAR, MOVING, GROWTH = NO_LOADS = "stack", "judging", "linear", "moving", "growth"  # they stand among the loads of the bounds
 LONGER, SHORTER = WAYS = "longer", "shorter"  # a correction makes a line so: the name of its load ends with it, after that of its set
+VARIED = "varied"  # the name of each load that is given the stored stream of judge starts so
+GROWING, LINES = ("lines6", "lines40"), (16, 32, 64, 128, 256, 512)  # loads of growing sets, and how many lines each input has
+ENTRIES = 256, 4096  # of the large sheets
 RUNS = 7  # for the times of a load
 # The C library compares bytes by wider code on a processor that has AVX2, and moves and fills many of them by one instruction on one that has ERMS, which the trap flag
 # counts once for each byte. Instructions are counted without both, so that they are nearly the same on every machine.
@@ -25,12 +29,12 @@ Count = collections.namedtuple("Count", "no proved second")  # instructions for 
 Stack = collections.namedtuple("Stack", "bytes case answer made longest")  # the most that a call took, in which case; calls made, longest case in bytes
 
 
-def told(words, **settings):
+def told(words, given=b"", **settings):
     """What a program writes, line by line."""
-    ended = subprocess.run(words, stdout=subprocess.PIPE, check=False, text=True, env={**os.environ, **settings})
+    ended = subprocess.run(words, input=given, stdout=subprocess.PIPE, check=False, env={**os.environ, **settings})
     if ended.returncode:
         sys.exit("%s ended with status %d" % (" ".join(words), ended.returncode))
-    return ended.stdout.splitlines()
+    return ended.stdout.decode().splitlines()
 
 
 def path(program):
@@ -39,6 +43,12 @@ def path(program):
 
 def run(program, *words, **settings):
     return told(["sh", os.path.join(ROOT, "tools", "x86run"), path(program), *words], **settings)
+
+
+def varied_sets():
+    """The stored stream of judge."""
+    with lzma.open(os.path.join(ROOT, "harness", "streams", "judge.xz")) as file:
+        return file.read()
 
 
 def progress(what, since):
@@ -68,8 +78,8 @@ def in_parallel(function, items):
 
 def rows(how, program, load, **settings):
     """The numbers that `PROGRAM HOW LOAD` prints, for each call."""
-    found = {}
-    for line in run(program, how, load, **settings):
+    found, given = {}, varied_sets() if load.startswith(VARIED) else b""
+    for line in run(program, how, load, given=given, **settings):
         call, *numbers = line.split()
         found.setdefault(call, []).append([int(number) for number in numbers])
     return found
@@ -107,6 +117,18 @@ def linear(days):
     """What a lookup takes for each of 2,048 entries over what it takes for each of 256."""
     most, least = [proved(days["find%d" % entries]["day_find"]) / entries for entries in (2048, 256)]
     return most / least
+
+
+def growth(sets, load):
+    """What judging takes for each further line, from each size of a set to the next."""
+    judged = [count.proved for count in sets[load]["judge"]]
+    return [(judged[i + 1] - judged[i]) / (LINES[i + 1] - LINES[i]) for i in range(len(LINES) - 1)]
+
+
+def entry(sets):
+    """What a view takes for each further entry of a large sheet."""
+    least, most = ENTRIES
+    return (proved(sets["sheet%d" % most]["view"]) - proved(sets["sheet%d" % least]["view"])) / (most - least)
 
 
 def moving(sets):

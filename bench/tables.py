@@ -86,6 +86,18 @@ def stack_table(stacks, library, bounds):
     return table(("Call", "Times called", "Longest case, bytes", "Stack, bytes", "Largest path, bytes", "At most", "One of the deepest cases, and its answer"), found)
 
 
+def growth_table(sets, bounds):
+    """What judging takes for each further line."""
+    head = "Judging takes for each further line, from 16 lines to 32 and so on, this many instructions (the most at most %.2f times the least):" % bounds["judge"][measure.GROWTH]
+    steps = ["%d to %d" % step for step in zip(measure.LINES, measure.LINES[1:])]
+    return [head, ""] + table(("Load", *steps), [(load, *("%.1f" % each for each in measure.growth(sets, load))) for load in measure.GROWING])
+
+
+def entry_lines(sets):
+    """What a view takes for each further entry of a sheet."""
+    return ["A view takes {:.1f} instructions for each further entry of a sheet, from {:,} entries to {:,}.".format(measure.entry(sets), *measure.ENTRIES), ""]
+
+
 def moving_table(sets, bounds):
     """What a correction takes over judging the set and moving its tail."""
     head = "A correction over judging its set and moving the tail, which is all lines after the corrected one (at most %.2f):" % bounds["correct"][measure.MOVING]
@@ -115,7 +127,8 @@ def main(words):
     for program, what in zip(measure.PROGRAMS, HEADS):
         lines += [what, ""] + load_table(counts[program], times[program])
         lines += ["Ratios for each refusal number by itself:", ""] + refused_table(counts[program][REFUSED])
-    lines += moving_table(counts[measure.SETS], bounds[measure.SETS])
+    sets, of_sets = counts[measure.SETS], bounds[measure.SETS]
+    lines += growth_table(sets, of_sets) + entry_lines(sets) + moving_table(sets, of_sets)
     lines += day_lines(counts[measure.DAYS], bounds[measure.DAYS])
     all_bounds = {call: bound for calls in bounds.values() for call, bound in calls.items()}
     lines += ["Stack over the stored streams of cases, and on the largest path through the code:", ""] + stack_table(stacks, frames.Library(measure.archives()), all_bounds)
