@@ -55,14 +55,20 @@ static void nothing(void)
     __asm__ volatile("");
 }
 
+/* The instructions of a call and of what is around it: one code for every function, so that what is around it is the same. */
+__attribute__((noinline)) static uint64_t counted_around(const struct task *task, void *function, uint64_t *word)
+{
+    uint64_t all;
+    ICOUNT(all, *word = make(function, task->words[0]));
+    return all;
+}
+
 /* The instructions of a call, from its first to its return; `word` is what it answers if that is no record. */
 static uint64_t counted(const struct task *task, void *function, uint64_t *word)
 {
-    static void *volatile least = (void *)nothing;
-    uint64_t around, all;
-    ICOUNT(around, *word = make(least, task->words[0]));
-    ICOUNT(all, *word = make(function, task->words[0]));
-    return all - around + 1;
+    static void *volatile least = (void *)nothing; /* the compiler must not know it, or it makes other code for it */
+    uint64_t around = counted_around(task, least, word) - 1;
+    return counted_around(task, function, word) - around;
 }
 
 static bool alike(const struct task *task, const struct task *other)
