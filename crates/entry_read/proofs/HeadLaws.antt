@@ -2,7 +2,7 @@
 use mathlib.Core.Path.{_≡_, refl, sym, ap, _∙_}
 use mathlib.Core.Bool.{Bool, true, false, cond, _&&_}
 use mathlib.Core.List.{List}
-use Prim.Native.Nat.{ℕ, zero, suc, _+_, _-_, _≤_, _<_}
+use Prim.Native.Nat.{ℕ, suc, _+_, _≤_, _<_}
 use native.Mathlib.Omega.{arith}
 use native.Mathlib.Nat.{add-zero}
 use borrow.Author.Tests.{le-leb, lt-leb, leb-true, leb-false}
@@ -13,7 +13,7 @@ use Rattle.meaning.specs.Entries.{entryLead, twoBytesAt, entryLabel, entryConte
 use Rattle.meaning.proofs.EntryLaws.{entire}
 use Rattle.entry_read.specs.declared.Head.{Head}
 use Rattle.entry_read.specs.declared.Head.the-variants.{Whole, Cut}
-use Rattle.entry_read.specs.Head.{entryAt, headsEnd}
+use Rattle.entry_read.specs.Head.{entryAt}
 
 -- ---- the ways that the code takes
 
@@ -75,6 +75,8 @@ pub record WholeAt (s : List ℕ) (at label n : ℕ) : Type 0 where
   pub content-so : take n (drop (at + entryLead) s) ≡ entryContent (drop at s)
   pub content-length : length (entryContent (drop at s)) ≡ n
   pub within : at + (entryLead + n) ≤ length s
+  pub label-told : twoBytesAt s (at + 2) ≡ label
+  pub length-told : twoBytesAt s at ≡ n
 
 pub whole-back : (s : List ℕ) (at : ℕ) {label n : ℕ} → entryAt s at ≡ Whole label n → WholeAt s at label n
 whole-back s at {label} {n} e = go (entryWhole (drop at s)) refl (sym (entry-is s at) ∙ e)
@@ -94,28 +96,7 @@ whole-back s at {label} {n} e = go (entryWhole (drop at s)) refl (sym (entry-is 
           content-so = rw (m, ← drop-drop entryLead at s) refl;
           content-length = length-take (twoBytesAt d 0) (drop entryLead d) ∙ omega (arith, w .within, length-drop entryLead d);
           within = omega (arith, w .within, length-drop at s);
+          label-told = sym (two-bytes-drop s at 2) ∙ sym k;
+          length-told = ap (twoBytesAt s) (sym (add-zero at)) ∙ (sym (two-bytes-drop s at 0) ∙ sym m);
         }
     go false q h = let z : _≡_ {A = ℕ} 0 1 = cc in absurd (omega arith)
-
--- ---- the heads from an offset on, as the code takes them
-
-module _ (s : List ℕ) (at : ℕ) where
-  pub heads-over : (k : ℕ) → length s ≤ at → headsEnd s at k ≡ true
-  unfolding headsEnd
-  heads-over zero h = le-leb (length s) at h
-  heads-over (suc k) h = rw (le-leb (length s) at h)
-
-  module _ (h : at < length s) where
-    pub heads-many : {k : ℕ} → k ≡ 0 → headsEnd s at k ≡ false
-    unfolding headsEnd
-    heads-many e = rw e (lt-leb (length s) at h)
-
-    pub heads-cut : {k : ℕ} → (k ≡ 0 → ⊥) → entryAt s at ≡ Cut → headsEnd s at k ≡ false
-    unfolding headsEnd
-    heads-cut {k} g e =
-        let q : k ≡ suc (k - 1) = omega (arith, g) in
-        rw (q, lt-leb (length s) at h, e)
-
-    pub heads-further : {k j : ℕ} → k ≡ suc j → {label n : ℕ} → entryAt s at ≡ Whole label n → headsEnd s at k ≡ headsEnd s (at + (entryLead + n)) j
-    unfolding headsEnd
-    heads-further q e = rw (q, lt-leb (length s) at h, e)

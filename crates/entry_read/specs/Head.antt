@@ -1,8 +1,7 @@
--- The walks of `entry_at` and `heads_end`: the tests of an entry's head over the bytes and an offset, in the code's order, and the heads from an offset on.
--- What the head means is `entry-is` in proofs/HeadLaws.
-use mathlib.Core.Bool.{Bool, true, false, cond}
+-- The walk of `entry_at`: the tests of an entry's head over the bytes and an offset, in the code's order. What the head means is `entry-is` in proofs/HeadLaws.
+use mathlib.Core.Bool.{cond}
 use mathlib.Core.List.{List}
-use Prim.Native.Nat.{ℕ, zero, suc, _+_}
+use Prim.Native.Nat.{ℕ, _+_}
 use lib.ListN.{length, take, drop}
 use lib.Dec.{leb}
 use Rattle.meaning.specs.Entries.{entryLead, twoBytesAt}
@@ -23,8 +22,3 @@ byHead Cut x f = x
 -- the n bytes after the head at an offset
 abbrev pub listContent : List ℕ → ℕ → ℕ → List ℕ
 listContent l at n = take n (drop (at + entryLead) l)
-
--- the heads from an offset on lead to the end of the bytes, and there are no more than k
-unfoldable pub headsEnd : List ℕ → ℕ → ℕ → Bool
-headsEnd s at zero = leb (length s) at
-headsEnd s at (suc k) = cond (leb (length s) at) true (byHead (entryAt s at) false (λ label n. headsEnd s (at + (entryLead + n)) k))

@@ -1,10 +1,10 @@
-// The head of an entry at an offset of a field list or a sheet: "content length in two bytes, label in two bytes .., both little-endian, then the content". And where heads lead to.
-// Assumes nothing of the bytes or the offset: the contracts cite walks of specs/, and proofs/HeadLaws says what they mean.
+// The head of an entry at an offset of a field list or a sheet: "content length in two bytes, label in two bytes .., both little-endian, then the content".
+// `entry_at` assumes nothing of the bytes or the offset: its contract cites the walk of specs/, and proofs/HeadLaws says what it means. `told_label` and `told_length` assume that the head is there.
 ghost use mathlib.Core.Path.{_≡_};
 ghost use Prim.Native.Nat.{_+_, _*_, _≤_};
 ghost use lib.ListN.{length};
-ghost use Rattle.meaning.specs.Entries.{byteValues, twoBytesAt};
-ghost use Rattle.entry_read.specs.Head.{entryAt, headsEnd};
+ghost use Rattle.meaning.specs.Entries.{byteValues, entryLead, twoBytesAt};
+ghost use Rattle.entry_read.specs.Head.{entryAt};
 use meaning::ENTRY_LEAD;
 use meaning::NUMBER_BYTES;
 
@@ -49,25 +49,18 @@ pub fn entry_at(s: &[u8], at: usize) -> Head
     Head::Whole { label, length }
 }
 
-// The heads lead from entry to entry to the end of the bytes, and there are no more than `most`. Of the contents nothing is asked.
-pub fn heads_end(s: &[u8], most: usize) -> bool
-    ensures { λ r. ⌜ r ≡ headsEnd (now (s .entry)) 0 most ⌝ }
+// The label of an entry that is known to be whole.
+pub fn told_label(s: &[u8], at: usize) -> usize
+    requires { ⌜ at + entryLead ≤ length (now s) ⌝ }
+    ensures { λ r. ⌜ r ≡ twoBytesAt (now (s .entry)) (at + 2) ⌝ }
 {
-    let mut at: usize = 0;
-    let mut left = most;
-    while at < s.len() {
-        if left == 0 {
-            return false;
-        }
-        match entry_at(s, at) {
-            Head::Cut => {
-                return false;
-            }
-            Head::Whole { label: _, length } => {
-                at += ENTRY_LEAD + length;
-                left -= 1;
-            }
-        }
-    }
-    true
+    two_bytes(s, at + NUMBER_BYTES)
+}
+
+// The length of its content.
+pub fn told_length(s: &[u8], at: usize) -> usize
+    requires { ⌜ at + entryLead ≤ length (now s) ⌝ }
+    ensures { λ r. ⌜ r ≡ twoBytesAt (now (s .entry)) at ⌝ }
+{
+    two_bytes(s, at)
 }

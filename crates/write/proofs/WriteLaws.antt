@@ -118,7 +118,7 @@ pub record Answers (l : List ℕ) (n : ℕ) : Type 0 where
   pub few : n ≤ maxEntries
   pub need : length (linesLeft l (sumOf l n) 0) ≡ totalOf l n
   pub answer : (room : ℕ) → write l room
-      ≡ cond (eqb (judgeEntries l n .no) 0) (withRoom (leb (totalOf l n) room && leb (totalOf l n) maxSetBytes) (totalOf l n) (linesLeft l (sumOf l n) 0)) (refused (judgeEntries l n))
+      ≡ cond (eqb (judgeEntries l .no) 0) (withRoom (leb (totalOf l n) room && leb (totalOf l n) maxSetBytes) (totalOf l n) (linesLeft l (sumOf l n) 0)) (refused (judgeEntries l))
 
 sum-fits : (total : ℕ) → fitsLabel 8100 (digits sumDigits total) ≡ true
 unfolding fits
@@ -141,7 +141,7 @@ module _ (l : List ℕ) (n : ℕ) (some : 0 < length l) where
       let put-in : withSum es ≡ all = ap (λ (x : ℕ). f ∷ field 8100 (digits 5 x) ∷ fs) total in
       let sized : size all ≡ totalOf l n = omega (arith, total, length-digits 5 (totalOf l n)) in
       let lines : linesLeft l sum 0 ≡ render all [] = all-lines l sum f fs rd w in
-      let found : judgeEntries l n ≡ firstOf (inList es) (ruleFaults all) = ap (judgeEntries l) c ∙ entries-found l f fs sum rd w (sum-fits (totalOf l n)) in
+      let found : judgeEntries l ≡ firstOf (inList es) (ruleFaults all) = entries-found l f fs sum rd w (sum-fits (totalOf l n)) in
       record {
         few = few;
         need = ap length lines ∙ (length-render all [] ∙ omega (arith, sized));
@@ -155,19 +155,19 @@ module _ (l : List ℕ) (n : ℕ) (some : 0 < length l) where
   answers-are e = let x = check-entered l n e in answers-of (x .entries) (x .left) (x .scanned) (x .count) (x .reads) (x .whole) (x .few)
 
 -- a list that is not refused
-list-done : (x : ListJudged) (f : ℕ → Refusal) {n : ℕ} → ruled x f ≡ Counted n → (x ≡ Counted n) × (f n .no ≡ 0)
+list-done : (x : ListJudged) (q : Refusal) {n : ℕ} → ruled x q ≡ Counted n → (x ≡ Counted n) × (q .no ≡ 0)
 unfolding countUnless
-list-done (Counted m) f {n} e = go (eqb (f m .no) 0) refl e
+list-done (Counted m) q {n} e = go (eqb (q .no) 0) refl e
   where
-    go : (b : Bool) → eqb (f m .no) 0 ≡ b → cond b (Counted m) (Unchecked (f m)) ≡ Counted n → (Counted m ≡ Counted n) × (f n .no ≡ 0)
-    go true q h = let z : m ≡ n = cc in (h, ap (λ (k : ℕ). f k .no) (sym z) ∙ eqb-true (f m .no) 0 q)
-    go false q h = let z : _≡_ {A = ℕ} 0 1 = cc in absurd (omega arith)
-list-done (Unchecked r) f e = let z : _≡_ {A = ℕ} 0 1 = cc in absurd (omega arith)
+    go : (b : Bool) → eqb (q .no) 0 ≡ b → cond b (Counted m) (Unchecked q) ≡ Counted n → (Counted m ≡ Counted n) × (q .no ≡ 0)
+    go true z h = (h, eqb-true (q .no) 0 z)
+    go false z h = let z : _≡_ {A = ℕ} 0 1 = cc in absurd (omega arith)
+list-done (Unchecked r) q e = let z : _≡_ {A = ℕ} 0 1 = cc in absurd (omega arith)
 
 module _ (l : List ℕ) (n : ℕ) (some : 0 < length l) (e : judgedList l ≡ Counted n) where
-  not-refused : (checkFrom l 0 0 maxEntries ≡ Counted n) × (judgeEntries l n .no ≡ 0)
+  not-refused : (checkFrom l 0 0 maxEntries ≡ Counted n) × (judgeEntries l .no ≡ 0)
   unfolding judgedList
-  not-refused = list-done (checkFrom l 0 0 maxEntries) (λ n. judgeEntries l n) e
+  not-refused = list-done (checkFrom l 0 0 maxEntries) (judgeEntries l) e
 
   answers : Answers l n
   answers = answers-are l n some (not-refused .0)
@@ -226,11 +226,11 @@ answer-refused l b r h e =
     let q : refused r ≡ write l (length b) = sym (go (checkFrom l 0 0 maxEntries) refl e) in
     (ap made q, ap (λ (x : Reply (List ℕ)). bytesLeft x b) q)
   where
-    judged : (n : ℕ) (c : Bool) → checkFrom l 0 0 maxEntries ≡ Counted n → eqb (judgeEntries l n .no) 0 ≡ c
-        → cond c (Counted n) (Unchecked (judgeEntries l n)) ≡ Unchecked r → write l (length b) ≡ refused r
+    judged : (n : ℕ) (c : Bool) → checkFrom l 0 0 maxEntries ≡ Counted n → eqb (judgeEntries l .no) 0 ≡ c
+        → cond c (Counted n) (Unchecked (judgeEntries l)) ≡ Unchecked r → write l (length b) ≡ refused r
     judged n true x q g = let z : _≡_ {A = ℕ} 0 1 = cc in absurd (omega arith)
-    judged n false x q g = let z : judgeEntries l n ≡ r = cc in answers-are l n h x .answer (length b) ∙ (rw q (ap refused z))
+    judged n false x q g = let z : judgeEntries l ≡ r = cc in answers-are l n h x .answer (length b) ∙ (rw q (ap refused z))
 
-    go : (x : ListJudged) → checkFrom l 0 0 maxEntries ≡ x → ruled x (λ n. judgeEntries l n) ≡ Unchecked r → write l (length b) ≡ refused r
+    go : (x : ListJudged) → checkFrom l 0 0 maxEntries ≡ x → ruled x (judgeEntries l) ≡ Unchecked r → write l (length b) ≡ refused r
     go (Unchecked q) x g = let z : q ≡ r = cc in unchecked-so l (length b) q h x ∙ ap refused z
-    go (Counted n) x g = judged n (eqb (judgeEntries l n .no) 0) x refl g
+    go (Counted n) x g = judged n (eqb (judgeEntries l .no) 0) x refl g

@@ -19,20 +19,19 @@ use Rattle.meaning.specs.Lines.{lowBytes}
 use Rattle.meaning.specs.Entries.{entryLead, twoBytesAt, entryLabel, entryWidth, entryContent, entryField, entryWhole, maxLabel, entryFaults, entryForm, entryOk, listSize}
 use Rattle.meaning.proofs.Bools.{nil-is, and-left, and-right, end-is}
 use Rattle.meaning.proofs.FaultLaws.{ask-none, High, lows-none, refused-done, done-same}
-use Rattle.meaning.proofs.LeftLaws.{one-more, none-left}
 use Rattle.meaning.proofs.PieceLaws.{piece-back}
 use Rattle.byte_low.specs.Low.{firstLow}
 use Rattle.byte_low.proofs.LowLaws.{low-is}
 use Rattle.entry_read.specs.declared.Head.{Head}
 use Rattle.entry_read.specs.declared.Head.the-variants.{Whole, Cut}
-use Rattle.entry_read.specs.Head.{entryAt, byHead, listContent, headsEnd}
-use Rattle.entry_read.proofs.HeadLaws.{headOf, entry-is, whole-back}
+use Rattle.entry_read.specs.Head.{entryAt, byHead, listContent}
+use Rattle.entry_read.proofs.HeadLaws.{headOf, entry-is, WholeAt, whole-back}
 use Rattle.entry_read.proofs.HeadWalkLaws.{Reads}
 use Rattle.write_judge.specs.declared.Item.{Item}
 use Rattle.write_judge.specs.declared.Item.the-variants.{Read}
 use Rattle.write_judge.specs.declared.ListJudged.{ListJudged}
 use Rattle.write_judge.specs.declared.ListJudged.the-variants.{Done, Refused}
-use Rattle.write_judge.specs.Judging.{checkContent, checkEntry, afterEntry, checkFrom}
+use Rattle.write_judge.specs.Judging.{checkContent, checkEntry, afterEntry, checkFrom, checkSome, Checked}
 
 -- ---- one entry, as the code takes it
 
@@ -55,27 +54,53 @@ module _ (l : List ℕ) (at : ℕ) where
       unfolding checkEntry checkContent
       content-clean g = rw (e, le-leb label maxLabel h, ← q, le-leb (at + entryLead + n) low g)
 
+    -- by the offsets of the content
+    pub content-usual : label ≤ maxLabel → firstLow l (at + entryLead) (at + entryLead + n - (at + entryLead)) ≡ at + entryLead + n → Read label n ≡ checkEntry l at
+    content-usual h q =
+        let w : at + entryLead + n - (at + entryLead) ≡ n = omega arith in
+        let x : firstLow l (at + entryLead) n ≡ at + entryLead + n = ap (firstLow l (at + entryLead)) (sym w) ∙ q in
+        content-clean h (firstLow l (at + entryLead) n) refl (omega (arith, x))
+
 -- ---- all entries, as the code takes them
 
-module _ (l : List ℕ) (at n : ℕ) where
-  pub check-done : (k : ℕ) → length l ≤ at → checkFrom l at n k ≡ Done n
+module _ (l : List ℕ) (at : ℕ) where
+  pub check-done : (n k : ℕ) → length l ≤ at → checkFrom l at n k ≡ Done n
   unfolding checkFrom
-  check-done zero h = rw (le-leb (length l) at h)
-  check-done (suc k) h = rw (le-leb (length l) at h)
+  check-done n zero h = rw (le-leb (length l) at h)
+  check-done n (suc k) h = rw (le-leb (length l) at h)
 
   module _ (g : at < length l) where
-    pub check-full : maxEntries ≤ n → checkFrom l at n (maxEntries - n) ≡ Refused (refusal tooManyLines at 0)
+    check-full : (n : ℕ) {k : ℕ} → k ≡ 0 → checkFrom l at n k ≡ Refused (refusal tooManyLines at 0)
     unfolding checkFrom
-    check-full h = rw (none-left h, lt-leb (length l) at g)
+    check-full n h = rw (h, lt-leb (length l) at g)
 
-    pub check-bad : n < maxEntries → {r : Refusal} → checkEntry l at ≡ Item.Refused r → checkFrom l at n (maxEntries - n) ≡ Refused r
+    pub check-some : (left : ℕ) → 0 < left → left ≤ maxEntries → checkFrom l at (maxEntries - left) left ≡ checkSome l at left
     unfolding checkFrom
-    check-bad h e = rw (one-more h, lt-leb (length l) at g, e)
+    check-some left h w =
+        let x : left ≡ suc (left - 1) = omega arith in
+        let y : maxEntries - left + 1 ≡ maxEntries - (left - 1) = omega arith in
+        ap (checkFrom l at (maxEntries - left)) x
+        ∙ (rw (lt-leb (length l) at g) (ap (λ (n : ℕ). afterEntry (checkEntry l at) (λ m. checkFrom l (at + (entryLead + m)) n (left - 1))) y))
 
-    pub check-further : n < maxEntries → {label m : ℕ} → checkEntry l at ≡ Read label m
-        → checkFrom l at n (maxEntries - n) ≡ checkFrom l (at + (entryLead + m)) (n + 1) (maxEntries - (n + 1))
-    unfolding checkFrom
-    check-further h e = rw (one-more h, lt-leb (length l) at g, e)
+-- one entry, and those after it
+module _ (l : List ℕ) (at left : ℕ) where
+  pub some-bad : {r : Refusal} → checkEntry l at ≡ Item.Refused r → checkSome l at left ≡ Refused r
+  some-bad e = rw e
+
+  -- an entry more: it is the last one, too many follow, or the check goes on
+  module _ {label m : ℕ} (e : checkEntry l at ≡ Read label m) where
+    here : checkSome l at left ≡ checkFrom l (at + (entryLead + m)) (maxEntries - (left - 1)) (left - 1)
+    here = rw e
+
+    pub some-done : length l ≤ at + (entryLead + m) → checkSome l at left ≡ Done (maxEntries - (left - 1))
+    some-done h = here ∙ check-done l (at + (entryLead + m)) (maxEntries - (left - 1)) (left - 1) h
+
+    module _ (g : at + (entryLead + m) < length l) where
+      pub some-full : left - 1 ≡ 0 → checkSome l at left ≡ Refused (refusal tooManyLines (at + (entryLead + m)) 0)
+      some-full h = here ∙ check-full l (at + (entryLead + m)) g (maxEntries - (left - 1)) h
+
+      pub some-on : 0 < left - 1 → left ≤ maxEntries → checkSome l at left ≡ checkSome l (at + (entryLead + m)) (left - 1)
+      some-on h w = here ∙ check-some l (at + (entryLead + m)) g (left - 1) h (omega arith)
 
 -- the head of an entry that is checked
 pub checked-head : (l : List ℕ) (at : ℕ) {label m : ℕ} → checkEntry l at ≡ Read label m → entryAt l at ≡ Whole label m
@@ -96,60 +121,60 @@ checked-head l at {label} {m} e = go (entryAt l at) e
 pub checked-within : (l : List ℕ) (at : ℕ) {label m : ℕ} → checkEntry l at ≡ Read label m → at + (entryLead + m) ≤ length l
 checked-within l at e = whole-back l at (checked-head l at e) .within
 
--- the entries that a check counts, if it refuses nothing
-abbrev pub Counts : ℕ → ListJudged → Type 0
-Counts n (Done m) = n ≤ m
-Counts n (Refused r) = Unit
+-- ---- entries that are checked, as the code takes them
 
--- a check counts on from the entries before it
-pub check-counts : (l : List ℕ) (k at n : ℕ) → Counts n (checkFrom l at n k)
+-- what stands at an offset from which on the entries are checked
+record Stands (l : List ℕ) (at : ℕ) : Type 0 where
+  label : ℕ
+  bytes : ℕ
+  read : checkEntry l at ≡ Read label bytes
+  later : Checked l (at + (entryLead + bytes))
+
+stands : (l : List ℕ) (at : ℕ) → Checked l at → at < length l → Stands l at
 unfolding checkFrom
-check-counts l zero at n = go (leb (length l) at)
+stands l at c h = go (c .before) (c .most) (c .checked)
   where
-    go : (b : Bool) → Counts n (cond b (Done n) (Refused (refusal tooManyLines at 0)))
-    go true = omega arith
-    go false = tt
-check-counts l (suc k) at n = go (leb (length l) at) (checkEntry l at) (λ m. check-counts l k (at + (entryLead + m)) (n + 1))
+    by : (n k : ℕ) (x : Item) → checkEntry l at ≡ x → afterEntry x (λ m. checkFrom l (at + (entryLead + m)) (n + 1) k) ≡ Done (c .count) → Stands l at
+    by n k (Read label m) q e = record { label = label; bytes = m; read = q; later = record { before = n + 1; most = k; count = c .count; checked = e } }
+    by n k (Item.Refused r) q e = let z : _≡_ {A = ℕ} 0 1 = cc in absurd (omega arith)
+
+    go : (n k : ℕ) → checkFrom l at n k ≡ Done (c .count) → Stands l at
+    go n zero e =
+        let q : cond (leb (length l) at) (Done n) (Refused (refusal tooManyLines at 0)) ≡ Refused (refusal tooManyLines at 0) = rw (lt-leb (length l) at h) in
+        let x : Refused (refusal tooManyLines at 0) ≡ Done (c .count) = sym q ∙ e in
+        let z : _≡_ {A = ℕ} 0 1 = cc in
+        absurd (omega arith)
+    go n (suc k) e = by n k (checkEntry l at) refl (sym (rw (lt-leb (length l) at h)) ∙ e)
+
+module _ (l : List ℕ) (at : ℕ) (c : Checked l at) (h : at < length l) {label m : ℕ} (x : label ≡ twoBytesAt l (at + 2)) (y : m ≡ twoBytesAt l at) where
+  s : Stands l at
+  s = stands l at c h
+
+  w : WholeAt l at (s .label) (s .bytes)
+  w = whole-back l at (checked-head l at (s .read))
+
+  pub told-head : entryAt l at ≡ Whole label m
+  told-head = checked-head l at (s .read) ∙ ap₂ Whole (sym (w .label-told) ∙ sym x) (sym (w .length-told) ∙ sym y)
+
+  pub told-later : Checked l (at + entryLead + m)
+  told-later = subst (Checked l) (omega (arith, w .length-told, y)) (s .later)
+
+  pub told-within : at + entryLead + m ≤ length l
+  told-within = omega (arith, whole-back l at told-head .within)
+
+-- the head of such an entry is there
+pub head-there : (l : List ℕ) (at : ℕ) → Checked l at → at < length l → at + entryLead ≤ length l
+head-there l at c h = omega (arith, told-within l at c h refl refl)
+
+-- all entries of a list
+pub some-checked : (l : List ℕ) {n : ℕ} → checkSome l 0 maxEntries ≡ Done n → (0 < length l) × Checked l 0
+some-checked l {n} e = go (checkEntry l 0) refl e
   where
-    fewer : (x : ListJudged) → Counts (n + 1) x → Counts n x
-    fewer (Done m) h = omega arith
-    fewer (Refused r) h = tt
-
-    go : (b : Bool) (x : Item) → ((m : ℕ) → Counts (n + 1) (checkFrom l (at + (entryLead + m)) (n + 1) k))
-        → Counts n (cond b (Done n) (afterEntry x (λ m. checkFrom l (at + (entryLead + m)) (n + 1) k)))
-    go true x h = omega arith
-    go false (Read label m) h = fewer (checkFrom l (at + (entryLead + m)) (n + 1) k) (h m)
-    go false (Item.Refused r) h = tt
-
--- a check that refuses
-abbrev pub Refuses : ListJudged → Type 0
-Refuses (Done n) = ⊥
-Refuses (Refused r) = Unit
-
--- the check refuses if the heads do not lead to the end
-pub heads-refuse : (l : List ℕ) (k at n : ℕ) → headsEnd l at k ≡ false → Refuses (checkFrom l at n k)
-unfolding headsEnd checkFrom checkEntry checkContent
-heads-refuse l zero at n e = go (leb (length l) at) e
-  where
-    go : (b : Bool) → b ≡ false → Refuses (cond b (Done n) (Refused (refusal tooManyLines at 0)))
-    go true q = let z : _≡_ {A = ℕ} 0 1 = cc in absurd (omega arith)
-    go false q = tt
-heads-refuse l (suc k) at n e = go (leb (length l) at) (entryAt l at) e (λ m. heads-refuse l k (at + (entryLead + m)) (n + 1))
-  where
-    rest : ℕ → ListJudged
-    rest m = checkFrom l (at + (entryLead + m)) (n + 1) k
-
-    by : (label m : ℕ) (a b : Bool) (r q : Refusal) → Refuses (rest m) → Refuses (afterEntry (cond a (cond b (Read label m) (Item.Refused r)) (Item.Refused q)) rest)
-    by label m true true r q h = h
-    by label m true false r q h = tt
-    by label m false b r q h = tt
-
-    go : (b : Bool) (h : Head) → cond b true (byHead h false (λ label m. headsEnd l (at + (entryLead + m)) k)) ≡ false
-        → ((m : ℕ) → headsEnd l (at + (entryLead + m)) k ≡ false → Refuses (rest m))
-        → Refuses (cond b (Done n) (afterEntry (byHead h (Item.Refused (refusal badList at 0)) (λ label m. checkContent l at label m)) rest))
-    go true h q ih = let z : _≡_ {A = ℕ} 0 1 = cc in absurd (omega arith)
-    go false Cut q ih = tt
-    go false (Whole label m) q ih = by label m (leb label maxLabel) (leb (at + entryLead + m) (firstLow l (at + entryLead) m)) _ _ (ih m q)
+    go : (x : Item) → checkEntry l 0 ≡ x → afterEntry x (λ m. checkFrom l (0 + (entryLead + m)) (maxEntries - (maxEntries - 1)) (maxEntries - 1)) ≡ Done n → (0 < length l) × Checked l 0
+    go (Read label m) q z =
+        let h : 0 < length l = omega (arith, checked-within l 0 q) in
+        (h, record { before = 0; most = maxEntries; count = n; checked = check-some l 0 h maxEntries (omega arith) (omega arith) ∙ e })
+    go (Item.Refused r) q z = let z : _≡_ {A = ℕ} 0 1 = cc in absurd (omega arith)
 
 -- ---- what the walk means
 
@@ -186,22 +211,6 @@ check-is l at = rw (entry-is l at) (go (entryWhole (drop at l)) refl)
         ≡ judgedEntry at (ask (b && leb (entryLabel (drop at l)) maxLabel) (atLine badList 0 0) ++ lowBytes 0 0 (entryContent (drop at l))) found
     go true e = labelled (leb (entryLabel (drop at l)) maxLabel) (omega (arith, whole-back l at (entry-is l at ∙ ap (λ (b : Bool). headOf b (drop at l)) e) .within))
     go false e = rw (add-zero at)
-
-digits-high : (c : List ℕ) → allDigits c ≡ true → High c
-digits-high [] e = tt
-digits-high (b ∷ c) e =
-    let d : digit b ≡ true = and-left (digit b) (allDigits c) e in
-    (omega (arith, leb-true digitZero b (and-left (leb digitZero b) _ d)), digits-high c (and-right (digit b) (allDigits c) e))
-
--- an entry whose content is digits keeps 6
-pub digits-kept : (l : List ℕ) (at : ℕ) {label m : ℕ} → entryAt l at ≡ Whole label m → label ≤ maxLabel → allDigits (listContent l at m) ≡ true → checkEntry l at ≡ Read label m
-unfolding entryFaults
-digits-kept l at {label} {m} e h q =
-    let w = whole-back l at e in
-    let k : leb (entryLabel (drop at l)) maxLabel ≡ true = le-leb (entryLabel (drop at l)) maxLabel (omega (arith, w .label-so)) in
-    let c : lowBytes 0 0 (entryContent (drop at l)) ≡ [] = lows-none 0 0 (entryContent (drop at l)) (digits-high (entryContent (drop at l)) (ap allDigits (sym (w .content-so)) ∙ q)) in
-    let n : twoBytesAt (drop at l) 0 ≡ m = omega (arith, w .width-so) in
-    check-is l at ∙ (rw (w .whole, k, c) (ap₂ Read (sym (w .label-so)) n))
 
 -- what the check makes of the pieces, with n entries before them
 abbrev pub summary : ℕ → Reply Parsed → ListJudged

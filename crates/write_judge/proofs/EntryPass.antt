@@ -2,7 +2,7 @@
 use mathlib.Core.Path.{_≡_, refl, sym, ap, ap₂, _∙_, subst}
 use mathlib.Core.Bool.{Bool, true, false, cond, _&&_}
 use mathlib.Core.List.{List, [], _∷_, _++_}
-use Prim.Native.Nat.{ℕ, suc, _+_, _-_}
+use Prim.Native.Nat.{ℕ, suc, _+_, _-_, _≤_}
 use native.Mathlib.Numerals.{add-one}
 use native.Mathlib.Omega.{arith}
 use lib.Dec.{eqb}
@@ -25,12 +25,12 @@ use Rattle.meaning.specs.Groups as G
 use Rattle.meaning.specs.Rules.{profile, typeDigits, typeNamed, fits, labelIs, isKnown, typeKnown, startFaults, ruleFaults}
 use Rattle.meaning.specs.Lists.{inList}
 use Rattle.meaning.specs.Answers.{noRefusal, orElse}
-use Rattle.meaning.proofs.Bools.{and-left, and-right}
+use Rattle.meaning.proofs.Bools.{and-left}
 use Rattle.meaning.proofs.FieldLaws.{sum-fits}
 use Rattle.entry_read.specs.declared.Head.the-variants.{Whole}
 use Rattle.entry_read.specs.Head.{entryAt, listContent}
-use Rattle.entry_read.proofs.HeadWalkLaws.{Reads, list-next}
-use Rattle.judge_missing.specs.Lacks.{Flagged, noFlags, noneSeen, lackUnder, groupLack, openLack, firstLack, flaggedOf}
+use Rattle.entry_read.proofs.HeadWalkLaws.{entries-end, entries-on, Reads, list-next}
+use Rattle.judge_missing.specs.Lacks.{Flagged, noFlags, noneSeen, lackUnder, groupLack, openLack, firstLack, flaggedOf, finishThen}
 use Rattle.meaning.proofs.FirstLaws.{firstOf, Real, real-append}
 use Rattle.judge_missing.proofs.FlagLaws.{Agrees, none-agrees}
 use Rattle.judge_line.specs.declared.Step.{Step}
@@ -40,7 +40,7 @@ use Rattle.judge_line.proofs.StartRows.{row-8000, row-8100}
 use Rattle.judge_line.proofs.StepMeaning.{passFinds, pass-line, pass-finish, pass-finds}
 use Rattle.write_seven.specs.ListSeven.{highInList}
 use Rattle.write_seven.proofs.ListSevenMeaning.{high-in-list-is}
-use Rattle.write_judge.specs.Judging.{stepThen, entriesPass, row8000, started, byKnown, firstEntry, judgeEntries}
+use Rattle.write_judge.specs.Judging.{stepThen, stepOrLater, entriesPass, row8000, started, byKnown, firstEntry, judgeEntries}
 
 -- ---- one line, as the code takes it
 
@@ -60,36 +60,37 @@ step-entry l at m {settype} {st} {lack} {label} {r} {members} {top} e =
     let w : at + entryLead + m - (at + entryLead) ≡ m = omega arith in
     subst (λ (n : ℕ). Stepped (rowOf settype label) settype st lack at label (take n (drop (at + entryLead) l)) r members top) w e
 
--- ---- an entry after the first: it is refused, or the pass goes on
+-- ---- an entry after the first: there is none, it is refused, or the pass goes on
 
-module _ (l : List ℕ) (settype : SetType) (at : ℕ) (st : Flagged) (lack : Refusal) (label m : ℕ) (q : entryAt l at ≡ Whole label m) (r : Step) (members top : List Bool)
-    (e : Stepped (rowOf settype label) settype st lack at label (listContent l at m) r members top) where
-  abbrev rest : ℕ → Flagged → Refusal → Refusal
-  rest n st′ lack′ = entriesPass l settype (at + (entryLead + m)) st′ lack′ n
-
-  here : (n : ℕ) → entriesPass l settype at st lack (suc n) ≡ stepThen settype st lack at label (listContent l at m) (rest n)
+module _ (l : List ℕ) (settype : SetType) (at : ℕ) (st : Flagged) (lack : Refusal) where
+  pub pass-end : length l ≤ at → entriesPass l settype at st lack ≡ finishThen settype st lack (highInList l)
   unfolding entriesPass
-  here n = rw q
+  pass-end h = ap (λ (F : Flagged → Refusal → Refusal). F st lack) (entries-end (λ st lack. finishThen settype st lack (highInList l)) (stepOrLater l settype) l at h)
 
-  pub pass-bad : (r .no ≡ 0 → ⊥) → (n : ℕ) → entriesPass l settype at st lack (suc n) ≡ refusal (r .no) at label
-  pass-bad g n = here n ∙ step-bad settype st lack at label (listContent l at m) r members top e (rest n) g
+  module _ {label m : ℕ} (q : entryAt l at ≡ Whole label m) where
+    pass-here : entriesPass l settype at st lack ≡ stepThen settype st lack at label (listContent l at m) (entriesPass l settype (at + (entryLead + m)))
+    unfolding entriesPass
+    pass-here = ap (λ (F : Flagged → Refusal → Refusal). F st lack) (entries-on (λ st lack. finishThen settype st lack (highInList l)) (stepOrLater l settype) l at q)
 
-  pub pass-on : r .no ≡ 0 → (n : ℕ) → entriesPass l settype at st lack (suc n) ≡ entriesPass l settype (at + (entryLead + m)) (flaggedOf (r .group) members top) (r .group .lack) n
-  pass-on g n = here n ∙ step-on settype st lack at label (listContent l at m) r members top e (rest n) g
+    module _ (r : Step) (members top : List Bool) (e : Stepped (rowOf settype label) settype st lack at label (listContent l at m) r members top) where
+      pub pass-bad : (r .no ≡ 0 → ⊥) → entriesPass l settype at st lack ≡ refusal (r .no) at label
+      pass-bad g = pass-here ∙ step-bad settype st lack at label (listContent l at m) r members top e (entriesPass l settype (at + (entryLead + m))) g
+
+      pub pass-on : r .no ≡ 0 → entriesPass l settype at st lack ≡ entriesPass l settype (at + entryLead + m) (flaggedOf (r .group) members top) (r .group .lack)
+      pass-on g =
+          let w : at + (entryLead + m) ≡ at + entryLead + m = omega arith in
+          pass-here ∙ (step-on settype st lack at label (listContent l at m) r members top e (entriesPass l settype (at + (entryLead + m))) g
+          ∙ ap (λ (n : ℕ). entriesPass l settype n (flaggedOf (r .group) members top) (r .group .lack)) w)
 
 -- ---- line 1 and line 2
 
 -- a content that names a type
-pub record FourDigits (c : List ℕ) : Type 0 where
-  pub four : length c ≡ typeDigits
-  pub all-digits : allDigits c ≡ true
-
-pub type-digits : (c : List ℕ) {settype : SetType} → typeNamed c ≡ Of settype → FourDigits c
+type-four : (c : List ℕ) {settype : SetType} → typeNamed c ≡ Of settype → length c ≡ typeDigits
 unfolding typeNamed
-type-digits c {settype} e = go (eqb (length c) typeDigits && allDigits c) refl e
+type-four c {settype} e = go (eqb (length c) typeDigits && allDigits c) refl e
   where
-    go : (b : Bool) → eqb (length c) typeDigits && allDigits c ≡ b → cond b (typeOf (number c)) Nothing ≡ Of settype → FourDigits c
-    go true q h = record { four = eqb-true (length c) typeDigits (and-left (eqb (length c) typeDigits) _ q); all-digits = and-right (eqb (length c) typeDigits) _ q }
+    go : (b : Bool) → eqb (length c) typeDigits && allDigits c ≡ b → cond b (typeOf (number c)) Nothing ≡ Of settype → length c ≡ typeDigits
+    go true q h = eqb-true (length c) typeDigits (and-left (eqb (length c) typeDigits) _ q)
     go false q h = let z : _≡_ {A = ℕ} 0 1 = cc in absurd (omega arith)
 
 type-fits : (c : List ℕ) → length c ≡ typeDigits → fitsLabel 8000 c ≡ true
@@ -114,60 +115,65 @@ line-2 T6311 c F e = rw (row-8100 T6311, e)
 
 -- ---- 8 and 9
 
-module _ (l : List ℕ) (label m n : ℕ) where
-  pub first-other : (label ≡ 8000 → ⊥) → firstEntry l label m n ≡ refusal noStart 0 0
-  unfolding firstEntry
-  first-other h = rw (ne-eqb label 8000 h)
+module _ (l : List ℕ) {label m : ℕ} (q : entryAt l 0 ≡ Whole label m) where
+  pub first-other : (label ≡ 8000 → ⊥) → judgeEntries l ≡ refusal noStart 0 0
+  unfolding judgeEntries firstEntry
+  first-other h = rw (q, ne-eqb label 8000 h)
 
   module _ (h : label ≡ 8000) where
-    pub first-unknown : typeNamed (listContent l 0 m) ≡ Nothing → firstEntry l label m n ≡ refusal unknownSet 0 0
-    unfolding firstEntry
-    first-unknown e = rw (eq-eqb label 8000 h, e)
+    -- the content as the code cuts it out
+    cut-out : typeNamed (take (entryLead + m - entryLead) (drop entryLead l)) ≡ typeNamed (listContent l 0 m)
+    cut-out = let w : entryLead + m - entryLead ≡ m = omega arith in ap (λ (n : ℕ). typeNamed (take n (drop entryLead l))) w
 
-    pub first-known : {settype : SetType} → typeNamed (listContent l 0 m) ≡ Of settype → firstEntry l label m n ≡ entriesPass l settype (entryLead + m) started noRefusal (n - 1)
-    unfolding firstEntry
-    first-known e = rw (eq-eqb label 8000 h, e)
+    pub first-unknown : typeNamed (take (entryLead + m - entryLead) (drop entryLead l)) ≡ Nothing → judgeEntries l ≡ refusal unknownSet 0 0
+    unfolding judgeEntries firstEntry
+    first-unknown e = rw (q, eq-eqb label 8000 h, ← cut-out, e)
+
+    pub first-known : {settype : SetType} → typeNamed (take (entryLead + m - entryLead) (drop entryLead l)) ≡ Of settype
+        → judgeEntries l ≡ entriesPass l settype (entryLead + m) started noRefusal
+    unfolding judgeEntries firstEntry
+    first-known e = rw (q, eq-eqb label 8000 h, ← cut-out, e)
 
 -- ---- what the pass finds
 
 module _ (l : List ℕ) (settype : SetType) (es : List Field) where
   -- the entries fs, with j entries before them and so, with line 2, j + 1 lines: by induction on fs
-  later-found : (fs : List Field) (at j : ℕ) (st : Flagged) (ms : G.State) (lack : Refusal) → Reads l at fs → at ≡ inList es (suc j) start → drop j es ≡ fs
-      → Agrees (inList es) st ms → entriesPass l settype at st lack (length fs) ≡ passFinds settype (inList es) (highInList l) ms (suc j) fs lack
-  unfolding entriesPass
-  later-found [] at j st ms lack rd e d sm = pass-finish settype (inList es) (highInList l) (suc j) st ms lack refl sm
-  later-found (f ∷ fs) at j st ms lack rd e d sm =
+  later-found : (fs : List Field) (at j : ℕ) (st : Flagged) (ms : G.State) (lack : Refusal) → Reads l at fs → at + listSize fs ≡ length l
+      → at ≡ inList es (suc j) start → drop j es ≡ fs → Agrees (inList es) st ms → entriesPass l settype at st lack ≡ passFinds settype (inList es) (highInList l) ms (suc j) fs lack
+  later-found [] at j st ms lack rd w e d sm =
+      pass-end l settype at st lack (omega (arith, w)) ∙ pass-finish settype (inList es) (highInList l) (suc j) st ms lack refl sm
+  later-found (f ∷ fs) at j st ms lack rd w e d sm =
       let nx = list-next es j f fs d in
       let p : at + (entryLead + length (f .content)) ≡ inList es (suc (suc j)) start = omega (arith, e, nx .0) in
-      rw (rd .0, rd .1) (pass-line settype (inList es) (highInList l) f fs at (suc j) st ms lack sm e
-      (λ st′ lack′. entriesPass l settype (at + (entryLead + length (f .content))) st′ lack′ (length fs))
-      (λ st′ ms′ lack′ sm′. later-found fs (at + (entryLead + length (f .content))) (suc j) st′ ms′ lack′ (rd .2) p (nx .1) sm′
-      ∙ ap (λ (k : ℕ). passFinds settype (inList es) (highInList l) ms′ k fs lack′) (sym (add-one (suc j)))))
+      pass-here l settype at st lack (rd .0)
+      ∙ (rw (rd .1) (pass-line settype (inList es) (highInList l) f fs at (suc j) st ms lack sm e (entriesPass l settype (at + (entryLead + length (f .content))))
+      (λ st′ ms′ lack′ sm′. later-found fs (at + (entryLead + length (f .content))) (suc j) st′ ms′ lack′ (rd .2) (omega (arith, w)) p (nx .1) sm′
+      ∙ ap (λ (k : ℕ). passFinds settype (inList es) (highInList l) ms′ k fs lack′) (sym (add-one (suc j))))))
 
 -- all lines: line 1, line 2, and the others
 set-found : (l : List ℕ) (settype : SetType) (c : List ℕ) (fs : List Field) (sum : List ℕ) → Reads l 0 (field 8000 c ∷ fs) → listSize (field 8000 c ∷ fs) ≡ length l
     → fitsLabel 8000 c ≡ true → fitsLabel 8100 sum ≡ true
-    → entriesPass l settype (entryLead + length c) started noRefusal (length fs)
+    → entriesPass l settype (entryLead + length c) started noRefusal
     ≡ firstOf (inList (field 8000 c ∷ fs)) (faultsThenHigh (ofType settype) (field 8000 c ∷ field 8100 sum ∷ fs))
 unfolding fits
 set-found l settype c fs sum rd w g₁ g₂ =
     let es : List Field = field 8000 c ∷ fs in
     let p : entryLead + length c ≡ inList es 2 start = omega arith in
     let rd′ : Reads l (entryLead + length c) fs = subst (λ (a : ℕ). Reads l a fs) (omega arith) (rd .2) in
-    let others : Flagged → Refusal → Refusal = λ st lack. entriesPass l settype (entryLead + length c) st lack (length fs) in
+    let others : Flagged → Refusal → Refusal = entriesPass l settype (entryLead + length c) in
     let both : stepThen settype noneSeen noRefusal 0 8000 c (λ st lack. stepThen settype st lack 0 8100 sum others) ≡ others started noRefusal =
     line-1 settype c (λ st lack. stepThen settype st lack 0 8100 sum others) g₁ ∙ line-2 settype sum others g₂ in
     sym both ∙ (
     pass-line settype (inList es) (highInList l) (field 8000 c) (field 8100 sum ∷ fs) 0 0 noneSeen G.first noRefusal (none-agrees (inList es) refl) refl
     (λ st lack. stepThen settype st lack 0 8100 sum others)
     (λ st ms lack sm. pass-line settype (inList es) (highInList l) (field 8100 sum) fs 0 (0 + 1) st ms lack sm refl others
-    (λ st′ ms′ lack′ sm′. later-found l settype es fs (entryLead + length c) 1 st′ ms′ lack′ rd′ p refl sm′))
+    (λ st′ ms′ lack′ sm′. later-found l settype es fs (entryLead + length c) 1 st′ ms′ lack′ rd′ (omega (arith, w)) p refl sm′))
     ∙ pass-finds settype (inList es) (highInList l) (field 8000 c ∷ field 8100 sum ∷ fs)
     (high-in-list-is l (field 8000 c) fs sum rd w (ofType settype) (sum-fits (ofType settype) sum g₂ .all-digits)))
 
 -- "then 8, 9, and 11 to 16", and 24: the first fault of the entries, with the sum put in after the first
 pub entries-found : (l : List ℕ) (f : Field) (fs : List Field) (sum : List ℕ) → Reads l 0 (f ∷ fs) → listSize (f ∷ fs) ≡ length l → fitsLabel 8100 sum ≡ true
-    → judgeEntries l (length (f ∷ fs)) ≡ firstOf (inList (f ∷ fs)) (ruleFaults (f ∷ field 8100 sum ∷ fs))
+    → judgeEntries l ≡ firstOf (inList (f ∷ fs)) (ruleFaults (f ∷ field 8100 sum ∷ fs))
 unfolding judgeEntries firstEntry ruleFaults startFaults profile
 entries-found l f fs sum rd w g = rw (rd .0, rd .1) (go (eqb (f .label) 8000) refl (typeNamed (f .content)) refl)
   where
@@ -175,16 +181,15 @@ entries-found l f fs sum rd w g = rw (rd .0, rd .1) (go (eqb (f .label) 8000) re
     all = f ∷ field 8100 sum ∷ fs
 
     go : (a : Bool) → eqb (f .label) 8000 ≡ a → (k : Known) → typeNamed (f .content) ≡ k
-        → cond a (byKnown k (refusal unknownSet 0 0) (λ settype. entriesPass l settype (entryLead + length (f .content)) started noRefusal (suc (length fs) - 1))) (refusal noStart 0 0)
+        → cond a (byKnown k (refusal unknownSet 0 0) (λ settype. entriesPass l settype (entryLead + length (f .content)) started noRefusal)) (refusal noStart 0 0)
         ≡ firstOf (inList (f ∷ fs)) (startFaultsBy a (isKnown k) true ++ faultsThenHigh (record { setType = k }) all)
     go false e k q = refl
     go true e Nothing q = refl
     go true e (Of settype) q =
         let x : field 8000 (f .content) ≡ f = λ i. record { label = sym (eqb-true (f .label) 8000 e) i; content = f .content } in
-        let n : suc (length fs) - 1 ≡ length fs = omega arith in
-        rw n (subst (λ (y : Field). entriesPass l settype (entryLead + length (y .content)) started noRefusal (length fs)
+        subst (λ (y : Field). entriesPass l settype (entryLead + length (y .content)) started noRefusal
         ≡ firstOf (inList (y ∷ fs)) (faultsThenHigh (ofType settype) (y ∷ field 8100 sum ∷ fs))) x
-        (set-found l settype (f .content) fs sum (subst (λ (y : Field). Reads l 0 (y ∷ fs)) (sym x) rd) w (type-fits (f .content) (type-digits (f .content) q .four)) g))
+        (set-found l settype (f .content) fs sum (subst (λ (y : Field). Reads l 0 (y ∷ fs)) (sym x) rd) w (type-fits (f .content) (type-four (f .content) q)) g)
 
 -- its number says whether there is one
 pub rules-real : (fs : List Field) → Real (ruleFaults fs)

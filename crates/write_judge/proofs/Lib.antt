@@ -1,4 +1,4 @@
 -- The laws that the proofs of this crate and of later ones cite.
 pub mod CheckLaws
 pub mod EntryPass
-pub mod ListOnceLaws
+pub mod JudgedListLaws

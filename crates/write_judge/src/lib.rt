@@ -1,18 +1,13 @@
 // `judge_list`: what a field list is that a set is written from, or its first refusal by 7, 21, 6, 8, 9, 11 to 16, 24.
 // It has no `requires`. The other functions are its parts; each contract cites a walk of specs/, and proofs/EntryPass says what the walks mean.
 ghost use mathlib.Core.Path.{_≡_};
-ghost use mathlib.Core.Bool.{true, false};
-ghost use Prim.Native.Nat.{_+_, _≤_};
+ghost use Prim.Native.Nat.{_<_};
 ghost use lib.ListN.{length};
-ghost use Rattle.meaning.specs.declared.SetType.the-variants.{T6300};
 ghost use Rattle.meaning.specs.Limits.{maxEntries};
-ghost use Rattle.meaning.specs.Entries.{entryLead};
-ghost use Rattle.meaning.specs.Answers.{noRefusal, orElse};
-ghost use Rattle.entry_read.specs.declared.Head.the-variants.{Whole};
-ghost use Rattle.entry_read.specs.Head.{entryAt, listContent, headsEnd};
+ghost use Rattle.meaning.specs.Answers.{noRefusal};
 ghost use Rattle.judge_missing.specs.Lacks.{finishThen, flaggedOf};
 ghost use Rattle.write_seven.specs.ListSeven.{highInList};
-ghost use Rattle.write_judge.specs.Judging.{checkEntry, checkFrom, Turned, started, firstEntry, countUnless, ruled, judgedFrom, judgedList};
+ghost use Rattle.write_judge.specs.Judging.{checkEntry, checkSome, Checked, entriesPass, started, judgeEntries, judgedList};
 use entry_read::Head;
 use judge_missing::Group;
 use meaning::Known;
@@ -22,11 +17,11 @@ use meaning::SetType;
 // "more than 511 (7)": 8100 has no entry.
 const ENTRIES: usize = SetType::LINES - 1;
 
-// A list of no more bytes than this has no more entries, since each has a head.
-const FEW_BYTES: usize = ENTRIES * meaning::ENTRY_LEAD;
-
 // The largest number that four digits write.
 const MAX_LABEL: usize = 9_999;
+
+// A content of fewer bytes is not tested by blocks, of which the last would start in the head before it.
+const SHORT: usize = 8;
 
 // ---- 7, 21, 6 of each entry
 
@@ -58,52 +53,47 @@ fn check_entry(list: &[u8], at: usize) -> Item
     }
     // 6, BadByte: "content byte under 20h; place is that byte"
     let content = at + meaning::ENTRY_LEAD;
+    let end = content + length;
+    if SHORT <= length {
+        if byte_low::clean_content(list, content, end) {
+            return Item::Read { label, length };
+        }
+    }
     let low = byte_low::first_low(list, content, length);
-    if low < content + length {
+    if low < end {
         return Item::Refused(Refusal::at(Refusal::BAD_BYTE, low));
     }
     Item::Read { label, length }
 }
 
-// ---- 8, 9, 11 to 16, 24
-
-// What is known after the entries so far: a refusal by 8, 9 or 11 to 15 that waits until all entries are checked (number 0: none), and what is open.
-pub struct Turn {
-    pub late: Refusal,
-    pub group: Group,
-}
-
-// 11 to 15 of the entry at an offset, whose content has this many bytes; it is not judged if a refusal waits.
-fn judge_entry(
-    list: &[u8],
-    settype: SetType,
-    at: usize,
-    label: usize,
-    bytes: usize,
-    turn: Turn,
-    members: &mut [bool; judge_missing::ROWS],
-    top: &mut [bool; judge_missing::ROWS],
-) -> Turn
-    requires { ⌜ at + (entryLead + bytes) ≤ length (now list) ⌝ }
-    ensures { λ r. ⌜ Turned settype at label (listContent (now (list .entry)) at bytes) turn (now (members .entry)) (now (top .entry)) r (now (members .exit)) (now (top .exit)) ⌝ }
+// The entries of a list, each by 7, 21, 6: their number, or the first refusal. A list without a byte has its first entry cut.
+fn check_list(list: &[u8]) -> ListJudged
+    ensures { λ r. ⌜ r ≡ checkSome (now (list .entry)) 0 maxEntries ⌝ }
 {
-    let late = turn.late;
-    if late.no != 0 {
-        return turn;
+    let mut at: usize = 0;
+    let mut left = ENTRIES;
+    loop {
+        match check_entry(list, at) {
+            Item::Refused(r) => {
+                return ListJudged::Refused(r);
+            }
+            Item::Read { label: _, length } => {
+                at += meaning::ENTRY_LEAD + length;
+                left -= 1;
+            }
+        }
+        if at == list.len() {
+            let n = ENTRIES - left;
+            return ListJudged::Done(n);
+        }
+        // 7, TooManyLines
+        if left == 0 {
+            return ListJudged::Refused(Refusal::at(Refusal::TOO_MANY_LINES, at));
+        }
     }
-    let from = at + meaning::ENTRY_LEAD;
-    let end = from + bytes;
-    let group = turn.group;
-    let step = judge_line::step_at(settype, at, label, list, from, end, group, members, top);
-    let no = step.no;
-    let late = Refusal {
-        no,
-        place: at,
-        label,
-    };
-    let group = step.group;
-    Turn { late, group }
 }
+
+// ---- 8, 9, 11 to 16, 24
 
 // 16 after the last entry; then 24, if 9206 was seen.
 fn lacks_or_high(
@@ -125,113 +115,69 @@ fn lacks_or_high(
     Refusal::none()
 }
 
-// 16 and 24 after the last of n entries, if no refusal waits.
-fn finished(
-    list: &[u8],
-    settype: SetType,
-    turn: Turn,
-    members: &[bool; judge_missing::ROWS],
-    top: &[bool; judge_missing::ROWS],
-    n: usize,
-) -> ListJudged
-    ensures { λ r. ⌜ r ≡ countUnless (orElse (turn .late)
-        (finishThen settype (flaggedOf (turn .group) (now (members .entry)) (now (top .entry))) (turn .group .lack) (highInList (now (list .entry))))) n ⌝ }
-{
-    let late = turn.late;
-    if late.no != 0 {
-        return ListJudged::Refused(late);
-    }
-    let group = turn.group;
-    let last = lacks_or_high(list, settype, group, members, top);
-    if last.no != 0 {
-        return ListJudged::Refused(last);
-    }
-    ListJudged::Done(n)
-}
-
-// The entries from an offset on, with this many before them, each read once: 7, 21, 6 and 11 to 15 of each, then 16 and 24. Line 1 and line 2 ("the writer adds it")
-// stand before them, and are never refused here; `late` is a refusal that waits already.
-fn pass_entries(list: &[u8], t: SetType, late: Refusal, start: usize, before: usize) -> ListJudged
-    requires { ⌜ (start ≤ length (now list)) × (before ≤ maxEntries) ⌝ }
-    ensures { λ r. ⌜ r ≡ judgedFrom (now (list .entry)) t late started noRefusal start before ⌝ }
+// 11 to 15 of the entries from an offset on, then 16 and 24. Line 1 and line 2 ("the writer adds it") stand before them, and are never refused here.
+fn pass_entries(list: &[u8], t: SetType, start: usize) -> Refusal
+    requires { ⌜ Checked (now list) start ⌝ }
+    ensures { λ r. ⌜ r ≡ entriesPass (now (list .entry)) t start started noRefusal ⌝ }
 {
     let mut members = [false; judge_missing::ROWS];
     let mut top = [false; judge_missing::ROWS];
     top[judge_missing::NO_8000] = true;
     top[judge_missing::NO_8100] = true;
-    let group = Group {
+    let mut group = Group {
         header: meaning::LABEL_8100,
         place: 0,
         lack: Refusal::none(),
     };
-    let mut turn = Turn { late, group };
     let mut at = start;
-    let mut n = before;
     while at < list.len() {
-        // 7, TooManyLines
-        if ENTRIES <= n {
-            return ListJudged::Refused(Refusal::at(Refusal::TOO_MANY_LINES, at));
+        let label = entry_read::told_label(list, at);
+        let from = at + meaning::ENTRY_LEAD;
+        let end = from + entry_read::told_length(list, at);
+        let r = judge_line::step_at(t, at, label, list, from, end, group, &mut members, &mut top);
+        let no = r.no;
+        if no != 0 {
+            return Refusal {
+                no,
+                place: at,
+                label,
+            };
         }
-        match check_entry(list, at) {
-            Item::Refused(r) => {
-                return ListJudged::Refused(r);
-            }
-            Item::Read { label, length } => {
-                turn = judge_entry(list, t, at, label, length, turn, &mut members, &mut top);
-                at += meaning::ENTRY_LEAD + length;
-                n += 1;
-            }
-        }
+        group = r.group;
+        at = end;
     }
-    finished(list, t, turn, &members, &top, n)
+    lacks_or_high(list, t, group, &members, &top)
 }
 
-// 7, 21, 6 of each entry; if none of them refuses, this refusal. Nothing is judged by 11 to 16 or 24 here, so the set type makes no difference: 6300 stands for any.
-fn check_then(list: &[u8], late: Refusal) -> ListJudged
-    ensures { λ r. ⌜ r ≡ judgedFrom (now (list .entry)) T6300 late started noRefusal 0 0 ⌝ }
-{
-    pass_entries(list, SetType::T6300, late, 0, 0)
-}
-
-// 7, 21, 6, and 8 to 16 and 24, if the first entry is whole.
-fn first_entry(list: &[u8], label: usize, bytes: usize) -> ListJudged
-    requires { ⌜ entryAt (now list) 0 ≡ Whole label bytes ⌝ }
-    ensures { λ r. ⌜ r ≡ ruled (checkFrom (now (list .entry)) 0 0 maxEntries) (λ n. firstEntry (now (list .entry)) label bytes n) ⌝ }
+// 8, 9, 11 to 16 and 24 of a list whose entries are checked; number 0: none.
+fn judge_entries(list: &[u8]) -> Refusal
+    requires { ⌜ (0 < length (now list)) × Checked (now list) 0 ⌝ }
+    ensures { λ r. ⌜ r ≡ judgeEntries (now (list .entry)) ⌝ }
 {
     // 8, NoStart: "line 1 is not 8000"
-    if label != meaning::LABEL_8000 {
-        return check_then(list, Refusal::at(Refusal::NO_START, 0));
+    if entry_read::told_label(list, 0) != meaning::LABEL_8000 {
+        return Refusal::at(Refusal::NO_START, 0);
     }
     // 9, UnknownSet: "8000 names none of the five"
-    let end = meaning::ENTRY_LEAD + bytes;
+    let end = meaning::ENTRY_LEAD + entry_read::told_length(list, 0);
     let Known::Of(settype) = judge_start::type_of(&list[meaning::ENTRY_LEAD..end]) else {
-        return check_then(list, Refusal::at(Refusal::UNKNOWN_SET, 0));
+        return Refusal::at(Refusal::UNKNOWN_SET, 0);
     };
-    pass_entries(list, settype, Refusal::none(), end, 1)
+    pass_entries(list, settype, end)
 }
 
-// The heads of a long list do not lead to its end in 511 entries: 7, 21 or 6 refuses it, whatever the rules say of it.
-fn breaks_off(list: &[u8]) -> bool
-    ensures { λ r. ⌜ (r ≡ true → headsEnd (now (list .entry)) 0 maxEntries ≡ false) ⌝ }
-{
-    if list.len() <= FEW_BYTES {
-        return false;
-    }
-    if entry_read::heads_end(list, ENTRIES) {
-        return false;
-    }
-    true
-}
-
-// "It checks entries in order: more than 511 (7), 21, 6; then 8, 9, and 11 to 16", and 24. A long list that 7, 21 or 6 is known to refuse is not judged by the rules.
+// "It checks entries in order: more than 511 (7), 21, 6; then 8, 9, and 11 to 16", and 24. A list that 7, 21 or 6 refuses is not judged by the rules.
 pub fn judge_list(list: &[u8]) -> ListJudged
     ensures { λ r. ⌜ r ≡ judgedList (now (list .entry)) ⌝ }
 {
-    if breaks_off(list) {
-        return check_then(list, Refusal::at(Refusal::BAD_LIST, 0));
-    }
-    match entry_read::entry_at(list, 0) {
-        Head::Cut => ListJudged::Refused(Refusal::at(Refusal::BAD_LIST, 0)),
-        Head::Whole { label, length } => first_entry(list, label, length),
+    match check_list(list) {
+        ListJudged::Refused(r) => ListJudged::Refused(r),
+        ListJudged::Done(n) => {
+            let r = judge_entries(list);
+            if r.no != 0 {
+                return ListJudged::Refused(r);
+            }
+            ListJudged::Done(n)
+        }
     }
 }

@@ -4,7 +4,7 @@ use native.Mathlib.Omega.{arith}
 use borrow.Author.Needs.{needs}
 use Rattle.entry_read.proofs.HeadLaws.{whole-back}
 use Rattle.write_judge.specs.declared.Item.the-variants.{Refused}
-use Rattle.write_judge.proofs.CheckLaws.{entry-cut, label-over, content-low, content-clean}
+use Rattle.write_judge.proofs.CheckLaws.{entry-cut, label-over, content-low, content-clean, content-usual}
 use Rattle.write_judge.proofs.check_entry.Statement.{statement}
 use Rattle.write_judge.proofs.check_entry.Tie as tie
 
@@ -48,48 +48,68 @@ add-content c =
     let a = at-start .args in
     omega (arith, whole-back (a .list .now) (a .at) (sym (at-entry-at .entry-at .ensures) ∙ at-label .label .given .1) .within, at-start .good)
 
-first-low-requires : tie.Need-first-low-requires
-first-low-requires c κs =
+add-end : tie.Need-add-end
+add-end c =
     let at-label = c .before .before in
-    let at-entry-at = at-label .before .before in
-    let at-start = at-entry-at .before .before in
-    let a = at-start .args in
-    omega (arith, whole-back (a .list .now) (a .at) (sym (at-entry-at .entry-at .ensures) ∙ at-label .label .given .1) .within)
-
-add-if2 : tie.Need-add-if2
-add-if2 c =
-    let at-if1 = c .before in
-    let at-label = at-if1 .before .before in
     let at-entry-at = at-label .before .before in
     let at-start = at-entry-at .before .before in
     let a = at-start .args in
     omega (arith, whole-back (a .list .now) (a .at) (sym (at-entry-at .entry-at .ensures) ∙ at-label .label .given .1) .within, at-start .good)
 
-at-requires-3 : tie.Need-at-requires-3
-at-requires-3 c κs = search needs
+clean-content-requires : tie.Need-clean-content-requires
+clean-content-requires c κs =
+    let at-if1 = c .before in
+    let at-label = at-if1 .before .before in
+    let at-entry-at = at-label .before .before in
+    let at-start = at-entry-at .before .before in
+    let a = at-start .args in
+    let w = whole-back (a .list .now) (a .at) (sym (at-entry-at .entry-at .ensures) ∙ at-label .label .given .1) .within in
+    (omega (arith, c .if2 .taken), omega arith, omega (arith, w))
 
 returns-3 : tie.Need-returns-3
 returns-3 c =
-    let at-if2 = c .before in
-    let at-first-low = at-if2 .before in
-    let at-if1 = at-first-low .before in
+    let at-clean = c .before in
+    let at-if1 = at-clean .before .before in
+    let at-label = at-if1 .before .before in
+    let at-entry-at = at-label .before .before in
+    let at-start = at-entry-at .before .before in
+    let a = at-start .args in
+    content-usual (a .list .now) (a .at) (sym (at-entry-at .entry-at .ensures) ∙ at-label .label .given .1) (at-if1 .if1 .left) (at-clean .clean-content .ensures (c .if3 .taken))
+
+first-low-requires : tie.Need-first-low-requires
+first-low-requires c κs =
+    let at-if1 = c .before in
+    let at-label = at-if1 .before .before in
+    let at-entry-at = at-label .before .before in
+    let at-start = at-entry-at .before .before in
+    let a = at-start .args in
+    omega (arith, whole-back (a .list .now) (a .at) (sym (at-entry-at .entry-at .ensures) ∙ at-label .label .given .1) .within)
+
+at-requires-3 : tie.Need-at-requires-3
+at-requires-3 c κs = search needs
+
+returns-4 : tie.Need-returns-4
+returns-4 c =
+    let at-if4 = c .before in
+    let at-first-low = at-if4 .before in
+    let at-if1 = at-first-low .before .before in
     let at-label = at-if1 .before .before in
     let at-entry-at = at-label .before .before in
     let at-start = at-entry-at .before .before in
     let a = at-start .args in
     ap Refused (c .at3 .ensures)
-    ∙ content-low (a .list .now) (a .at) (sym (at-entry-at .entry-at .ensures) ∙ at-label .label .given .1) (at-if1 .if1 .left) _ (at-first-low .first-low .ensures) (at-if2 .if2 .taken)
+    ∙ content-low (a .list .now) (a .at) (sym (at-entry-at .entry-at .ensures) ∙ at-label .label .given .1) (at-if1 .if1 .left) _ (at-first-low .first-low .ensures) (at-if4 .if4 .taken)
 
-returns-4 : tie.Need-returns-4
-returns-4 c =
+returns-5 : tie.Need-returns-5
+returns-5 c =
     let at-first-low = c .before in
-    let at-if1 = at-first-low .before in
+    let at-if1 = at-first-low .before .before in
     let at-label = at-if1 .before .before in
     let at-entry-at = at-label .before .before in
     let at-start = at-entry-at .before .before in
     let a = at-start .args in
     content-clean (a .list .now) (a .at) (sym (at-entry-at .entry-at .ensures) ∙ at-label .label .given .1) (at-if1 .if1 .left) _
-    (at-first-low .first-low .ensures) (c .if2 .left)
+    (at-first-low .first-low .ensures) (c .if4 .left)
 
 pub check-entry-spec : {M : Type 1} → statement M
 check-entry-spec =
@@ -103,8 +123,10 @@ check-entry-spec =
     at-requires-2
     returns-2
     add-content
-    first-low-requires
-    add-if2
-    at-requires-3
+    add-end
+    clean-content-requires
     returns-3
-    returns-4)
+    first-low-requires
+    at-requires-3
+    returns-4
+    returns-5)
