@@ -8,24 +8,23 @@ use native.Mathlib.Omega.{arith}
 use lib.Dec.{leb}
 use lib.ListN.{length, drop, length-drop}
 use lib.Seq.{drop-drop}
-use borrow.Author.Tests.{leb-true, le-leb, lt-leb}
+use borrow.Author.Tests.{le-leb, lt-leb}
 use Rattle.meaning.specs.declared.Refusal.{Refusal}
 use Rattle.meaning.specs.Limits.{maxEntries}
-use Rattle.meaning.specs.Digits.{digitZero, digit, allDigits}
 use Rattle.meaning.specs.Field.{Field, isNil}
 use Rattle.meaning.specs.Refusals.{Fault, atLine, ask, behind, Reply, refused, done, refusal, badByte, tooManyLines, badList}
 use Rattle.meaning.specs.Pieces.{Parsed, parsed, andBefore, pieceThen, pieces}
 use Rattle.meaning.specs.Lines.{lowBytes}
 use Rattle.meaning.specs.Entries.{entryLead, twoBytesAt, entryLabel, entryWidth, entryContent, entryField, entryWhole, maxLabel, entryFaults, entryForm, entryOk, listSize}
-use Rattle.meaning.proofs.Bools.{nil-is, and-left, and-right, end-is}
-use Rattle.meaning.proofs.FaultLaws.{ask-none, High, lows-none, refused-done, done-same}
+use Rattle.meaning.proofs.Bools.{nil-is, and-left, end-is}
+use Rattle.meaning.proofs.FaultLaws.{ask-none, refused-done, done-same}
 use Rattle.meaning.proofs.PieceLaws.{piece-back}
 use Rattle.byte_low.specs.Low.{firstLow}
 use Rattle.byte_low.proofs.LowLaws.{low-is}
 use Rattle.entry_read.specs.declared.Head.{Head}
 use Rattle.entry_read.specs.declared.Head.the-variants.{Whole, Cut}
 use Rattle.entry_read.specs.Head.{entryAt, byHead, listContent}
-use Rattle.entry_read.proofs.HeadLaws.{headOf, entry-is, WholeAt, whole-back}
+use Rattle.entry_read.proofs.HeadLaws.{headOf, entry-is, whole-back}
 use Rattle.entry_read.proofs.HeadWalkLaws.{Reads}
 use Rattle.write_judge.specs.declared.Item.{Item}
 use Rattle.write_judge.specs.declared.Item.the-variants.{Read}
@@ -50,12 +49,12 @@ module _ (l : List ℕ) (at : ℕ) where
       unfolding checkEntry checkContent
       content-low g = rw (e, le-leb label maxLabel h, ← q, lt-leb (at + entryLead + n) low g)
 
-      pub content-clean : at + entryLead + n ≤ low → Read label n ≡ checkEntry l at
+      pub content-clean : at + entryLead + n ≤ low → Read n ≡ checkEntry l at
       unfolding checkEntry checkContent
       content-clean g = rw (e, le-leb label maxLabel h, ← q, le-leb (at + entryLead + n) low g)
 
     -- by the offsets of the content
-    pub content-usual : label ≤ maxLabel → firstLow l (at + entryLead) (at + entryLead + n - (at + entryLead)) ≡ at + entryLead + n → Read label n ≡ checkEntry l at
+    pub content-usual : label ≤ maxLabel → firstLow l (at + entryLead) (at + entryLead + n - (at + entryLead)) ≡ at + entryLead + n → Read n ≡ checkEntry l at
     content-usual h q =
         let w : at + entryLead + n - (at + entryLead) ≡ n = omega arith in
         let x : firstLow l (at + entryLead) n ≡ at + entryLead + n = ap (firstLow l (at + entryLead)) (sym w) ∙ q in
@@ -88,7 +87,7 @@ module _ (l : List ℕ) (at left : ℕ) where
   some-bad e = rw e
 
   -- an entry more: it is the last one, too many follow, or the check goes on
-  module _ {label m : ℕ} (e : checkEntry l at ≡ Read label m) where
+  module _ {m : ℕ} (e : checkEntry l at ≡ Read m) where
     here : checkSome l at left ≡ checkFrom l (at + (entryLead + m)) (maxEntries - (left - 1)) (left - 1)
     here = rw e
 
@@ -103,31 +102,31 @@ module _ (l : List ℕ) (at left : ℕ) where
       some-on h w = here ∙ check-some l (at + (entryLead + m)) g (left - 1) h (omega arith)
 
 -- the head of an entry that is checked
-pub checked-head : (l : List ℕ) (at : ℕ) {label m : ℕ} → checkEntry l at ≡ Read label m → entryAt l at ≡ Whole label m
+checked-head : (l : List ℕ) (at : ℕ) {m : ℕ} → checkEntry l at ≡ Read m → entryAt l at ≡ Whole (twoBytesAt l (at + 2)) m
 unfolding checkEntry checkContent
-checked-head l at {label} {m} e = go (entryAt l at) e
+checked-head l at {m} e = go (entryAt l at) refl e
   where
-    by : (k n : ℕ) (a b : Bool) (r q : Refusal) → cond a (cond b (Read k n) (Item.Refused r)) (Item.Refused q) ≡ Read label m → Whole k n ≡ Whole label m
-    by k n true true r q h = cc
+    by : (k n : ℕ) (a b : Bool) (r q : Refusal) → cond a (cond b (Read n) (Item.Refused r)) (Item.Refused q) ≡ Read m → Whole k n ≡ Whole k m
+    by k n true true r q h = let z : n ≡ m = cc in ap (Whole k) z
     by k n true false r q h = let z : _≡_ {A = ℕ} 0 1 = cc in absurd (omega arith)
     by k n false b r q h = let z : _≡_ {A = ℕ} 0 1 = cc in absurd (omega arith)
 
-    go : (h : Head) → byHead h (Item.Refused (refusal badList at 0)) (λ label n. checkContent l at label n) ≡ Read label m → h ≡ Whole label m
-    go Cut h = let z : _≡_ {A = ℕ} 0 1 = cc in absurd (omega arith)
-    go (Whole k n) h =
+    go : (h : Head) → entryAt l at ≡ h → byHead h (Item.Refused (refusal badList at 0)) (λ label n. checkContent l at label n) ≡ Read m → h ≡ Whole (twoBytesAt l (at + 2)) m
+    go Cut q h = let z : _≡_ {A = ℕ} 0 1 = cc in absurd (omega arith)
+    go (Whole k n) q h =
         by k n (leb k maxLabel) (leb (at + entryLead + n) (firstLow l (at + entryLead) n)) (refusal badByte (firstLow l (at + entryLead) n) 0) (refusal badList at 0) h
+        ∙ ap (λ (j : ℕ). Whole j m) (sym (whole-back l at q .label-told))
 
 -- it lies within the list
-pub checked-within : (l : List ℕ) (at : ℕ) {label m : ℕ} → checkEntry l at ≡ Read label m → at + (entryLead + m) ≤ length l
+pub checked-within : (l : List ℕ) (at : ℕ) {m : ℕ} → checkEntry l at ≡ Read m → at + (entryLead + m) ≤ length l
 checked-within l at e = whole-back l at (checked-head l at e) .within
 
 -- ---- entries that are checked, as the code takes them
 
 -- what stands at an offset from which on the entries are checked
 record Stands (l : List ℕ) (at : ℕ) : Type 0 where
-  label : ℕ
   bytes : ℕ
-  read : checkEntry l at ≡ Read label bytes
+  read : checkEntry l at ≡ Read bytes
   later : Checked l (at + (entryLead + bytes))
 
 stands : (l : List ℕ) (at : ℕ) → Checked l at → at < length l → Stands l at
@@ -135,7 +134,7 @@ unfolding checkFrom
 stands l at c h = go (c .before) (c .most) (c .checked)
   where
     by : (n k : ℕ) (x : Item) → checkEntry l at ≡ x → afterEntry x (λ m. checkFrom l (at + (entryLead + m)) (n + 1) k) ≡ Done (c .count) → Stands l at
-    by n k (Read label m) q e = record { label = label; bytes = m; read = q; later = record { before = n + 1; most = k; count = c .count; checked = e } }
+    by n k (Read m) q e = record { bytes = m; read = q; later = record { before = n + 1; most = k; count = c .count; checked = e } }
     by n k (Item.Refused r) q e = let z : _≡_ {A = ℕ} 0 1 = cc in absurd (omega arith)
 
     go : (n k : ℕ) → checkFrom l at n k ≡ Done (c .count) → Stands l at
@@ -150,14 +149,14 @@ module _ (l : List ℕ) (at : ℕ) (c : Checked l at) (h : at < length l) {label
   s : Stands l at
   s = stands l at c h
 
-  w : WholeAt l at (s .label) (s .bytes)
-  w = whole-back l at (checked-head l at (s .read))
+  w : s .bytes ≡ m
+  w = sym (whole-back l at (checked-head l at (s .read)) .length-told) ∙ sym y
 
   pub told-head : entryAt l at ≡ Whole label m
-  told-head = checked-head l at (s .read) ∙ ap₂ Whole (sym (w .label-told) ∙ sym x) (sym (w .length-told) ∙ sym y)
+  told-head = checked-head l at (s .read) ∙ ap₂ Whole (sym x) w
 
   pub told-later : Checked l (at + entryLead + m)
-  told-later = subst (Checked l) (omega (arith, w .length-told, y)) (s .later)
+  told-later = subst (Checked l) (omega (arith, w)) (s .later)
 
   pub told-within : at + entryLead + m ≤ length l
   told-within = omega (arith, whole-back l at told-head .within)
@@ -171,7 +170,7 @@ pub some-checked : (l : List ℕ) {n : ℕ} → checkSome l 0 maxEntries ≡ Don
 some-checked l {n} e = go (checkEntry l 0) refl e
   where
     go : (x : Item) → checkEntry l 0 ≡ x → afterEntry x (λ m. checkFrom l (0 + (entryLead + m)) (maxEntries - (maxEntries - 1)) (maxEntries - 1)) ≡ Done n → (0 < length l) × Checked l 0
-    go (Read label m) q z =
+    go (Read m) q z =
         let h : 0 < length l = omega (arith, checked-within l 0 q) in
         (h, record { before = 0; most = maxEntries; count = n; checked = check-some l 0 h maxEntries (omega arith) (omega arith) ∙ e })
     go (Item.Refused r) q z = let z : _≡_ {A = ℕ} 0 1 = cc in absurd (omega arith)
@@ -183,8 +182,8 @@ abbrev judgedEntry : ℕ → List Fault → Item → Item
 judgedEntry at [] c = c
 judgedEntry at (x ∷ xs) c = Item.Refused (refusal (x .no) (at + behind entryLead (x .spot)) (x .label))
 
--- The entry at an offset: its label and the length of its content if the bytes from there on have no fault, else the refusal of their first fault.
-check-is : (l : List ℕ) (at : ℕ) → checkEntry l at ≡ judgedEntry at (entryFaults (drop at l)) (Read (entryLabel (drop at l)) (twoBytesAt (drop at l) 0))
+-- The entry at an offset: the length of its content if the bytes from there on have no fault, else the refusal of their first fault.
+check-is : (l : List ℕ) (at : ℕ) → checkEntry l at ≡ judgedEntry at (entryFaults (drop at l)) (Read (twoBytesAt (drop at l) 0))
 unfolding checkEntry checkContent entryFaults
 check-is l at = rw (entry-is l at) (go (entryWhole (drop at l)) refl)
   where
@@ -192,7 +191,7 @@ check-is l at = rw (entry-is l at) (go (entryWhole (drop at l)) refl)
     n = twoBytesAt (drop at l) 0
 
     found : Item
-    found = Read (entryLabel (drop at l)) (twoBytesAt (drop at l) 0)
+    found = Read (twoBytesAt (drop at l) 0)
 
     first : (i : ℕ) (xs : List Fault) → Item.Refused (refusal badByte (at + (entryLead + i)) 0) ≡ Item.Refused (refusal badByte (at + entryLead + i) 0)
     first i xs = ap (λ (x : ℕ). Item.Refused (refusal badByte x 0)) (omega arith)
@@ -227,7 +226,7 @@ entry-then : (l : List ℕ) (at n : ℕ) (k : ℕ → List ℕ → Reply Parsed)
     → afterEntry (checkEntry l at) f ≡ summary n (pieceThen entryForm (entryFaults (drop at l)) at (drop at l) k)
 entry-then l at n k f h = rw (check-is l at) (go (entryFaults (drop at l)))
   where
-    go : (xs : List Fault) → afterEntry (judgedEntry at xs (Read (entryLabel (drop at l)) (twoBytesAt (drop at l) 0))) f ≡ summary n (pieceThen entryForm xs at (drop at l) k)
+    go : (xs : List Fault) → afterEntry (judgedEntry at xs (Read (twoBytesAt (drop at l) 0))) f ≡ summary n (pieceThen entryForm xs at (drop at l) k)
     go [] =
         let w : ℕ = entryWidth (drop at l) in
         h (twoBytesAt (drop at l) 0)

@@ -1,6 +1,6 @@
 -- 8, 9, 11 to 16 and 24 over a list's entries: one entry of the walk, that line 1 and line 2 are never refused, and what the walk finds: the first fault of the rules of `meaning`.
 use mathlib.Core.Path.{_≡_, refl, sym, ap, ap₂, _∙_, subst}
-use mathlib.Core.Bool.{Bool, true, false, cond, _&&_}
+use mathlib.Core.Bool.{Bool, true, false, cond}
 use mathlib.Core.List.{List, [], _∷_, _++_}
 use Prim.Native.Nat.{ℕ, suc, _+_, _-_, _≤_}
 use native.Mathlib.Numerals.{add-one}
@@ -13,8 +13,7 @@ use Rattle.meaning.specs.declared.Known.{Known}
 use Rattle.meaning.specs.declared.Known.the-variants.{Of, Nothing}
 use Rattle.meaning.specs.declared.SetType.{SetType}
 use Rattle.meaning.specs.declared.SetType.the-variants.{T6300, T6301, T6302, T6310, T6311}
-use Rattle.meaning.specs.Limits.{typeOf}
-use Rattle.meaning.specs.Digits.{number, allDigits}
+use Rattle.meaning.specs.Limits.{typeNumber}
 use Rattle.meaning.specs.Field.{Field, field}
 use Rattle.meaning.specs.Refusals.{start, refusal, noStart, unknownSet}
 use Rattle.meaning.specs.Entries.{entryLead, listSize}
@@ -25,8 +24,9 @@ use Rattle.meaning.specs.Groups as G
 use Rattle.meaning.specs.Rules.{profile, typeDigits, typeNamed, fits, labelIs, isKnown, typeKnown, startFaults, ruleFaults}
 use Rattle.meaning.specs.Lists.{inList}
 use Rattle.meaning.specs.Answers.{noRefusal, orElse}
-use Rattle.meaning.proofs.Bools.{and-left}
+use Rattle.meaning.proofs.DigitLaws.{length-digits}
 use Rattle.meaning.proofs.FieldLaws.{sum-fits}
+use Rattle.meaning.proofs.TypeLaws.{type-digits}
 use Rattle.entry_read.specs.declared.Head.the-variants.{Whole}
 use Rattle.entry_read.specs.Head.{entryAt, listContent}
 use Rattle.entry_read.proofs.HeadWalkLaws.{entries-end, entries-on, Reads, list-next}
@@ -83,15 +83,6 @@ module _ (l : List ℕ) (settype : SetType) (at : ℕ) (st : Flagged) (lack : Re
           ∙ ap (λ (n : ℕ). entriesPass l settype n (flaggedOf (r .group) members top) (r .group .lack)) w)
 
 -- ---- line 1 and line 2
-
--- a content that names a type
-type-four : (c : List ℕ) {settype : SetType} → typeNamed c ≡ Of settype → length c ≡ typeDigits
-unfolding typeNamed
-type-four c {settype} e = go (eqb (length c) typeDigits && allDigits c) refl e
-  where
-    go : (b : Bool) → eqb (length c) typeDigits && allDigits c ≡ b → cond b (typeOf (number c)) Nothing ≡ Of settype → length c ≡ typeDigits
-    go true q h = eqb-true (length c) typeDigits (and-left (eqb (length c) typeDigits) _ q)
-    go false q h = let z : _≡_ {A = ℕ} 0 1 = cc in absurd (omega arith)
 
 type-fits : (c : List ℕ) → length c ≡ typeDigits → fitsLabel 8000 c ≡ true
 unfolding fitsLabel fitsRow fieldRow fieldRowIn fieldTable rowLabel hasLength ofKind isAlnum
@@ -186,10 +177,11 @@ entries-found l f fs sum rd w g = rw (rd .0, rd .1) (go (eqb (f .label) 8000) re
     go false e k q = refl
     go true e Nothing q = refl
     go true e (Of settype) q =
+        let four : length (f .content) ≡ typeDigits = ap length (type-digits (f .content) settype q) ∙ length-digits typeDigits (typeNumber settype) in
         let x : field 8000 (f .content) ≡ f = λ i. record { label = sym (eqb-true (f .label) 8000 e) i; content = f .content } in
         subst (λ (y : Field). entriesPass l settype (entryLead + length (y .content)) started noRefusal
         ≡ firstOf (inList (y ∷ fs)) (faultsThenHigh (ofType settype) (y ∷ field 8100 sum ∷ fs))) x
-        (set-found l settype (f .content) fs sum (subst (λ (y : Field). Reads l 0 (y ∷ fs)) (sym x) rd) w (type-fits (f .content) (type-four (f .content) q)) g)
+        (set-found l settype (f .content) fs sum (subst (λ (y : Field). Reads l 0 (y ∷ fs)) (sym x) rd) w (type-fits (f .content) four) g)
 
 -- its number says whether there is one
 pub rules-real : (fs : List Field) → Real (ruleFaults fs)

@@ -2,14 +2,13 @@
 use mathlib.Core.Path.{_≡_, refl, sym, ap, _∙_}
 use mathlib.Core.Bool.{Bool, true, false}
 use mathlib.Core.List.{List}
-use Prim.Native.Nat.{ℕ, _<_}
+use Prim.Native.Nat.{ℕ}
 use native.Mathlib.Omega.{arith}
 use lib.Dec.{leb}
 use lib.ListN.{length}
 use borrow.Author.Tests.{ne-eqb, leb-true, leb-false}
 use Rattle.meaning.specs.declared.Refusal.{Refusal}
 use Rattle.meaning.specs.Limits.{maxEntries}
-use Rattle.meaning.specs.Refusals.{refusal, badList}
 use Rattle.entry_read.specs.declared.Head.the-variants.{Cut}
 use Rattle.entry_read.specs.Head.{entryAt}
 use Rattle.entry_read.proofs.HeadLaws.{entry-headless}

@@ -1,7 +1,7 @@
 -- The walks of `judge_list` over a list's bytes, entry by entry: offsets and flags in the place of fields and labels.
 -- What they mean is in proofs/CheckLaws (7, 21, 6) and proofs/EntryPass (8, 9, 11 to 16, 24).
 use mathlib.Core.Path.{_≡_}
-use mathlib.Core.Bool.{Bool, true, cond}
+use mathlib.Core.Bool.{true, cond}
 use mathlib.Core.List.{List}
 use Prim.Native.Nat.{ℕ, zero, suc, _+_, _-_}
 use lib.Dec.{leb, eqb}
@@ -32,14 +32,14 @@ use Rattle.write_judge.specs.declared.ListJudged.the-variants.{Done, Ref
 unfoldable pub checkContent : List ℕ → ℕ → ℕ → ℕ → Item
 checkContent l at label n =
     let low = firstLow l (at + entryLead) n in
-    cond (leb label maxLabel) (cond (leb (at + entryLead + n) low) (Read label n) (Item.Refused (refusal badByte low 0))) (Item.Refused (refusal badList at 0))
+    cond (leb label maxLabel) (cond (leb (at + entryLead + n) low) (Read n) (Item.Refused (refusal badByte low 0))) (Item.Refused (refusal badList at 0))
 
 unfoldable pub checkEntry : List ℕ → ℕ → Item
 checkEntry l at = byHead (entryAt l at) (Item.Refused (refusal badList at 0)) (λ label n. checkContent l at label n)
 
 -- what follows an entry that is checked, by the length of its content; else its refusal
 abbrev pub afterEntry : Item → (ℕ → ListJudged) → ListJudged
-afterEntry (Read label n) f = f n
+afterEntry (Read n) f = f n
 afterEntry (Item.Refused r) f = Refused r
 
 -- the entries from an offset on, with n before them; 7 if more than k start
@@ -47,7 +47,7 @@ unfoldable pub checkFrom : List ℕ → ℕ → ℕ → ℕ → ListJudged
 checkFrom l at n zero = cond (leb (length l) at) (Done n) (Refused (refusal tooManyLines at 0))
 checkFrom l at n (suc k) = cond (leb (length l) at) (Done n) (afterEntry (checkEntry l at) (λ m. checkFrom l (at + (entryLead + m)) (n + 1) k))
 
--- the entries from an offset on, of which one is read whatever is there, if this many of 511 are left
+-- the same in the code's order, an entry before the question whether one is left; this many of the 511 may still start
 abbrev pub checkSome : List ℕ → ℕ → ℕ → ListJudged
 checkSome l at left = afterEntry (checkEntry l at) (λ m. checkFrom l (at + (entryLead + m)) (maxEntries - (left - 1)) (left - 1))
 

@@ -27,8 +27,8 @@ const SHORT: usize = 8;
 
 // What reading one entry finds.
 pub enum Item {
-    // It keeps 21 and 6: its label, and the length of its content.
-    Read { label: usize, length: usize },
+    // It keeps 21 and 6: the length of its content.
+    Read(usize),
     // The first of 21 and 6 that it breaks.
     Refused(Refusal),
 }
@@ -56,14 +56,14 @@ fn check_entry(list: &[u8], at: usize) -> Item
     let end = content + length;
     if SHORT <= length {
         if byte_low::clean_content(list, content, end) {
-            return Item::Read { label, length };
+            return Item::Read(length);
         }
     }
     let low = byte_low::first_low(list, content, length);
     if low < end {
         return Item::Refused(Refusal::at(Refusal::BAD_BYTE, low));
     }
-    Item::Read { label, length }
+    Item::Read(length)
 }
 
 // The entries of a list, each by 7, 21, 6: their number, or the first refusal. A list without a byte has its first entry cut.
@@ -77,7 +77,7 @@ fn check_list(list: &[u8]) -> ListJudged
             Item::Refused(r) => {
                 return ListJudged::Refused(r);
             }
-            Item::Read { label: _, length } => {
+            Item::Read(length) => {
                 at += meaning::ENTRY_LEAD + length;
                 left -= 1;
             }
