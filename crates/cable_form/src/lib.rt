@@ -36,24 +36,20 @@ const LETTER_F: u8 = b'F';
 fn is_data(b: u8) -> bool
     ensures { λ r. ⌜ r ≡ dataByte b ⌝ }
 {
-    if b == meaning_cable::SEPARATOR {
-        return true;
-    }
-    byte_low::LEAST_BYTE <= b
+    (b == meaning_cable::SEPARATOR) | (byte_low::LEAST_BYTE <= b)
 }
 
+// The loop has no way out between the bytes, so that many are tested at once.
 fn all_data(bytes: &[u8]) -> bool
     ensures { λ r. ⌜ r ≡ allData (now (bytes .entry)) ⌝ }
 {
     let mut i: usize = 0;
+    let mut fit = true;
     while i < bytes.len() {
-        if is_data(bytes[i]) {
-            i += 1;
-        } else {
-            return false;
-        }
+        fit &= is_data(bytes[i]);
+        i += 1;
     }
-    true
+    fit
 }
 
 // "four upper-case hex digits": `0` to `9`, `A` to `F`.

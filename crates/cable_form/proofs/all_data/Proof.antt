@@ -1,19 +1,20 @@
--- The loop of `all_data`: the bytes left are all right exactly if all are.
+-- The loop of `all_data`: the bytes so far and the bytes left are all right exactly if all are.
 use mathlib.Core.Path.{_≡_, refl, sym, _∙_}
+use mathlib.Core.Bool.{_&&_}
 use Prim.Native.Nat.{_-_}
 use native.Mathlib.Omega.{arith}
 use lib.ListN.{length, drop}
 use borrow.Author.Needs.{needs}
 use Rattle.meaning_cable.specs.Stream.{dataByte, allData}
-use Rattle.cable_form.proofs.EachByteLaws.{all-stop, all-more, all-end}
+use Rattle.cable_form.proofs.EachByteLaws.{all-turn, all-over}
 use Rattle.cable_form.proofs.all_data.Statement.{statement}
 use Rattle.cable_form.proofs.all_data.Tie as tie
 
 abbrev Inv-loop : tie.InvT-loop
-Inv-loop bytes i₀ i = allData (drop i bytes) ≡ allData bytes
+Inv-loop bytes i₀ fit₀ i fit = fit && allData (drop i bytes) ≡ allData bytes
 
 abbrev μ-loop : tie.MeasureT-loop
-μ-loop bytes i₀ i = length bytes - i
+μ-loop bytes i₀ fit₀ i fit = length bytes - i
 
 loop-holds : tie.Need-loop-holds Inv-loop μ-loop
 loop-holds c = refl
@@ -32,25 +33,14 @@ loop-less c = search needs
 
 loop-again : tie.Need-loop-again Inv-loop μ-loop
 loop-again c =
-    let at-is-data = c .before in
-    let at-loop-test = at-is-data .before .before in
-    let at-loop = at-loop-test .before in
-    let l = at-loop .loop in
-    sym (all-more dataByte allData refl (λ b bs. refl) _ (l .i) (omega arith) (sym (at-is-data .is-data .ensures) ∙ c .if1 .taken)) ∙ l .inv
+    let at-loop-test = c .before .before in
+    let l = at-loop-test .before .loop in
+    all-turn dataByte allData refl (λ b bs. refl) _ (l .i) (l .fit) (c .is-data .ensures) (omega arith) ∙ l .inv
 
 returns : tie.Need-returns Inv-loop μ-loop
 returns c =
-    let at-is-data = c .before in
-    let at-loop-test = at-is-data .before .before in
-    let at-loop = at-loop-test .before in
-    let l = at-loop .loop in
-    sym (all-stop dataByte allData refl (λ b bs. refl) _ (l .i) (omega arith) (sym (at-is-data .is-data .ensures) ∙ c .if1 .left)) ∙ l .inv
-
-returns-2 : tie.Need-returns-2 Inv-loop μ-loop
-returns-2 c =
-    let at-loop = c .before in
-    let l = at-loop .loop in
-    sym (all-end dataByte allData refl (λ b bs. refl) _ (l .i) (omega arith)) ∙ l .inv
+    let l = c .before .loop in
+    sym (all-over dataByte allData refl (λ b bs. refl) _ (l .i) (l .fit) (omega arith)) ∙ l .inv
 
 pub all-data-spec : {M : Type 1} → statement M
 all-data-spec =
@@ -64,5 +54,4 @@ all-data-spec =
     add-i
     loop-less
     loop-again
-    returns
-    returns-2)
+    returns)
