@@ -32,7 +32,7 @@ use Rattle.line_read.proofs.ToldLaws.{read-told}
 use Rattle.correct_offer.specs.declared.OneLine.{OneLine}
 use Rattle.correct_offer.specs.declared.Terms.{Terms}
 use Rattle.correct_offer.specs.declared.Offer.{Offer}
-use Rattle.correct_offer.specs.Offered.{oneLine, lineFrom, lineAfter, against, afterAll, offeredTo, offeredAt, offeredHigh, offered, offerLine, offerSpot, offerFaults}
+use Rattle.correct_offer.specs.Offered.{oneLine, lineFrom, lineAfter, against, afterAll, offeredTo, offeredAt, offeredHigh, offered, objected, offerLine, offerSpot, offerFaults}
 use Rattle.correct_offer.proofs.TermsLaws.{highs-first, Serves, terms-ask}
 
 -- ---- where a line stands
@@ -277,44 +277,29 @@ to-line : (s : List ℕ) (bytes lines n : ℕ) (c : List ℕ) → 1 ≤ n → n 
 unfolding offeredAt
 to-line s bytes lines n c lo hi = rw (le-leb 1 n lo, le-leb n lines hi)
 
--- the byte of an offer stands in the content
-at-byte : (s : List ℕ) (bytes lines n : ℕ) (c : List ℕ) → offeredAt s bytes lines n c .byte ≤ length c
-unfolding offeredAt offeredTo
-at-byte s bytes lines n c = go (leb 1 n && leb n lines) (fixed (y .label)) (leb (length c) low) refl (fitsLabel (y .label) c)
+-- the byte that is objected to stands in the content
+pub objected-byte : (l : ℕ) (c : List ℕ) (seven : Bool) → objected l c seven .byte ≤ length c
+unfolding objected offeredTo offeredHigh
+objected-byte l c seven = go (fixed l) (leb (length c) low) refl (fitsLabel l c) seven (leb (length c) high) refl
   where
-    y : OneLine
-    y = lineAfter s (pred n)
-
     low : ℕ
     low = firstLow c 0 (length c)
-
-    go : (t a b : Bool) → leb (length c) low ≡ b → (f : Bool)
-        → cond t (cond a (against fixedLine 0 (y .label) y) (cond b (cond f (against 0 0 0 y) (against badContent 0 (y .label) y)) (against badByte low 0 y)))
-        (against noSuchLine 0 0 (afterAll bytes)) .byte ≤ length c
-    go false a b e f = omega arith
-    go true true b e f = omega arith
-    go true false true e true = omega arith
-    go true false true e false = omega arith
-    go true false false e f = omega (arith, leb-false (length c) low e)
-
-pub offer-byte : (s : List ℕ) (t : Terms) (n : ℕ) (c : List ℕ) → offered s t n c .byte ≤ length c
-unfolding offered offeredHigh
-offer-byte s t n c = go (eqb (o .no) 0) (t .seven) (leb (length c) high) refl
-  where
-    o : Offer
-    o = offeredAt s (t .length) (t .lines) n c
 
     high : ℕ
     high = firstHigh c 0 (length c)
 
-    found : o .byte ≤ length c
-    found = at-byte s (t .length) (t .lines) n c
+    x : OneLine
+    x = oneLine l 0 0
 
-    go : (a s b : Bool) → leb (length c) high ≡ b → cond a (cond s (cond b o (against highByte high 0 (oneLine 0 (o .at) (o .size)))) o) o .byte ≤ length c
-    go false s b e = found
-    go true false b e = found
-    go true true true e = found
-    go true true false e = omega (arith, leb-false (length c) high e)
+    go : (a b : Bool) → leb (length c) low ≡ b → (f s h : Bool) → leb (length c) high ≡ h
+        → let o = cond a (against fixedLine 0 l x) (cond b (cond f (against 0 0 0 x) (against badContent 0 l x)) (against badByte low 0 x)) in
+        cond (eqb (o .no) 0) (cond s (cond h o (against highByte high 0 (oneLine 0 (o .at) (o .size)))) o) o .byte ≤ length c
+    go true b e f s h q = omega arith
+    go false false e f s h q = omega (arith, leb-false (length c) low e)
+    go false true e false s h q = omega arith
+    go false true e true false h q = omega arith
+    go false true e true true true q = omega arith
+    go false true e true true false q = omega (arith, leb-false (length c) high q)
 
 -- if nothing speaks against the content, the change is right, and the offer has the place and the size of the line
 pub offer-good : (s : List ℕ) (d : Parsed) (t : Terms) (n : ℕ) (c : List ℕ) → read s ≡ done d → Serves (d .fields) t c → let o = offered s t n c in

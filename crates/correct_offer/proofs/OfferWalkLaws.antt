@@ -1,13 +1,12 @@
 -- The walks of specs/ step by step: one law for each way that the code takes.
-use mathlib.Core.Path.{_≡_}
+use mathlib.Core.Path.{_≡_, refl}
 use mathlib.Core.Bool.{Bool, true, false, cond, not}
 use mathlib.Core.List.{List}
 use Prim.Native.Nat.{ℕ, zero, suc, pred, _+_, _-_, _≤_, _<_}
 use native.Mathlib.Omega.{arith}
-use borrow.Author.Tests.{le-leb, lt-leb, eq-eqb, ne-eqb}
-use lib.Dec.{leb}
+use borrow.Author.Tests.{le-leb, lt-leb, ne-eqb}
+use lib.Dec.{leb, eqb}
 use lib.ListN.{length}
-use Rattle.meaning.specs.declared.Shape.{Shape}
 use Rattle.meaning.specs.Refusals.{badByte, badContent, noSuchLine, fixedLine, highByte}
 use Rattle.meaning.specs.FieldTable.{fitsLabel}
 use Rattle.meaning.specs.Corrections.{fixed}
@@ -16,8 +15,11 @@ use Rattle.byte_high.specs.High.{firstHigh}
 use Rattle.line_read.specs.Told.{toldLength, toldLabel}
 use Rattle.line_seven.specs.Seven.{saysSeven, highFor}
 use Rattle.correct_offer.specs.declared.OneLine.{OneLine}
+use Rattle.correct_offer.specs.declared.Terms.{Terms}
+use Rattle.correct_offer.specs.declared.Objection.{Objection}
 use Rattle.correct_offer.specs.declared.Offer.{Offer}
-use Rattle.correct_offer.specs.Offered.{oneLine, noLine, lineFrom, lineAfter, asksSeven, termsOf, against, afterAll, offeredTo, offeredAt, offeredHigh, offered}
+use Rattle.correct_offer.specs.Offered.{oneLine, noLine, lineFrom, lineAfter, asksSeven, against, afterAll, offeredTo, offeredAt, offeredHigh, offered}
+use Rattle.correct_offer.specs.Offered.{objection, objectionOf, objectedHigh, objected}
 
 -- ---- a line, with k lines to skip before it: the line at the offset gives the length n
 
@@ -65,75 +67,82 @@ plain-unasked s b e = rw e (go (saysSeven s))
     go true = rw (le-leb (length b) (length b) (omega arith))
     go false = rw (le-leb (length b) (length b) (omega arith))
 
--- ---- a content for a line that is there
+-- ---- 24, with nothing else against the content
 
-module _ (x : OneLine) (c : List ℕ) where
-  pub to-fixed : fixed (x .label) ≡ true → against fixedLine 0 (x .label) x ≡ offeredTo x c
-  unfolding offeredTo
+module _ (c : List ℕ) (seven : Bool) where
+  pub high-unasked : seven ≡ false → objection 0 0 0 ≡ objectedHigh c seven
+  unfolding objectedHigh offeredHigh
+  high-unasked q = rw q
+
+  module _ (q : seven ≡ true) (high : ℕ) (e : high ≡ firstHigh c 0 (length c)) where
+    pub high-found : high < length c → objection highByte high 0 ≡ objectedHigh c seven
+    unfolding objectedHigh offeredHigh
+    high-found h = rw (q, ← e, lt-leb (length c) high h)
+
+    pub high-none : length c ≤ high → objection 0 0 0 ≡ objectedHigh c seven
+    unfolding objectedHigh offeredHigh
+    high-none h = rw (q, ← e, le-leb (length c) high h)
+
+-- ---- a content for a line with label l
+
+module _ (l : ℕ) (c : List ℕ) (seven : Bool) where
+  pub to-fixed : fixed l ≡ true → objection fixedLine 0 l ≡ objected l c seven
+  unfolding objected offeredTo offeredHigh
   to-fixed f = rw f
 
-  module _ (f : fixed (x .label) ≡ false) (low : ℕ) (e : low ≡ firstLow c 0 (length c)) where
-    pub to-low : low < length c → against badByte low 0 x ≡ offeredTo x c
-    unfolding offeredTo
+  module _ (f : fixed l ≡ false) (low : ℕ) (e : low ≡ firstLow c 0 (length c)) where
+    pub to-low : low < length c → objection badByte low 0 ≡ objected l c seven
+    unfolding objected offeredTo offeredHigh
     to-low h = rw (f, ← e, lt-leb (length c) low h)
 
-    pub to-good : length c ≤ low → fitsLabel (x .label) c ≡ true → against 0 0 0 x ≡ offeredTo x c
-    unfolding offeredTo
-    to-good h g = rw (f, ← e, le-leb (length c) low h, g)
+    pub to-high : length c ≤ low → fitsLabel l c ≡ true → objectedHigh c seven ≡ objected l c seven
+    unfolding objected objectedHigh offeredTo
+    to-high h g = rw (f, ← e, le-leb (length c) low h, g)
 
-    pub to-bad : length c ≤ low → fitsLabel (x .label) c ≡ false → against badContent 0 (x .label) x ≡ offeredTo x c
-    unfolding offeredTo
+    pub to-bad : length c ≤ low → fitsLabel l c ≡ false → objection badContent 0 l ≡ objected l c seven
+    unfolding objected offeredTo offeredHigh
     to-bad h g = rw (f, ← e, le-leb (length c) low h, g)
 
 -- ---- a content for a line by its number
 
-module _ (s : List ℕ) (bytes lines n : ℕ) (c : List ℕ) where
-  pub number-none : n < 1 → against noSuchLine 0 0 (afterAll bytes) ≡ offeredAt s bytes lines n c
-  unfolding offeredAt
+-- what is offered to a line is what speaks against a content for its label, and the line
+against-line : (x : OneLine) (c : List ℕ) (seven : Bool) → let o = objected (x .label) c seven in against (o .no) (o .byte) (o .label) x ≡ offeredHigh (offeredTo x c) c seven
+unfolding objected offeredTo offeredHigh
+against-line x c seven = go (fixed (x .label)) (leb (length c) low) (fitsLabel (x .label) c) seven (leb (length c) high)
+  where
+    low : ℕ
+    low = firstLow c 0 (length c)
+
+    high : ℕ
+    high = firstHigh c 0 (length c)
+
+    -- by the five tests
+    to : Bool → Bool → Bool → OneLine → Offer
+    to a b f y = cond a (against fixedLine 0 (y .label) y) (cond b (cond f (against 0 0 0 y) (against badContent 0 (y .label) y)) (against badByte low 0 y))
+
+    then : Bool → Bool → Offer → Offer
+    then s b o = cond (eqb (o .no) 0) (cond s (cond b o (against highByte high 0 (oneLine 0 (o .at) (o .size)))) o) o
+
+    go : (a b f s h : Bool) → let o = objectionOf (then s h (to a b f (oneLine (x .label) 0 0))) in against (o .no) (o .byte) (o .label) x ≡ then s h (to a b f x)
+    go true b f s h = refl
+    go false false f s h = refl
+    go false true false s h = refl
+    go false true true false h = refl
+    go false true true true true = refl
+    go false true true true false = refl
+
+module _ (s : List ℕ) (t : Terms) (n : ℕ) (c : List ℕ) where
+  pub number-none : n < 1 → against noSuchLine 0 0 (afterAll (t .length)) ≡ offered s t n c
+  unfolding offered offeredAt offeredHigh
   number-none h = rw (lt-leb 1 n h)
 
-  pub number-beyond : lines < n → against noSuchLine 0 0 (afterAll bytes) ≡ offeredAt s bytes lines n c
-  unfolding offeredAt
-  number-beyond h = rw (le-leb 1 n (omega arith), lt-leb n lines h)
+  pub number-beyond : t .lines < n → against noSuchLine 0 0 (afterAll (t .length)) ≡ offered s t n c
+  unfolding offered offeredAt offeredHigh
+  number-beyond h = rw (le-leb 1 n (omega arith), lt-leb n (t .lines) h)
 
-  pub number-there : 1 ≤ n → n ≤ lines → offeredTo (lineAfter s (n - 1)) c ≡ offeredAt s bytes lines n c
-  unfolding offeredAt
-  number-there g h =
+  pub number-there : 1 ≤ n → n ≤ t .lines → (x : OneLine) → x ≡ lineAfter s (n - 1) → (seven : Bool) → seven ≡ t .seven → (o : Objection) → o ≡ objected (x .label) c seven
+      → against (o .no) (o .byte) (o .label) x ≡ offered s t n c
+  unfolding offered offeredAt
+  number-there g h x p seven q o r =
       let e : n - 1 ≡ pred n = omega arith in
-      rw (le-leb 1 n g, le-leb n lines h, e)
-
--- ---- 24, after what was found before it
-
-module _ (o : Offer) (c : List ℕ) (seven : Bool) where
-  pub high-after : (o .no ≡ 0 → ⊥) → o ≡ offeredHigh o c seven
-  unfolding offeredHigh
-  high-after z = rw (ne-eqb (o .no) 0 z)
-
-  module _ (z : o .no ≡ 0) where
-    pub high-unasked : seven ≡ false → o ≡ offeredHigh o c seven
-    unfolding offeredHigh
-    high-unasked q = rw (eq-eqb (o .no) 0 z, q)
-
-    module _ (q : seven ≡ true) (high : ℕ) (e : high ≡ firstHigh c 0 (length c)) where
-      pub high-found : high < length c → against highByte high 0 (oneLine 0 (o .at) (o .size)) ≡ offeredHigh o c seven
-      unfolding offeredHigh
-      high-found h = rw (eq-eqb (o .no) 0 z, q, ← e, lt-leb (length c) high h)
-
-      pub high-none : length c ≤ high → o ≡ offeredHigh o c seven
-      unfolding offeredHigh
-      high-none h = rw (eq-eqb (o .no) 0 z, q, ← e, le-leb (length c) high h)
-
--- ---- a correction: o is what was found before 24
-
-module _ (s : List ℕ) (x : Shape) (n : ℕ) (c : List ℕ) (o : Offer) (p : o ≡ offeredAt s (x .length) (x .lines) n c) where
-  pub change-found : (o .no ≡ 0 → ⊥) → o ≡ offered s (termsOf s x c) n c
-  unfolding offered
-  change-found z = rw (← p) (high-after o c (asksSeven s c) z)
-
-  pub change-plain : o .no ≡ 0 → firstHigh c 0 (length c) ≡ length c → o ≡ offered s (termsOf s x c) n c
-  unfolding offered
-  change-plain z e = rw (← p) (high-unasked o c (asksSeven s c) z (plain-unasked s c e))
-
-  pub change-high : (seven : Bool) → seven ≡ asksSeven s c → offeredHigh o c seven ≡ offered s (termsOf s x c) n c
-  unfolding offered
-  change-high seven q = rw (← p, q)
+      rw (r, q, le-leb 1 n g, le-leb n (t .lines) h, ← e, ← p) (against-line x c (t .seven))

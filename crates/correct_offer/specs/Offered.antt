@@ -1,4 +1,4 @@
--- The walks of `line_after`, `terms_of`, `judge_offer` and `judge_change`: the lines of a set by offsets, whether seven bits have to be asked for, and the tests 19, 20, 6, 14, 24
+-- The walks of `line_after`, `terms_of`, `judge_content` and `judge_change`: the lines of a set by offsets, whether seven bits have to be asked for, and the tests 19, 20, 6, 14, 24
 -- in the code's order. What they mean for an accepted set is `line-stands` and `offer-is` in proofs/OfferLaws, and `content-served` and `part-served` in proofs/TermsLaws.
 use mathlib.Core.Bool.{Bool, cond, not, _&&_}
 use mathlib.Core.List.{List, [], _∷_}
@@ -16,6 +16,7 @@ use Rattle.line_read.specs.Told.{toldLength, toldLabel}
 use Rattle.line_seven.specs.Seven.{highFor}
 use Rattle.correct_offer.specs.declared.OneLine.{OneLine}
 use Rattle.correct_offer.specs.declared.Terms.{Terms}
+use Rattle.correct_offer.specs.declared.Objection.{Objection}
 use Rattle.correct_offer.specs.declared.Offer.{Offer}
 
 -- ---- one line
@@ -74,6 +75,23 @@ offeredHigh o c seven =
 -- a content for line number n of a set with these terms
 unfoldable pub offered : List ℕ → Terms → ℕ → List ℕ → Offer
 offered s t n c = offeredHigh (offeredAt s (t .length) (t .lines) n c) c (t .seven)
+
+-- ---- a content for a line with label l, whichever line it is
+
+abbrev pub objection : ℕ → ℕ → ℕ → Objection
+objection n i l = record { no = n; byte = i; label = l }
+
+-- what an offer says of the content, without its line
+abbrev pub objectionOf : Offer → Objection
+objectionOf o = objection (o .no) (o .byte) (o .label)
+
+-- 24, if nothing else speaks against the content
+unfoldable pub objectedHigh : List ℕ → Bool → Objection
+objectedHigh c seven = objectionOf (offeredHigh (against 0 0 0 noLine) c seven)
+
+-- 20, 6, 14, 24
+unfoldable pub objected : ℕ → List ℕ → Bool → Objection
+objected l c seven = objectionOf (offeredHigh (offeredTo (oneLine l 0 0) c) c seven)
 
 -- ---- the fault that an offer stands for
 

@@ -3,7 +3,7 @@
 ghost use mathlib.Core.Path.{_≡_};
 ghost use Rattle.meaning.specs.Refusals.{noSuchLine};
 ghost use Rattle.meaning.specs.Corrections.{fixed};
-ghost use Rattle.correct_offer.specs.Offered.{noLine, lineAfter, asksSeven, termsOf, afterAll, against, offeredTo, offeredAt, offeredHigh, offered};
+ghost use Rattle.correct_offer.specs.Offered.{noLine, lineAfter, asksSeven, termsOf, afterAll, against, objection, objectedHigh, objected, offered};
 use meaning::Refusal;
 use meaning::Shape;
 
@@ -19,6 +19,23 @@ pub struct Terms {
     pub length: usize,
     pub lines: usize,
     pub seven: bool,
+}
+
+// What speaks against a new content for a line with a label, whichever line it is: the number of the refusal (0: nothing), for 6 and 24 which byte of the content, for 20 and 14
+// the label.
+pub struct Objection {
+    pub no: usize,
+    pub byte: usize,
+    pub label: usize,
+}
+
+impl Objection {
+    // An objection, or none, by its three parts.
+    fn by(no: usize, byte: usize, label: usize) -> Objection
+        ensures { λ r. ⌜ r ≡ objection no byte label ⌝ }
+    {
+        Objection { no, byte, label }
+    }
 }
 
 // What speaks against a new content for a line: the number of the refusal (0: nothing), for 6 and 24 which byte of the content, for 20 and 14 the line's label.
@@ -61,31 +78,25 @@ pub fn line_after(set: &[u8], before: usize) -> OneLine
     OneLine { label, at, size }
 }
 
-// Seven bits have to be asked for: a byte of what is offered is over 7Fh, and the set holds 9206 with content 1.
+// Seven bits have to be asked for: a byte of what is offered is over 7Fh, and the set holds 9206 with content 1. It is asked once a call. Most contents and sheets have no byte over
+// 7Fh: that is found first, and the set is not asked then.
 fn asks_seven(set: &[u8], offered: &[u8]) -> bool
     ensures { λ r. ⌜ r ≡ asksSeven (now (set .entry)) (now (offered .entry)) ⌝ }
 {
+    if byte_high::all_plain(offered) {
+        return false;
+    }
     if line_seven::high_for(set, offered) < offered.len() {
         return true;
     }
     false
 }
 
-// The same of a whole sheet, asked once a call. Most sheets have no byte over 7Fh: that is found first, and the set is not asked then.
-fn sheet_asks_seven(set: &[u8], sheet: &[u8]) -> bool
-    ensures { λ r. ⌜ r ≡ asksSeven (now (set .entry)) (now (sheet .entry)) ⌝ }
-{
-    if byte_high::all_plain(sheet) {
-        return false;
-    }
-    asks_seven(set, sheet)
-}
-
 // The terms of an accepted set of this shape for the entries of a sheet.
 pub fn terms_of(set: &[u8], shape: Shape, sheet: &[u8]) -> Terms
     ensures { λ r. ⌜ r ≡ termsOf (now (set .entry)) shape (now (sheet .entry)) ⌝ }
 {
-    let seven = sheet_asks_seven(set, sheet);
+    let seven = asks_seven(set, sheet);
     Terms {
         length: shape.length,
         lines: shape.lines,
@@ -123,23 +134,37 @@ fn against(no: usize, byte: usize, label: usize, line: OneLine) -> Offer
     }
 }
 
-// A new content for a line that is there: 20, 6, 14.
-fn judge_for(line: OneLine, content: &[u8]) -> Offer
-    ensures { λ r. ⌜ r ≡ offeredTo line (now (content .entry)) ⌝ }
+// 24, HighByte: "for a correction or sheet entry after BadContent", so only if nothing else speaks against the content.
+fn judge_high(content: &[u8], seven: bool) -> Objection
+    ensures { λ r. ⌜ r ≡ objectedHigh (now (content .entry)) seven ⌝ }
 {
-    if is_fixed(line.label) {
-        return against(Refusal::FIXED_LINE, 0, line.label, line);
+    if !seven {
+        return Objection::by(0, 0, 0);
+    }
+    let high = byte_high::first_high(content, 0, content.len());
+    if high < content.len() {
+        return Objection::by(Refusal::HIGH_BYTE, high, 0);
+    }
+    Objection::by(0, 0, 0)
+}
+
+// A new content for a line with this label, of a correction or of an entry of a sheet: 20, 6, 14, and 24 if seven bits have to be asked for.
+pub fn judge_content(label: usize, content: &[u8], seven: bool) -> Objection
+    ensures { λ r. ⌜ r ≡ objected label (now (content .entry)) seven ⌝ }
+{
+    if is_fixed(label) {
+        return Objection::by(Refusal::FIXED_LINE, 0, label);
     }
     // 6, BadByte: "place in the new content"
     let low = byte_low::first_low(content, 0, content.len());
     if low < content.len() {
-        return against(Refusal::BAD_BYTE, low, 0, line);
+        return Objection::by(Refusal::BAD_BYTE, low, 0);
     }
     // 14, BadContent: "empty included"
-    if table_kinds::fits_label(line.label, content) {
-        return against(0, 0, 0, line);
+    if table_kinds::fits_label(label, content) {
+        return judge_high(content, seven);
     }
-    against(Refusal::BAD_CONTENT, 0, line.label, line)
+    Objection::by(Refusal::BAD_CONTENT, 0, label)
 }
 
 // 19, NoSuchLine: "line number 0 or beyond the set; place: set length".
@@ -158,59 +183,18 @@ fn no_such_line(length: usize) -> Offer
     )
 }
 
-// A new content for a line of a set of this many bytes and lines, by the line's number: 19, 20, 6, 14.
-fn judge_at(set: &[u8], length: usize, lines: usize, line: usize, content: &[u8]) -> Offer
-    ensures { λ r. ⌜ r ≡ offeredAt (now (set .entry)) length lines line (now (content .entry)) ⌝ }
-{
-    if line < 1 {
-        return no_such_line(length);
-    }
-    if lines < line {
-        return no_such_line(length);
-    }
-    judge_for(line_after(set, line - 1), content)
-}
-
-// 24, HighByte: "for a correction or sheet entry after BadContent", so only if nothing else speaks against the content.
-fn judge_high(offer: Offer, content: &[u8], seven: bool) -> Offer
-    ensures { λ r. ⌜ r ≡ offeredHigh offer (now (content .entry)) seven ⌝ }
-{
-    if offer.no != 0 {
-        return offer;
-    }
-    if !seven {
-        return offer;
-    }
-    let high = byte_high::first_high(content, 0, content.len());
-    if high < content.len() {
-        let line = OneLine {
-            label: 0,
-            at: offer.at,
-            size: offer.size,
-        };
-        return against(Refusal::HIGH_BYTE, high, 0, line);
-    }
-    offer
-}
-
-// An entry of a sheet, a new content for a line of an accepted set with these terms: 19, 20, 6, 14, 24.
-pub fn judge_offer(set: &[u8], terms: Terms, line: usize, content: &[u8]) -> Offer
-    ensures { λ r. ⌜ r ≡ offered (now (set .entry)) terms line (now (content .entry)) ⌝ }
-{
-    let offer = judge_at(set, terms.length, terms.lines, line, content);
-    judge_high(offer, content, terms.seven)
-}
-
-// A correction, a new content for a line of an accepted set of this shape: the same numbers. Most contents have no byte over 7Fh: then the set is not asked for seven bits.
+// A correction, a new content for a line of an accepted set of this shape: 19, 20, 6, 14, 24.
 pub fn judge_change(set: &[u8], shape: Shape, line: usize, content: &[u8]) -> Offer
     ensures { λ r. ⌜ r ≡ offered (now (set .entry)) (termsOf (now (set .entry)) shape (now (content .entry))) line (now (content .entry)) ⌝ }
 {
-    let offer = judge_at(set, shape.length, shape.lines, line, content);
-    if offer.no != 0 {
-        return offer;
+    if line < 1 {
+        return no_such_line(shape.length);
     }
-    if byte_high::all_plain(content) {
-        return offer;
+    if shape.lines < line {
+        return no_such_line(shape.length);
     }
-    judge_high(offer, content, asks_seven(set, content))
+    let x = line_after(set, line - 1);
+    let seven = asks_seven(set, content);
+    let found = judge_content(x.label, content, seven);
+    against(found.no, found.byte, found.label, x)
 }

@@ -7,19 +7,20 @@ use native.Mathlib.Omega.{arith}
 use native.Mathlib.Nat.{add-zero, add-sub-cancel-left}
 use borrow.Author.Tests.{le-leb, lt-leb, ne-eqb}
 use lib.Dec.{leb, eqb}
-use lib.ListN.{length, take, drop, length-take}
+use lib.ListN.{length, take, drop, getD, length-take}
 use Rattle.meaning.specs.declared.Part.{Part}
 use Rattle.meaning.specs.declared.Refusal.{Refusal}
 use Rattle.meaning.specs.declared.Shape.{Shape}
 use Rattle.meaning.specs.declared.Judged.the-variants.{Accepted}
 use Rattle.meaning.specs.declared.Viewed.{Viewed}
 use Rattle.meaning.specs.declared.Viewed.the-variants.{Sheet, Set, Refused}
-use Rattle.meaning.specs.Refusals.{tellsByte, behind, refusal, badList, tooManyLines}
+use Rattle.meaning.specs.Refusals.{tellsByte, behind, refusal, badList, noSuchLine, tooManyLines}
 use Rattle.meaning.specs.Lines.{minLineBytes}
 use Rattle.meaning.specs.Entries.{entryLead}
 use Rattle.meaning.specs.Reading.{judge}
 use Rattle.meaning.specs.Views.{part}
 use Rattle.meaning.proofs.Demands.{judge-read}
+use Rattle.line_read.specs.Told.{toldLength, toldLabel}
 use Rattle.entry_read.specs.declared.Head.{Head}
 use Rattle.entry_read.specs.declared.Head.the-variants.{Whole, Cut}
 use Rattle.entry_read.specs.Head.{entryAt}
@@ -27,42 +28,93 @@ use Rattle.entry_read.proofs.HeadLaws.{whole-back}
 use Rattle.correct_offer.specs.declared.Offer.{Offer}
 use Rattle.correct_offer.specs.declared.OneLine.{OneLine}
 use Rattle.correct_offer.specs.declared.Terms.{Terms}
-use Rattle.correct_offer.specs.Offered.{lineAfter, termsOf, offered, offerSpot}
-use Rattle.correct_offer.proofs.OfferLaws.{line-stands, offer-byte}
+use Rattle.correct_offer.specs.Offered.{lineFrom, lineAfter, termsOf, offered, objected, offerSpot}
+use Rattle.line_roll.specs.declared.Roll.{Roll}
+use Rattle.line_roll.specs.Rolled.{lineStart, Lined, Rolled}
+use Rattle.correct_offer.specs.declared.Objection.{Objection}
+use Rattle.correct_offer.proofs.OfferWalkLaws.{number-none, number-beyond, number-there}
+use Rattle.correct_offer.proofs.OfferLaws.{line-stands, objected-byte}
 use Rattle.view_part.specs.Parts.{newer}
 use Rattle.view_sheet.specs.declared.SheetEntry.{SheetEntry}
 use Rattle.view_sheet.specs.declared.SheetEntry.the-variants.{Good}
-use Rattle.view_sheet.specs.Showing.{byOffer, sheetEntryBy, sheetEntryAt, setPart, goodThen, shownFrom, shownBySheet, shownUnder}
+use Rattle.view_sheet.specs.Showing.{byObjection, sheetEntryBy, sheetEntryAt, setPart, goodThen, shownFrom, shownBySheet, shownUnder}
 
 -- ---- one entry of the sheet
 
--- the byte that is refused of a content of n bytes at a
-pub byte-within : (s : List ℕ) (t : Terms) (h : List ℕ) (a k n : ℕ) (o : Offer) → o ≡ offered s t k (take ((a + n) - a) (drop a h)) → o .byte ≤ n
-byte-within s t h a k n o e =
-    let c : List ℕ = take ((a + n) - a) (drop a h) in
-    rw e (omega (arith, offer-byte s t k c, length-take ((a + n) - a) (drop a h), add-sub-cancel-left a n))
+-- the content of an entry of n bytes
+module _ (at n : ℕ) (w : Part) (q : w ≡ part (at + entryLead) n) where
+  pub content-ends : w .place + w .length ≡ at + (entryLead + n)
+  content-ends = rw q (omega arith)
+
+  -- what is found of it, for line k with label l
+  module _ (h : List ℕ) (k l : ℕ) (seven : Bool) (o : Objection) (p : o ≡ objected l (take ((w .place + w .length) - w .place) (drop (w .place) h)) seven) where
+    abbrev found : SheetEntry
+    found = byObjection (objected l (take n (drop (at + entryLead) h)) seven) at k n
+
+    found-so : o ≡ objected l (take n (drop (at + entryLead) h)) seven
+    found-so = p ∙ rw (q, add-sub-cancel-left (at + entryLead) n)
+
+    -- the byte that is refused stands in it
+    pub byte-within : w .place + o .byte ≤ at + (entryLead + n)
+    byte-within =
+        let c : List ℕ = take n (drop (at + entryLead) h) in
+        omega (arith, ap (λ (y : Objection). y .byte) found-so, objected-byte l c seven, length-take n (drop (at + entryLead) h), ap (λ (y : Part). y .place) q)
+
+    entry-by : byObjection o at k n ≡ found
+    entry-by = rw found-so
+
+    pub entry-good : o .no ≡ 0 → Good k n ≡ found
+    entry-good z = rw z at entry-by
+
+    module _ (z : o .no ≡ 0 → ⊥) where
+      pub entry-byte : tellsByte (o .no) ≡ true → SheetEntry.Refused (refusal (o .no) (w .place + o .byte) (o .label)) ≡ found
+      entry-byte b =
+          let a : w .place + o .byte ≡ at + (entryLead + o .byte) = omega (arith, ap (λ (y : Part). y .place) q) in
+          rw a (rw (ne-eqb (o .no) 0 z, b) at entry-by)
+
+      pub entry-bad : tellsByte (o .no) ≡ false → SheetEntry.Refused (refusal (o .no) at (o .label)) ≡ found
+      entry-bad b = rw (ne-eqb (o .no) 0 z, b, add-zero at) at entry-by
+
+-- ---- the label of its line
+
+-- in a set whose lines are known to be there, the line that k lines stand before starts where they end
+line-start : (s : List ℕ) (n : ℕ) → Lined s n → (k j : ℕ) → j + k < n → lineFrom s (lineStart s j) k .label ≡ toldLabel s (lineStart s (j + k))
+unfolding lineFrom lineStart
+line-start s n d zero j h = rw (add-zero j)
+line-start s n d (suc k) j h =
+    let e : j + suc k ≡ suc j + k = omega arith in
+    rw (ne-eqb (toldLength s (lineStart s j)) 0 (d .sized j (omega arith)), e) (line-start s n d k (suc j) (omega arith))
+
+-- the roll has its label
+pub roll-line : (s ls : List ℕ) (lines : ℕ) → Lined s lines → (x : Roll) → Rolled s ls x → (k : ℕ) → 1 ≤ k → k ≤ lines → k ≤ x .known → getD ls (k - 1) 0 ≡ lineAfter s (k - 1) .label
+unfolding lineAfter lineStart
+roll-line s ls lines d x r k lo hi e =
+    let z : 0 + (k - 1) ≡ k - 1 = omega arith in
+    r .labels-so (k - 1) (omega arith) ∙ sym (rw z at (line-start s lines d (k - 1) 0 (omega arith)))
 
 module _ (s : List ℕ) (t : Terms) (h : List ℕ) (at : ℕ) where
   pub sheet-cut : entryAt h at ≡ Cut → SheetEntry.Refused (refusal badList at 0) ≡ sheetEntryAt s t h at
   unfolding sheetEntryAt
   sheet-cut e = rw e
 
-  module _ (k n : ℕ) (e : entryAt h at ≡ Whole k n) (m : ℕ) (q : m ≡ n) (o : Offer) (p : o ≡ offered s t k (take m (drop (at + entryLead) h))) where
-    sheet-by : byOffer o at k n ≡ sheetEntryAt s t h at
+  module _ (k n : ℕ) (e : entryAt h at ≡ Whole k n) where
+    -- 19
+    pub sheet-zero : k < 1 → SheetEntry.Refused (refusal noSuchLine at 0) ≡ sheetEntryAt s t h at
+    unfolding sheetEntryAt tellsByte
+    sheet-zero z = rw (e, ← number-none s t k (take n (drop (at + entryLead) h)) z, add-zero at)
+
+    pub sheet-beyond : t .lines < k → SheetEntry.Refused (refusal noSuchLine at 0) ≡ sheetEntryAt s t h at
+    unfolding sheetEntryAt tellsByte
+    sheet-beyond z = rw (e, ← number-beyond s t k (take n (drop (at + entryLead) h)) z, add-zero at)
+
+    -- what speaks against the content for the label of the line
+    pub sheet-there : 1 ≤ k → k ≤ t .lines → (l : ℕ) → l ≡ lineAfter s (k - 1) .label
+        → byObjection (objected l (take n (drop (at + entryLead) h)) (t .seven)) at k n ≡ sheetEntryAt s t h at
     unfolding sheetEntryAt
-    sheet-by = rw (e, p, q)
-
-    pub sheet-good : o .no ≡ 0 → Good k n ≡ sheetEntryAt s t h at
-    sheet-good z = rw (z) at sheet-by
-
-    module _ (z : o .no ≡ 0 → ⊥) where
-      pub sheet-byte : tellsByte (o .no) ≡ true → SheetEntry.Refused (refusal (o .no) ((at + entryLead) + o .byte) (o .label)) ≡ sheetEntryAt s t h at
-      sheet-byte b =
-          let a : (at + entryLead) + o .byte ≡ at + (entryLead + o .byte) = omega arith in
-          rw a (rw (ne-eqb (o .no) 0 z, b) at sheet-by)
-
-      pub sheet-bad : tellsByte (o .no) ≡ false → SheetEntry.Refused (refusal (o .no) at (o .label)) ≡ sheetEntryAt s t h at
-      sheet-bad b = rw (ne-eqb (o .no) 0 z, b, add-zero at) at sheet-by
+    sheet-there lo hi l p =
+        let c : List ℕ = take n (drop (at + entryLead) h) in
+        let x : OneLine = lineAfter s (k - 1) in
+        rw (e, p, ← number-there s t k c lo hi x refl (t .seven) refl (objected (x .label) c (t .seven)) refl)
 
 good-length : (b : Bool) (r : Refusal) (k n k′ n′ : ℕ) → cond b (Good k′ n′) (SheetEntry.Refused r) ≡ Good k n → n′ ≡ n
 good-length true r k n k′ n′ e = cc
@@ -104,24 +156,23 @@ module _ (s : List ℕ) (t : Terms) (h : List ℕ) (n m at : ℕ) (v : Viewed) w
       go zero = rw (le-leb (length h) at e)
       go (suc i) = rw (le-leb (length h) at e)
 
-  module _ (l : at < length h) (w : length h ≤ at + m) where
+  module _ (l : at < length h) (few : length h ≤ at + m) where
     pub shown-bad : (r : Refusal) → sheetEntryAt s t h at ≡ SheetEntry.Refused r → Refused r ≡ shownFrom s t h n m at v
     unfolding shownFrom
-    shown-bad r e = go m w
+    shown-bad r e = go m few
       where
         go : (i : ℕ) → length h ≤ at + i → Refused r ≡ shownFrom s t h n i at v
         go zero w = absurd (omega arith)
         go (suc i) w = rw (lt-leb (length h) at l, e)
 
-    pub shown-next : (k len : ℕ) → sheetEntryAt s t h at ≡ Good k len → (at′ : ℕ) → at′ ≡ at + (entryLead + len)
-        → (v′ : Viewed) → v′ ≡ newer v (part (at + entryLead) len) k n
-        → shownFrom s t h n (pred m) at′ v′ ≡ shownFrom s t h n m at v
+    pub shown-next : (k len : ℕ) → sheetEntryAt s t h at ≡ Good k len → (w : Part) → w ≡ part (at + entryLead) len → (v′ : Viewed) → v′ ≡ newer v w k n
+        → shownFrom s t h n (pred m) (w .place + w .length) v′ ≡ shownFrom s t h n m at v
     unfolding shownFrom
-    shown-next k len e at′ p v′ q = go m w
+    shown-next k len e w p v′ q = go m few
       where
-        go : (i : ℕ) → length h ≤ at + i → shownFrom s t h n (pred i) at′ v′ ≡ shownFrom s t h n i at v
-        go zero w = absurd (omega arith)
-        go (suc i) w = rw (lt-leb (length h) at l, e, p, q)
+        go : (i : ℕ) → length h ≤ at + i → shownFrom s t h n (pred i) (w .place + w .length) v′ ≡ shownFrom s t h n i at v
+        go zero r = absurd (omega arith)
+        go (suc i) r = rw (lt-leb (length h) at l, e, q, ← content-ends at len w p, p)
 
 -- the part of the set that is shown if the sheet has no entry for the line
 abbrev pub withSet : Part → Viewed → Viewed

@@ -9,7 +9,7 @@ use Rattle.meaning.specs.declared.Part.{Part}
 use Rattle.meaning.specs.declared.Shape.{Shape}
 use Rattle.meaning.specs.declared.Viewed.{Viewed}
 use Rattle.meaning.specs.declared.Viewed.the-variants.{Set, Refused}
-use Rattle.meaning.specs.Refusals.{behind, refusal, badList, tooManyLines}
+use Rattle.meaning.specs.Refusals.{behind, refusal, badList, noSuchLine, tooManyLines}
 use Rattle.meaning.specs.Lines.{lineLead, lineEnd}
 use Rattle.meaning.specs.Entries.{entryLead}
 use Rattle.meaning.specs.Views.{part}
@@ -17,10 +17,13 @@ use Rattle.entry_read.specs.declared.Head.{Head}
 use Rattle.entry_read.specs.declared.Head.the-variants.{Whole, Cut}
 use Rattle.entry_read.specs.Head.{entryAt}
 use Rattle.correct_offer.specs.declared.Terms.{Terms}
+use Rattle.line_roll.specs.declared.Roll.{Roll}
+use Rattle.correct_offer.specs.declared.Objection.{Objection}
 use Rattle.correct_offer.specs.declared.Offer.{Offer}
-use Rattle.correct_offer.specs.Offered.{lineAfter, termsOf, offered, offerSpot}
+use Rattle.correct_offer.specs.Offered.{noLine, lineAfter, termsOf, against, offered, offerSpot}
 use Rattle.view_part.specs.Parts.{newer}
 use Rattle.view_sheet.specs.declared.SheetEntry.{SheetEntry}
+use Rattle.view_sheet.specs.declared.Checked.{Checked}
 use Rattle.view_sheet.specs.declared.SheetEntry.the-variants.{Good}
 
 -- ---- one entry of the sheet
@@ -28,6 +31,14 @@ use Rattle.view_sheet.specs.declared.SheetEntry.the-variants.{Good}
 -- the entry at offset `at`, by what speaks against its content
 abbrev pub byOffer : Offer → ℕ → ℕ → ℕ → SheetEntry
 byOffer o at k n = cond (eqb (o .no) 0) (Good k n) (SheetEntry.Refused (refusal (o .no) (at + behind entryLead (offerSpot o)) (o .label)))
+
+-- by what speaks against its content, whichever line it is for
+abbrev pub byObjection : Objection → ℕ → ℕ → ℕ → SheetEntry
+byObjection o at k n = byOffer (against (o .no) (o .byte) (o .label) noLine) at k n
+
+-- 19: no label is read
+abbrev pub noSuchEntry : ℕ → Roll → Checked
+noSuchEntry at x = record { entry = SheetEntry.Refused (refusal noSuchLine at 0); roll = x }
 
 -- by its head
 abbrev pub sheetEntryBy : List ℕ → Terms → List ℕ → ℕ → Head → SheetEntry

@@ -2,15 +2,23 @@
 // Assumes nothing of the bytes; `shown_under`, which only other crates here call, and its part `part_of_set` assume that the set is accepted and has the line. Each contract
 // cites a walk of specs/, and proofs/ShowingLaws says what the walks mean.
 ghost use mathlib.Core.Path.{_≡_};
-ghost use Prim.Native.Nat.{_≤_};
+ghost use Prim.Native.Nat.{_+_, _≤_};
+ghost use lib.ListN.{length, take, drop};
+ghost use Rattle.meaning.specs.Limits.{maxLines};
 ghost use Rattle.meaning.specs.Refusals.{refusal};
 ghost use Rattle.meaning.specs.Reading.{judge};
-ghost use Rattle.view_sheet.specs.Showing.{setPart, sheetEntryAt, shownBySheet, shownUnder};
+ghost use Rattle.meaning.specs.Entries.{entryLead};
+ghost use Rattle.meaning.specs.Views.{part};
+ghost use Rattle.line_roll.specs.Rolled.{Lined, Rolled};
+ghost use Rattle.correct_offer.specs.Offered.{objected};
+ghost use Rattle.view_sheet.specs.Showing.{byObjection, noSuchEntry, setPart, sheetEntryAt, shownBySheet, shownUnder};
 use correct_offer::Terms;
 use entry_read::Head;
+use line_roll::Roll;
 use meaning::Judged;
 use meaning::Part;
 use meaning::Refusal;
+use meaning::SetType;
 use meaning::Shape;
 use meaning::Viewed;
 
@@ -22,6 +30,12 @@ pub enum SheetEntry {
     Refused(Refusal),
 }
 
+// What judging an entry finds, and how far the labels of the set are known then.
+struct Checked {
+    entry: SheetEntry,
+    roll: Roll,
+}
+
 // A refusal of an entry.
 fn bad_entry(no: usize, place: usize, label: usize) -> SheetEntry
     ensures { λ r. ⌜ r ≡ SheetEntry.Refused (refusal no place label) ⌝ }
@@ -29,26 +43,89 @@ fn bad_entry(no: usize, place: usize, label: usize) -> SheetEntry
     SheetEntry::Refused(Refusal { no, place, label })
 }
 
-// The entry of a sheet at an offset: "21 (cut only), 19, 20, 6, 14, with places in the sheet (the entry's first byte, for 6 the byte)", then 24, with the byte too.
-fn sheet_entry_at(set: &[u8], terms: Terms, sheet: &[u8], at: usize) -> SheetEntry
-    ensures { λ r. ⌜ r ≡ sheetEntryAt (now (set .entry)) terms (now (sheet .entry)) at ⌝ }
+// 19, NoSuchLine, of an entry: "line number 0 or beyond the set". No label is read for it.
+fn no_such_line(at: usize, roll: Roll) -> Checked
+    ensures { λ r. ⌜ r ≡ noSuchEntry at roll ⌝ }
+{
+    Checked {
+        entry: bad_entry(Refusal::NO_SUCH_LINE, at, 0),
+        roll,
+    }
+}
+
+// Where the content of a whole entry at an offset of the sheet stands, if it has this many bytes.
+fn content_part(sheet: &[u8], at: usize, bytes: usize) -> Part
+    requires { ⌜ at + (entryLead + bytes) ≤ length (now sheet) ⌝ }
+    ensures { λ r. ⌜ r ≡ part (at + entryLead) bytes ⌝ }
+{
+    Part {
+        place: at + meaning::ENTRY_LEAD,
+        length: bytes,
+    }
+}
+
+// A whole entry at an offset of the sheet, for a line with this number and label: 20, 6, 14, 24.
+fn judge_entry(
+    sheet: &[u8],
+    at: usize,
+    named: usize,
+    bytes: usize,
+    label: usize,
+    seven: bool,
+) -> SheetEntry
+    requires { ⌜ at + (entryLead + bytes) ≤ length (now sheet) ⌝ }
+    ensures { λ r. ⌜ r ≡ byObjection (objected label (take bytes (drop (at + entryLead) (now (sheet .entry)))) seven) at named bytes ⌝ }
+{
+    let part = content_part(sheet, at, bytes);
+    let start = part.place;
+    let end = start + part.length;
+    let found = correct_offer::judge_content(label, &sheet[start..end], seven);
+    if found.no == 0 {
+        return SheetEntry::Good {
+            named,
+            length: bytes,
+        };
+    }
+    if Refusal::tells_byte(found.no) {
+        return bad_entry(found.no, start + found.byte, found.label);
+    }
+    bad_entry(found.no, at, found.label)
+}
+
+// The entry of a sheet at an offset: "21 (cut only), 19, 20, 6, 14, with places in the sheet (the entry's first byte, for 6 the byte)", then 24, with the byte too. Of its line only the
+// label counts, and the roll has it.
+fn check_entry(
+    set: &[u8],
+    terms: Terms,
+    labels: &mut [u16],
+    roll: Roll,
+    sheet: &[u8],
+    at: usize,
+) -> Checked
+    requires { ⌜ Lined (now set) (terms .lines) ⌝ }
+    requires { ⌜ Rolled (now set) (now labels) roll ⌝ }
+    requires { ⌜ terms .lines ≤ length (now labels) ⌝ }
+    ensures { λ r. ⌜ (r .entry ≡ sheetEntryAt (now (set .entry)) terms (now (sheet .entry)) at) × Rolled (now (set .entry)) (now (labels .exit)) (r .roll) ⌝ }
 {
     match entry_read::entry_at(sheet, at) {
-        Head::Cut => bad_entry(Refusal::BAD_LIST, at, 0),
+        Head::Cut => Checked {
+            entry: bad_entry(Refusal::BAD_LIST, at, 0),
+            roll,
+        },
         Head::Whole {
             label: named,
             length,
         } => {
-            let content = at + meaning::ENTRY_LEAD;
-            let end = content + length;
-            let offer = correct_offer::judge_offer(set, terms, named, &sheet[content..end]);
-            if offer.no == 0 {
-                return SheetEntry::Good { named, length };
+            if named < 1 {
+                return no_such_line(at, roll);
             }
-            if Refusal::tells_byte(offer.no) {
-                return bad_entry(offer.no, content + offer.byte, offer.label);
+            if terms.lines < named {
+                return no_such_line(at, roll);
             }
-            bad_entry(offer.no, at, offer.label)
+            let known = line_roll::read_to(set, labels, roll, named);
+            let label = line_roll::label_of(labels, named);
+            let entry = judge_entry(sheet, at, named, length, label, terms.seven);
+            Checked { entry, roll: known }
         }
     }
 }
@@ -66,28 +143,53 @@ fn part_of_set(set: &[u8], shape: Shape, line: usize) -> Part
     }
 }
 
-// What the sheet shows for a line: the part of the last entry for it, or nothing of the set if it has none. Each entry is judged.
-fn shown_by_sheet(set: &[u8], terms: Terms, sheet: &[u8], line: usize) -> Viewed
-    ensures { λ r. ⌜ r ≡ shownBySheet (now (set .entry)) terms (now (sheet .entry)) line ⌝ }
+// Nothing of the set.
+fn nothing_shown() -> Viewed
+    ensures { λ r. ⌜ r ≡ Viewed.Set (part 0 0) ⌝ }
 {
-    let mut shown = Viewed::Set(Part {
+    Viewed::Set(Part {
         place: 0,
         length: 0,
-    });
+    })
+}
+
+// What the sheet shows for a line: the part of the last entry for it, or nothing of the set if it has none. Each entry is judged. The labels of the set are read into `labels`.
+fn shown_by_roll(set: &[u8], terms: Terms, labels: &mut [u16], sheet: &[u8], line: usize) -> Viewed
+    requires { ⌜ Lined (now set) (terms .lines) ⌝ }
+    requires { ⌜ terms .lines ≤ length (now labels) ⌝ }
+    ensures { λ r. ⌜ r ≡ shownBySheet (now (set .entry)) terms (now (sheet .entry)) line ⌝ }
+{
+    let mut shown = nothing_shown();
+    let mut roll = Roll::none();
     let mut at = 0;
     while at < sheet.len() {
-        match sheet_entry_at(set, terms, sheet, at) {
+        let checked = check_entry(set, terms, labels, roll, sheet, at);
+        roll = checked.roll;
+        let entry = checked.entry;
+        match entry {
             SheetEntry::Refused(r) => {
                 return Viewed::Refused(r);
             }
             SheetEntry::Good { named, length } => {
-                let place = at + meaning::ENTRY_LEAD;
-                shown = view_part::newer_part(shown, Part { place, length }, named, line);
-                at = place + length;
+                let part = content_part(sheet, at, length);
+                shown = view_part::newer_part(shown, part, named, line);
+                at = part.place + part.length;
             }
         }
     }
     shown
+}
+
+// The same, with room for the labels. A sheet without an entry asks for none.
+fn shown_by_sheet(set: &[u8], terms: Terms, sheet: &[u8], line: usize) -> Viewed
+    requires { ⌜ Lined (now set) (terms .lines) × (terms .lines ≤ maxLines) ⌝ }
+    ensures { λ r. ⌜ r ≡ shownBySheet (now (set .entry)) terms (now (sheet .entry)) line ⌝ }
+{
+    if sheet.len() == 0 {
+        return nothing_shown();
+    }
+    let mut labels = [0u16; SetType::LINES];
+    shown_by_roll(set, terms, &mut labels, sheet, line)
 }
 
 // What a line of an accepted set shows under a sheet: "the part of the sheet if the line has an entry there, else the part of the set".

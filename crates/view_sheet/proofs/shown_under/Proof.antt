@@ -2,6 +2,7 @@
 use mathlib.Core.Path.{sym, ap, _∙_}
 use borrow.Author.Needs.{needs}
 use Rattle.meaning.specs.declared.Viewed.the-variants.{Set}
+use Rattle.line_roll.proofs.RollLaws.{judged-lined}
 use Rattle.view_sheet.proofs.SheetWalkLaws.{under-by}
 use Rattle.view_sheet.proofs.shown_under.Statement.{statement}
 use Rattle.view_sheet.proofs.shown_under.Tie as tie
@@ -10,7 +11,10 @@ terms-of-requires : tie.Need-terms-of-requires
 terms-of-requires c κs = search needs
 
 shown-by-sheet-requires : tie.Need-shown-by-sheet-requires
-shown-by-sheet-requires c κs = search needs
+shown-by-sheet-requires c κs =
+    let at-shared-slice-known = c .before .before in
+    let at-start = at-shared-slice-known .before in
+    rw (c .terms-of .ensures) (judged-lined (at-start .args .set .now) (at-start .args .shape) (at-start .pre .0))
 
 enum-known-r : tie.Need-enum-known-r
 enum-known-r c = search needs
