@@ -78,25 +78,31 @@ pub fn line_after(set: &[u8], before: usize) -> OneLine
     OneLine { label, at, size }
 }
 
-// Seven bits have to be asked for: a byte of what is offered is over 7Fh, and the set holds 9206 with content 1. It is asked once a call. Most contents and sheets have no byte over
-// 7Fh: that is found first, and the set is not asked then.
+// Seven bits have to be asked for: a byte of what is offered is over 7Fh, and the set holds 9206 with content 1.
 fn asks_seven(set: &[u8], offered: &[u8]) -> bool
     ensures { λ r. ⌜ r ≡ asksSeven (now (set .entry)) (now (offered .entry)) ⌝ }
 {
-    if byte_high::all_plain(offered) {
-        return false;
-    }
     if line_seven::high_for(set, offered) < offered.len() {
         return true;
     }
     false
 }
 
+// The same of a whole sheet, asked once a call. Most sheets have no byte over 7Fh: that is found first, and no byte is looked for then.
+fn sheet_asks_seven(set: &[u8], sheet: &[u8]) -> bool
+    ensures { λ r. ⌜ r ≡ asksSeven (now (set .entry)) (now (sheet .entry)) ⌝ }
+{
+    if byte_high::all_plain(sheet) {
+        return false;
+    }
+    asks_seven(set, sheet)
+}
+
 // The terms of an accepted set of this shape for the entries of a sheet.
 pub fn terms_of(set: &[u8], shape: Shape, sheet: &[u8]) -> Terms
     ensures { λ r. ⌜ r ≡ termsOf (now (set .entry)) shape (now (sheet .entry)) ⌝ }
 {
-    let seven = asks_seven(set, sheet);
+    let seven = sheet_asks_seven(set, sheet);
     Terms {
         length: shape.length,
         lines: shape.lines,

@@ -208,7 +208,12 @@ module _ (s : List ℕ) (t : Terms) (h : List ℕ) (n : ℕ) (p : Part) where
           ∙ ap (shownFrom s t h n m (at + (entryLead + l))) (newer-set p (part (at + entryLead) l) v k n)
       go ih false (SheetEntry.Refused r) = refl
 
--- so what the sheet shows by the terms of the set is looked at first
+-- a sheet without an entry shows that part
+pub under-empty : (s : List ℕ) (x : Shape) (h : List ℕ) (n : ℕ) → length h ≤ 0 → Set (setPart s n) ≡ shownUnder s x h n
+unfolding shownUnder
+under-empty s x h n e = shown-end s (termsOf s x h) h n (length h) 0 (Set (setPart s n)) e
+
+-- else what it shows by the terms of the set is looked at first
 pub under-by : (s : List ℕ) (x : Shape) (h : List ℕ) (n : ℕ) (t : Terms) → t ≡ termsOf s x h → (v : Viewed) → shownBySheet s t h n ≡ v → withSet (setPart s n) v ≡ shownUnder s x h n
 unfolding shownBySheet shownUnder
 under-by s x h n t p v e =

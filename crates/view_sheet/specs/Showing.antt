@@ -1,4 +1,5 @@
--- The walk of `shown_under`: entry by entry over the bytes of the sheet, in the code's order.
+-- The walk of `shown_under`: entry by entry over the bytes of the sheet, in the code's order. The code has the label of an entry's line from the roll; that it is the one which the
+-- walk finds is `roll-line` in proofs/SheetWalkLaws.
 -- What they mean is `under-is` in proofs/ShowingLaws.
 use mathlib.Core.Bool.{cond}
 use mathlib.Core.List.{List}

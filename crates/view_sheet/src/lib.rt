@@ -1,6 +1,6 @@
 // A sheet of pending corrections: each of its entries judged, and what it shows for a line of an accepted set.
-// Assumes nothing of the bytes; `shown_under`, which only other crates here call, and its part `part_of_set` assume that the set is accepted and has the line. Each contract
-// cites a walk of specs/, and proofs/ShowingLaws says what the walks mean.
+// Assumes nothing of the sheet. `shown_under`, which only other crates here call, assumes that the set is accepted and has the line, its parts that the set is accepted or has its lines.
+// Each contract cites a walk of specs/, and proofs/ShowingLaws says what the walks mean.
 ghost use mathlib.Core.Path.{_≡_};
 ghost use Prim.Native.Nat.{_+_, _≤_};
 ghost use lib.ListN.{length, take, drop};
@@ -143,23 +143,16 @@ fn part_of_set(set: &[u8], shape: Shape, line: usize) -> Part
     }
 }
 
-// Nothing of the set.
-fn nothing_shown() -> Viewed
-    ensures { λ r. ⌜ r ≡ Viewed.Set (part 0 0) ⌝ }
-{
-    Viewed::Set(Part {
-        place: 0,
-        length: 0,
-    })
-}
-
 // What the sheet shows for a line: the part of the last entry for it, or nothing of the set if it has none. Each entry is judged. The labels of the set are read into `labels`.
 fn shown_by_roll(set: &[u8], terms: Terms, labels: &mut [u16], sheet: &[u8], line: usize) -> Viewed
     requires { ⌜ Lined (now set) (terms .lines) ⌝ }
     requires { ⌜ terms .lines ≤ length (now labels) ⌝ }
     ensures { λ r. ⌜ r ≡ shownBySheet (now (set .entry)) terms (now (sheet .entry)) line ⌝ }
 {
-    let mut shown = nothing_shown();
+    let mut shown = Viewed::Set(Part {
+        place: 0,
+        length: 0,
+    });
     let mut roll = Roll::none();
     let mut at = 0;
     while at < sheet.len() {
@@ -180,14 +173,11 @@ fn shown_by_roll(set: &[u8], terms: Terms, labels: &mut [u16], sheet: &[u8], lin
     shown
 }
 
-// The same, with room for the labels. A sheet without an entry asks for none.
+// The same, with room for the labels.
 fn shown_by_sheet(set: &[u8], terms: Terms, sheet: &[u8], line: usize) -> Viewed
     requires { ⌜ Lined (now set) (terms .lines) × (terms .lines ≤ maxLines) ⌝ }
     ensures { λ r. ⌜ r ≡ shownBySheet (now (set .entry)) terms (now (sheet .entry)) line ⌝ }
 {
-    if sheet.len() == 0 {
-        return nothing_shown();
-    }
     let mut labels = [0u16; SetType::LINES];
     shown_by_roll(set, terms, &mut labels, sheet, line)
 }
@@ -198,6 +188,10 @@ pub fn shown_under(set: &[u8], shape: Shape, sheet: &[u8], line: usize) -> Viewe
     requires { ⌜ (1 ≤ line) × (line ≤ shape .lines) ⌝ }
     ensures { λ r. ⌜ r ≡ shownUnder (now (set .entry)) shape (now (sheet .entry)) line ⌝ }
 {
+    // No room for labels is made then.
+    if sheet.len() == 0 {
+        return Viewed::Set(part_of_set(set, shape, line));
+    }
     let terms = correct_offer::terms_of(set, shape, sheet);
     match shown_by_sheet(set, terms, sheet, line) {
         Viewed::Refused(r) => Viewed::Refused(r),

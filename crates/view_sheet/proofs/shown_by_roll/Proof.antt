@@ -1,5 +1,5 @@
 -- `shown_by_roll` is the walk `shownFrom`: what the entries that are left show after those before them is what all show. What the roll knows stays known.
-use mathlib.Core.Path.{_≡_, refl, sym, ap, _∙_}
+use mathlib.Core.Path.{_≡_, refl, sym, _∙_}
 use Prim.Native.Nat.{ℕ, _+_, _-_, _≤_, pred}
 use native.Mathlib.Omega.{arith}
 use borrow.Author.Needs.{needs}
@@ -19,23 +19,19 @@ Inv-loop set terms labels₀ sheet line shown₀ roll₀ at₀ labels shown roll
 abbrev μ-loop : tie.MeasureT-loop
 μ-loop set terms labels₀ sheet line shown₀ roll₀ at₀ labels shown roll at = length sheet - at
 
-nothing-shown-requires : tie.Need-nothing-shown-requires Inv-loop μ-loop
-nothing-shown-requires c κs = search needs
-
 none-requires : tie.Need-none-requires Inv-loop μ-loop
 none-requires c κs = search needs
 
 loop-holds : tie.Need-loop-holds Inv-loop μ-loop
 unfolding shownBySheet
 loop-holds c =
-    let at-nothing-shown = c .before in
-    let at-slice-known = at-nothing-shown .before .before in
+    let at-slice-known = c .before .before in
     let at-start = at-slice-known .before .before in
     let a = at-start .args in (
       omega arith,
       length (a .sheet .now),
       omega arith,
-      ap (shownFrom (a .set .now) (a .terms) (a .sheet .now) (a .line) (length (a .sheet .now)) 0) (at-nothing-shown .nothing-shown .ensures),
+      refl,
       rw (c .none .ensures) (rolled-none (a .set .now) (a .labels .now)),
       refl,
     )
@@ -44,8 +40,8 @@ check-entry-requires : tie.Need-check-entry-requires Inv-loop μ-loop
 check-entry-requires c κs =
     let at-loop = c .before .before in
     let l = at-loop .loop in
-    let at-nothing-shown = at-loop .before .before in
-    let at-slice-known = at-nothing-shown .before .before in
+    let at-none = at-loop .before in
+    let at-slice-known = at-none .before .before in
     let at-start = at-slice-known .before .before in
     let a = at-start .args in
     (at-start .pre .0, (l .inv .4, omega (arith, at-start .pre .1, l .inv .5)))
@@ -87,8 +83,8 @@ content-part-requires c κs =
     let at-loop-test = at-check-entry .before .before in
     let at-loop = at-loop-test .before in
     let l = at-loop .loop in
-    let at-nothing-shown = at-loop .before .before in
-    let at-slice-known = at-nothing-shown .before .before in
+    let at-none = at-loop .before in
+    let at-slice-known = at-none .before .before in
     let at-start = at-slice-known .before .before in
     let a = at-start .args in
     let e = sym (at-check-entry .check-entry .ensures .0) ∙ at-entry2 .entry2 .given .1 in
@@ -108,8 +104,8 @@ add-at c =
     let at-loop-test = at-check-entry .before .before in
     let at-loop = at-loop-test .before in
     let l = at-loop .loop in
-    let at-nothing-shown = at-loop .before .before in
-    let at-slice-known = at-nothing-shown .before .before in
+    let at-none = at-loop .before in
+    let at-slice-known = at-none .before .before in
     let at-start = at-slice-known .before .before in
     let a = at-start .args in
     let e = sym (at-check-entry .check-entry .ensures .0) ∙ at-entry2 .entry2 .given .1 in
@@ -128,8 +124,8 @@ loop-less c =
     let at-loop-test = at-check-entry .before .before in
     let at-loop = at-loop-test .before in
     let l = at-loop .loop in
-    let at-nothing-shown = at-loop .before .before in
-    let at-slice-known = at-nothing-shown .before .before in
+    let at-none = at-loop .before in
+    let at-slice-known = at-none .before .before in
     let at-start = at-slice-known .before .before in
     let a = at-start .args in
     let e = sym (at-check-entry .check-entry .ensures .0) ∙ at-entry2 .entry2 .given .1 in
@@ -148,8 +144,8 @@ loop-again c =
     let at-loop-test = at-check-entry .before .before in
     let at-loop = at-loop-test .before in
     let l = at-loop .loop in
-    let at-nothing-shown = at-loop .before .before in
-    let at-slice-known = at-nothing-shown .before .before in
+    let at-none = at-loop .before in
+    let at-slice-known = at-none .before .before in
     let at-start = at-slice-known .before .before in
     let a = at-start .args in
     let e = sym (at-check-entry .check-entry .ensures .0) ∙ at-entry2 .entry2 .given .1 in
@@ -178,7 +174,6 @@ shown-by-roll-spec =
     (tie.spec
     Inv-loop
     μ-loop
-    nothing-shown-requires
     none-requires
     loop-holds
     check-entry-requires
