@@ -11,7 +11,7 @@ use lib.ListN.{length, getD, drop, drop-of-length-le}
 use lib.Seq.{drop-cons}
 use borrow.Author.Tests.{eq-eqb, ne-eqb}
 use Rattle.meaning.specs.declared.FieldRow.{FieldRow}
-use Rattle.meaning.specs.Kinds.{sameBytes, ofKind}
+use Rattle.meaning.specs.Kinds.{sameBytes, isAlnum, ofKind}
 use Rattle.meaning.specs.Tables.{rowLabel}
 use Rattle.meaning.specs.FieldTable.{fieldTable, fieldRowIn, fieldRow, hasLength, fitsRow, fitsLabel}
 use Rattle.meaning.proofs.Bools.{and-no}
@@ -39,6 +39,11 @@ module _ (field l : ℕ) (c : List ℕ) (e : field ≡ fieldCode (fieldRow l)) w
   -- a length that fits: the kind decides
   pub fits-kind : lengthFits field (length c) ≡ true → (kind : ℕ) (b : Bool) → kind ≡ kindIn field → b ≡ ofKind (kindOf kind) c → fitsLabel l c ≡ b
   fits-kind n kind b k q = rw (fits-code, n, ← k) (sym q)
+
+  -- .. and any bytes are alphanumeric
+  pub fits-any : lengthFits field (length c) ≡ true → (kind : ℕ) → kind ≡ kindIn field → kind ≡ 0 → fitsLabel l c ≡ true
+  unfolding ofKind isAlnum kindOf
+  fits-any n kind k z = fits-kind n kind true k (rw z)
 
 -- ---- the same bytes
 

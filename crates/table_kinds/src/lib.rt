@@ -119,7 +119,12 @@ pub fn fits_label(label: usize, content: &[u8]) -> bool
 {
     let field = table_fields::field_code(label);
     if has_length(field, content.len()) {
-        return of_kind(table_fields::kind_of(field), content);
+        let kind = table_fields::kind_of(field);
+        // "alnum: any content bytes."
+        if kind == table_fields::ALNUM {
+            return true;
+        }
+        return of_kind(kind, content);
     }
     false
 }
