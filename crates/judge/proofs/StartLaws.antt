@@ -1,12 +1,10 @@
--- Laws of the walk's ends, 8 to 10 and 17, for the proofs of the functions around the pass: what each `return` has to show.
-use mathlib.Core.Path.{_≡_, refl, sym, ap, _∙_, subst}
-use mathlib.Core.Bool.{Bool, true, false, cond}
+-- Laws of the walk's ends, 8 to 17, for the proofs of the functions around the pass: what each `return` has to show.
+use mathlib.Core.Path.{_≡_, refl, sym, ap, ap₂, _∙_}
 use mathlib.Core.List.{List}
-use Prim.Native.Nat.{ℕ, _+_, _-_}
+use Prim.Native.Nat.{ℕ, _+_, _-_, _≤_, _<_}
 use native.Mathlib.Omega.{arith}
-use lib.Dec.{leb, eqb}
 use lib.ListN.{length, take, drop}
-use borrow.Author.Tests.{eq-eqb, ne-eqb, le-leb}
+use borrow.Author.Tests.{eq-eqb, ne-eqb, le-leb, lt-leb}
 use Rattle.meaning.specs.declared.Refusal.{Refusal}
 use Rattle.meaning.specs.declared.Judged.{Judged}
 use Rattle.meaning.specs.declared.Judged.the-variants.{Accepted}
@@ -14,169 +12,166 @@ use Rattle.meaning.specs.declared.Known.{Known}
 use Rattle.meaning.specs.declared.Known.the-variants.{Of, Nothing}
 use Rattle.meaning.specs.declared.SetType.{SetType}
 use Rattle.meaning.specs.Limits.{maxLines, typeNumber}
-use Rattle.meaning.specs.Refusals.{refusal, empty, noStart, unknownSet, noSum}
-use Rattle.meaning.specs.Lines.{lengthDigits, labelDigits}
+use Rattle.meaning.specs.Refusals.{refusal, empty, noStart, unknownSet, noSum, badContent, badSum}
+use Rattle.meaning.specs.Lines.{lengthDigits, lineLead}
+use Rattle.meaning.specs.FieldTable.{fitsLabel}
 use Rattle.meaning.specs.Rules.{typeNamed}
-use Rattle.meaning.specs.Answers.{orElse}
+use Rattle.meaning.specs.Lists.{sumDigits}
+use Rattle.meaning.proofs.FirstLaws.{or-bad, or-zero}
 use Rattle.line_read.specs.declared.Number.the-variants.{Is, None}
-use Rattle.line_read.specs.declared.Line.{Line}
 use Rattle.line_read.specs.declared.Line.the-variants.{Read, Refused}
 use Rattle.line_read.specs.Number.{numberAt}
-use Rattle.line_read.specs.Line.{lineAt, lineContent}
-use Rattle.line_read.proofs.LineMeaning.{read-back, label-read}
+use Rattle.line_read.specs.Line.{lineAt, lineContent, sumLine}
+use Rattle.line_read.specs.Told.{threeBytes, threeZeros, fourBytes, fourZeros}
+use Rattle.line_read.proofs.LineMeaning.{read-back}
+use Rattle.line_read.proofs.ToldLaws.{read-bytes}
 use Rattle.line_scan.specs.declared.Scan.{Scan}
 use Rattle.line_scan.specs.declared.Scan.the-variants.{Done}
-use Rattle.line_scan.specs.Scan.{endsAt, scanFrom, scanSet, Stops}
-use Rattle.line_scan.proofs.ScanWalkLaws.{scan-bad, scan-further, scan-first, stops-unread, CountsFrom, scan-counts}
-use Rattle.line_scan.proofs.ScanMeaning.{ends-label}
-use Rattle.judge_start.specs.Sum.{sumWalk}
-use Rattle.judge_lines.specs.Pass.{afterLine, passSet, firstUnread, scanUnless, passed}
-use Rattle.judge.specs.Walks.{ruledWalk, secondBy, secondWalk, asJudged, typedBy, firstBy, linesWalk, judgedScan, judgeWalk}
-
--- ---- what the scan leaves to be judged
-
--- a refusal stands if all lines are read
-pub stands : (x : Scan) (r : Refusal) (f : ℕ → ℕ → Judged) → ((total lines : ℕ) → f total lines ≡ Judged.Refused r) → Judged.Refused (firstUnread x r) ≡ judgedScan x f
-stands (Done total lines) r f h = sym (h total lines)
-stands (Scan.Refused q) r f h = refl
-
-scan-same : (x : Scan) (f g : ℕ → ℕ → Judged) → ((total lines : ℕ) → f total lines ≡ g total lines) → judgedScan x f ≡ judgedScan x g
-scan-same (Done total lines) f g h = h total lines
-scan-same (Scan.Refused q) f g h = refl
-
--- ---- 11 to 17
-
-module _ (s : List ℕ) (settype : SetType) (at : ℕ) where
-  -- 17 after the pass
-  pub summed-is : (x : Scan) → judgedScan (passed s settype x) (λ total lines. asJudged (sumWalk s at total) settype total lines)
-      ≡ judgedScan x (λ total lines. asJudged (ruledWalk s settype at total lines) settype total lines)
-  unfolding scanUnless orElse asJudged
-  summed-is (Scan.Refused q) = refl
-  summed-is (Done total lines) = go (eqb (P .no) 0) refl
-    where
-      P : Refusal
-      P = passSet s settype lines
-
-      go : (b : Bool) → eqb (P .no) 0 ≡ b
-          → judgedScan (cond b (Done total lines) (Scan.Refused P)) (λ total lines. asJudged (sumWalk s at total) settype total lines)
-          ≡ asJudged (cond b (sumWalk s at total) P) settype total lines
-      go true e = refl
-      go false e = sym (rw e)
+use Rattle.line_scan.specs.Scan.{scanFrom, scanSet}
+use Rattle.line_scan.proofs.ScanWalkLaws.{scan-first}
+use Rattle.judge_start.specs.Sum.{sumWritten, isSum, sumWalk}
+use Rattle.judge_start.proofs.TypeAndSumLaws.{sum-number, sum-fitting, sum-right, sum-wrong}
+use Rattle.judge_lines.specs.Pass.{passSet, Started}
+use Rattle.judge_lines.proofs.LineLoopLaws.{Stands, stands-there, second-refused}
+use Rattle.judge.specs.Walks.{ruledWalk, secondBy, secondWalk, asJudged, typedBy, firstBy, linesWalk, judgeWalk}
 
 -- the answer by a refusal that is one, and by none
-pub judged-bad : (r q : Refusal) (settype : SetType) (total lines : ℕ) → r ≡ q → (r .no ≡ 0 → ⊥) → Judged.Refused r ≡ asJudged q settype total lines
+judged-bad : (r q : Refusal) (settype : SetType) (total lines : ℕ) → r ≡ q → (r .no ≡ 0 → ⊥) → Judged.Refused r ≡ asJudged q settype total lines
 unfolding asJudged
 judged-bad r q settype total lines e g = rw (← e, ne-eqb (r .no) 0 g)
 
-pub judged-good : (r q : Refusal) (settype : SetType) (total lines k : ℕ) → r ≡ q → r .no ≡ 0 → k ≡ typeNumber settype
+judged-good : (r q : Refusal) (settype : SetType) (total lines k : ℕ) → r ≡ q → r .no ≡ 0 → k ≡ typeNumber settype
     → Accepted (record { length = total; lines = lines; settype = k }) ≡ asJudged q settype total lines
 unfolding asJudged
 judged-good r q settype total lines k e g h = rw (← e, g, h)
 
--- ---- 10 to 17, if line 1 ends at `at`
+-- what is known of a set that was read once line 1 names this type, and once line 2 is 8100 and has n bytes; and which walk is left
 
-module _ (s : List ℕ) (settype : SetType) (at : ℕ) (w : lineAt s 0 ≡ Read 8000 at) where
-  -- if line 2 is no 8100, the scan's refusal comes first
-  no-sum : ((total lines : ℕ) → scanFrom s at 1 (maxLines - 1) ≡ Done total lines → typedBy s (Of settype) at total lines ≡ Judged.Refused (refusal noSum at 0))
-      → Judged.Refused (firstUnread (scanFrom s at 1 (maxLines - 1)) (refusal noSum at 0)) ≡ judgedScan (scanSet s) (λ total lines. typedBy s (Of settype) at total lines)
-  no-sum h = go (scanFrom s at 1 (maxLines - 1)) refl ∙ ap (λ (x : Scan). judgedScan x (λ total lines. typedBy s (Of settype) at total lines)) (sym (scan-first s w))
-    where
-      go : (x : Scan) → scanFrom s at 1 (maxLines - 1) ≡ x → Judged.Refused (firstUnread x (refusal noSum at 0)) ≡ judgedScan x (λ total lines. typedBy s (Of settype) at total lines)
-      go (Done total lines) e = sym (h total lines e)
-      go (Scan.Refused q) e = refl
+pub record Typed (s : List ℕ) (l at total lines : ℕ) (settype : SetType) : Type 0 where
+  start-line : lineAt s 0 ≡ Read 8000 at
+  named : typeNamed (lineContent s 0 at) ≡ Of settype
+  scanned : scanSet s ≡ Done total lines
+  by-second : asJudged (secondWalk s settype at total lines) settype total lines ≡ firstBy s l at total lines
 
-  -- no line 2
-  short : (total lines : ℕ) → lines ≡ 1 → typedBy s (Of settype) at total lines ≡ Judged.Refused (refusal noSum at 0)
-  unfolding secondWalk asJudged
-  short total lines e = rw e
+pub record Summed (s : List ℕ) (l at total lines : ℕ) (settype : SetType) (n : ℕ) : Type 0 where
+  typed : Typed s l at total lines settype
+  both : 2 ≤ lines
+  sum-line : lineAt s at ≡ Read 8100 n
+  by-rules : asJudged (ruledWalk s settype at total lines) settype total lines ≡ firstBy s l at total lines
 
-  -- the bytes of its label do not write 8100
-  not-second : (numberAt s (at + lengthDigits) labelDigits ≡ Is 8100 → ⊥)
-      → Judged.Refused (firstUnread (scanFrom s at 1 (maxLines - 1)) (refusal noSum at 0)) ≡ judgedScan (scanSet s) (λ total lines. typedBy s (Of settype) at total lines)
-  unfolding secondWalk secondBy asJudged
-  not-second h = no-sum (λ total lines e. go total lines e (lineAt s at) refl)
-    where
-      other : (total lines l n : ℕ) → lineAt s at ≡ Read l n → (l ≡ 8100 → ⊥) → (b : Bool)
-          → asJudged (cond b (afterLine (lineAt s at) (λ l n. secondBy s settype at total lines l)) (refusal noSum at 0)) settype total lines ≡ Judged.Refused (refusal noSum at 0)
-      other total lines l n q z true = rw (q, ne-eqb l 8100 z)
-      other total lines l n q z false = refl
+-- ---- 8 to 17, of a set that was read, whose line 1 has label l and ends at `at`
 
-      go : (total lines : ℕ) → scanFrom s at 1 (maxLines - 1) ≡ Done total lines → (x : Line) → lineAt s at ≡ x → typedBy s (Of settype) at total lines ≡ Judged.Refused (refusal noSum at 0)
-      go total lines e (Refused r) q = short total lines (subst (Stops 1) e (stops-unread s at 1 (omega arith) q))
-      go total lines e (Read l n) q = other total lines l n q (λ z. h (label-read s at q ∙ ap Is z)) (leb 2 lines)
-
-  pub second-none : numberAt s (at + lengthDigits) labelDigits ≡ None
-      → Judged.Refused (firstUnread (scanFrom s at 1 (maxLines - 1)) (refusal noSum at 0)) ≡ judgedScan (scanSet s) (λ total lines. typedBy s (Of settype) at total lines)
-  second-none q = not-second (λ z. let y : _≡_ {A = ℕ} 0 1 = cc in omega arith)
-
-  module _ (l : ℕ) (q : numberAt s (at + lengthDigits) labelDigits ≡ Is l) where
-    pub second-other : (l ≡ 8100 → ⊥)
-        → Judged.Refused (firstUnread (scanFrom s at 1 (maxLines - 1)) (refusal noSum at 0)) ≡ judgedScan (scanSet s) (λ total lines. typedBy s (Of settype) at total lines)
-    second-other h = not-second (λ z. h cc)
-
-    pub second-summed : l ≡ 8100 → judgedScan (scanSet s) (λ total lines. asJudged (ruledWalk s settype at total lines) settype total lines)
-        ≡ judgedScan (scanSet s) (λ total lines. typedBy s (Of settype) at total lines)
-    unfolding secondWalk secondBy
-    second-summed h = subst (λ (x : Scan). judgedScan x f ≡ judgedScan x g) (sym (scan-first s w)) (by-line (lineAt s at) refl)
-      where
-        f : ℕ → ℕ → Judged
-        f total lines = asJudged (ruledWalk s settype at total lines) settype total lines
-
-        g : ℕ → ℕ → Judged
-        g total lines = typedBy s (Of settype) at total lines
-
-        goes-on : endsAt s at ≡ false
-        goes-on = ends-label s at q ∙ ne-eqb l 8000 (λ z. omega arith)
-
-        go : (l′ n : ℕ) → lineAt s at ≡ Read l′ n → l′ ≡ 8100 → (x : Scan) → CountsFrom 2 x → judgedScan x f ≡ judgedScan x g
-        go l′ n e z (Scan.Refused r) c = refl
-        go l′ n e z (Done total lines) c = sym (rw (le-leb 2 lines c, e, eq-eqb l′ 8100 z))
-
-        by-line : (x : Line) → lineAt s at ≡ x → judgedScan (scanFrom s at 1 (maxLines - 1)) f ≡ judgedScan (scanFrom s at 1 (maxLines - 1)) g
-        by-line (Refused r) e = rw (scan-bad s at 1 (omega arith) goes-on e)
-        by-line (Read l′ n) e =
-            let z : Is l′ ≡ Is l = sym (label-read s at e) ∙ q in
-            let y : l′ ≡ 8100 = cc in
-            rw (scan-further s at 1 (omega arith) goes-on e) (go l′ n e y (scanFrom s (at + n) 2 (maxLines - 2)) (scan-counts s (maxLines - 2) (at + n) 2))
-
--- ---- 8 to 17
-
-module _ (s : List ℕ) (l n : ℕ) (q : lineAt s 0 ≡ Read l n) where
-  unread-as : (r : Refusal) → ((total lines : ℕ) → firstBy s l n total lines ≡ Judged.Refused r)
-      → Judged.Refused (firstUnread (scanFrom s n 1 (maxLines - 1)) r) ≡ judgedScan (scanSet s) (λ total lines. firstBy s l n total lines)
-  unread-as r h = ap (λ (x : Scan). Judged.Refused (firstUnread x r)) (sym (scan-first s q)) ∙ stands (scanSet s) r (λ total lines. firstBy s l n total lines) h
-
-  pub first-other : (l ≡ 8000 → ⊥) → Judged.Refused (firstUnread (scanFrom s n 1 (maxLines - 1)) (refusal noStart 0 0))
-      ≡ judgedScan (scanSet s) (λ total lines. firstBy s l n total lines)
+module _ (s : List ℕ) (l at total lines : ℕ) (q : lineAt s 0 ≡ Read l at) where
+  pub first-other : (l ≡ 8000 → ⊥) → Judged.Refused (refusal noStart 0 0) ≡ firstBy s l at total lines
   unfolding firstBy
-  first-other h = unread-as (refusal noStart 0 0) (λ total lines. rw (ne-eqb l 8000 h))
+  first-other h = rw (ne-eqb l 8000 h)
 
-  module _ (h : l ≡ 8000) (k : Known) (e : k ≡ typeNamed (take (n - 2 - 7) (drop 7 s))) where
+  module _ (h : l ≡ 8000) (k : Known) (e : k ≡ typeNamed (take (at - 2 - 7) (drop 7 s))) where
     -- k is the type that line 1 names
-    named-so : k ≡ typeNamed (lineContent s 0 n)
+    named-so : k ≡ typeNamed (lineContent s 0 at)
     named-so =
-        let m : n - 2 - 7 ≡ n - 9 = omega (arith, read-back s 0 q .least) in
+        let m : at - 2 - 7 ≡ at - 9 = omega (arith, read-back s 0 q .least) in
         e ∙ ap (λ (m : ℕ). typeNamed (take m (drop 7 s))) m
 
-    type-so : (total lines : ℕ) → firstBy s l n total lines ≡ typedBy s k n total lines
+    type-so : typedBy s k at total lines ≡ firstBy s l at total lines
     unfolding firstBy
-    type-so total lines = rw (eq-eqb l 8000 h) (ap (λ (x : Known). typedBy s x n total lines) (sym named-so))
+    type-so = sym (rw (eq-eqb l 8000 h) (ap (λ (x : Known). typedBy s x at total lines) (sym named-so)))
 
-    pub first-untyped : k ≡ Nothing → Judged.Refused (firstUnread (scanFrom s n 1 (maxLines - 1)) (refusal unknownSet 0 0))
-        ≡ judgedScan (scanSet s) (λ total lines. firstBy s l n total lines)
-    first-untyped z = unread-as (refusal unknownSet 0 0) (λ total lines. type-so total lines ∙ ap (λ (x : Known). typedBy s x n total lines) z)
+    pub first-untyped : k ≡ Nothing → Judged.Refused (refusal unknownSet 0 0) ≡ firstBy s l at total lines
+    first-untyped z = ap (λ (x : Known). typedBy s x at total lines) (sym z) ∙ type-so
 
-    module _ (settype : SetType) (z : k ≡ Of settype) where
-      pub first-start : lineAt s 0 ≡ Read 8000 n
-      first-start = q ∙ ap (λ (x : ℕ). Read x n) h
+    pub first-typed : (settype : SetType) → k ≡ Of settype → scanSet s ≡ Done total lines → Typed s l at total lines settype
+    first-typed settype z d = record {
+      start-line = q ∙ ap (λ (x : ℕ). Read x at) h;
+      named = sym named-so ∙ z;
+      scanned = d;
+      by-second = ap (λ (x : Known). typedBy s x at total lines) (sym z) ∙ type-so;
+    }
 
-      pub first-named : typeNamed (lineContent s 0 n) ≡ Of settype
-      first-named = sym named-so ∙ z
+-- ---- 10 to 17, if line 1 names a type
 
-      pub first-typed : judgedScan (scanSet s) (λ total lines. typedBy s (Of settype) n total lines) ≡ judgedScan (scanSet s) (λ total lines. firstBy s l n total lines)
-      first-typed =
-          scan-same (scanSet s) (λ total lines. typedBy s (Of settype) n total lines) (λ total lines. firstBy s l n total lines)
-          (λ total lines. sym (type-so total lines ∙ ap (λ (x : Known). typedBy s x n total lines) z))
+module _ {s : List ℕ} {l at total lines : ℕ} {settype : SetType} (t : Typed s l at total lines settype) where
+  -- no line 2
+  pub no-second : lines < 2 → Judged.Refused (refusal noSum at 0) ≡ firstBy s l at total lines
+  unfolding secondWalk
+  no-second f = judged-bad _ _ settype total lines (sym (rw (lt-leb 2 lines f))) (λ z. omega arith) ∙ t .by-second
+
+  -- line 2 is read
+  module _ (two : 2 ≤ lines) where
+    there : (l₂ : ℕ) × ((n : ℕ) × Stands s at 1 l₂ n)
+    there = stands-there s at 1 (omega arith) (sym (scan-first s (t .start-line)) ∙ t .scanned) (omega arith)
+
+    pub second-bytes : (at + lineLead ≤ length s) × (threeZeros ≤ threeBytes s at) × (fourZeros ≤ fourBytes s (at + lengthDigits))
+    second-bytes =
+        let b = read-bytes s at (there .1 .1 .1) in
+        (b .0, omega (arith, b .1), omega (arith, b .2))
+
+    module _ {l₂ : ℕ} (label-so : l₂ ≡ fourBytes s (at + lengthDigits) - fourZeros) where
+      second-so : lineAt s at ≡ Read l₂ (there .1 .0)
+      second-so =
+          let w = there .1 .1 in
+          let x : there .0 ≡ l₂ = omega (arith, read-bytes s at (w .1) .2) in
+          w .1 ∙ ap (λ (y : ℕ). Read y (there .1 .0)) x
+
+      by-label : asJudged (secondBy s settype at total lines l₂) settype total lines ≡ firstBy s l at total lines
+      unfolding secondWalk
+      by-label = ap (λ (x : Refusal). asJudged x settype total lines) (sym (rw (le-leb 2 lines two, second-so))) ∙ t .by-second
+
+      pub second-other : (l₂ ≡ 8100 → ⊥) → Judged.Refused (refusal noSum at 0) ≡ firstBy s l at total lines
+      unfolding secondBy
+      second-other f = judged-bad _ _ settype total lines (sym (rw (ne-eqb l₂ 8100 f))) (λ z. omega arith) ∙ by-label
+
+      pub second-sum : l₂ ≡ 8100 → {n : ℕ} → n ≡ threeBytes s at - threeZeros → Summed s l at total lines settype n
+      unfolding secondBy
+      second-sum g {n} size-so =
+          let y : there .1 .0 ≡ n = omega (arith, read-bytes s at (there .1 .1 .1) .1) in
+          record {
+            typed = t;
+            both = two;
+            sum-line = second-so ∙ ap₂ Read g y;
+            by-rules = ap (λ (x : Refusal). asJudged x settype total lines) (sym (rw (eq-eqb l₂ 8100 g))) ∙ by-label;
+          }
+
+-- ---- 11 to 17, if line 2 is 8100
+
+module _ {s : List ℕ} {l at total lines : ℕ} {settype : SetType} {n : ℕ} (m : Summed s l at total lines settype n) where
+  fitting : fitsLabel 8100 (lineContent s at n) ≡ isSum (sumWritten s at n)
+  fitting = sum-fitting s at n (read-back s at (m .sum-line) .within)
+
+  -- the pass refuses
+  pub rules-bad : {r : Refusal} → r ≡ passSet s settype lines → (r .no ≡ 0 → ⊥) → Judged.Refused r ≡ firstBy s l at total lines
+  rules-bad {r} p b = judged-bad r _ settype total lines (sym (rw (← p) (or-bad r (sumWalk s at total) b))) b ∙ m .by-rules
+
+  -- no sum: 14
+  pub sum-missing : sumWritten s at n ≡ None → Judged.Refused (refusal badContent at 8100) ≡ firstBy s l at total lines
+  sum-missing w =
+      rules-bad (second-refused s settype at n (m .typed .start-line) (m .typed .named) (m .sum-line) (m .both) (m .typed .scanned) (fitting ∙ ap isSum w)) (λ z. omega arith)
+
+  -- a sum: the pass starts after line 2, and then 17 is asked
+  module _ {sum : ℕ} (w : sumWritten s at n ≡ Is sum) where
+    number : (n ≡ sumLine) × (numberAt s (at + lineLead) sumDigits ≡ Is sum)
+    number = sum-number s at n sum w
+
+    pub pass-starts : Started s settype at lines
+    pass-starts = record {
+      first-so = m .typed .start-line;
+      named = m .typed .named;
+      second-so = m .sum-line ∙ ap (Read 8100) (number .0);
+      fits-so = ap (λ (k : ℕ). fitsLabel 8100 (lineContent s at k)) (sym (number .0)) ∙ (fitting ∙ ap isSum w);
+      both = m .both;
+      total = total;
+      scanned = m .typed .scanned;
+    }
+
+    module _ {r : Refusal} (p : r ≡ passSet s settype lines) (b : r .no ≡ 0) where
+      after : sumWalk s at total ≡ ruledWalk s settype at total lines
+      after = sym (rw (← p) (or-zero r (sumWalk s at total) b))
+
+      pub sum-bad : (sum ≡ total → ⊥) → Judged.Refused (refusal badSum at 0) ≡ firstBy s l at total lines
+      sum-bad f = judged-bad _ _ settype total lines (sum-wrong s at total sum (number .1) f ∙ after) (λ z. omega arith) ∙ m .by-rules
+
+      pub sum-good : sum ≡ total → {k : ℕ} → k ≡ typeNumber settype → Accepted (record { length = total; lines = lines; settype = k }) ≡ firstBy s l at total lines
+      sum-good f {k} e = judged-good _ _ settype total lines k (sum-right s at total sum (number .1) f ∙ after) refl e ∙ m .by-rules
 
 -- ---- 1 to 17
 
@@ -189,6 +184,15 @@ module _ (s : List ℕ) (h : length s ≡ 0 → ⊥) where
   unfolding judgeWalk scanSet
   judge-unread r q = rw (ne-eqb (length s) 0 h, q)
 
-  pub judge-read : (l n : ℕ) → lineAt s 0 ≡ Read l n → judgedScan (scanSet s) (λ total lines. firstBy s l n total lines) ≡ judgeWalk s
+module _ (s : List ℕ) (l n : ℕ) (q : lineAt s 0 ≡ Read l n) where
+  -- the scan after line 1
+  pub scan-later : {x : Scan} → scanFrom s n 1 (maxLines - 1) ≡ x → scanSet s ≡ x
+  scan-later e = scan-first s q ∙ e
+
+  pub judge-refused : {r : Refusal} → scanSet s ≡ Scan.Refused r → Judged.Refused r ≡ judgeWalk s
+  unfolding judgeWalk
+  judge-refused e = sym (rw e)
+
+  pub judge-read : {total lines : ℕ} → scanSet s ≡ Done total lines → firstBy s l n total lines ≡ judgeWalk s
   unfolding judgeWalk linesWalk
-  judge-read l n q = scan-same (scanSet s) (λ total lines. firstBy s l n total lines) (λ total lines. linesWalk s total lines) (λ total lines. sym (rw q))
+  judge-read e = sym (rw (e, q))

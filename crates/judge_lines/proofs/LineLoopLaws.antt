@@ -1,55 +1,62 @@
--- One loop scans the lines and judges them: at each line start it stands for the scan of the whole set, and for the pass over it (`Along`).
-use mathlib.Core.Path.{_≡_, refl, sym, ap, _∙_, subst}
-use mathlib.Core.Bool.{Bool, true, false, cond}
+-- The loop judges the lines of a set that was read: at each line start it stands for the scan of the whole set, and for the pass over it (`Along`).
+use mathlib.Core.Path.{_≡_, refl, sym, ap, ap₂, _∙_}
+use mathlib.Core.Bool.{Bool, true, false, cond, true≢false}
 use mathlib.Core.List.{List}
 use Prim.Native.Nat.{ℕ, suc, _+_, _-_, _≤_, _<_}
 use native.Mathlib.Nat.{zero-add, add-zero}
 use native.Mathlib.Omega.{arith}
+use lib.Dec.{leb}
 use lib.ListN.{length, take}
-use borrow.Author.Tests.{eq-eqb, ne-eqb}
+use borrow.Author.Tests.{eq-eqb, ne-eqb, leb-true, leb-false}
 use Rattle.meaning.specs.declared.Refusal.{Refusal}
 use Rattle.meaning.specs.declared.Known.the-variants.{Of}
 use Rattle.meaning.specs.declared.SetType.{SetType}
 use Rattle.meaning.specs.Limits.{maxLines}
-use Rattle.meaning.specs.Refusals.{refusal, highByte}
+use Rattle.meaning.specs.Refusals.{refusal, badContent}
+use Rattle.meaning.specs.Lines.{lengthDigits, lineLead}
+use Rattle.meaning.specs.FieldTable.{fitsLabel}
 use Rattle.meaning.specs.Rules.{typeNamed}
 use Rattle.meaning.specs.Answers.{noRefusal}
 use Rattle.line_read.specs.declared.Line.{Line}
 use Rattle.line_read.specs.declared.Line.the-variants.{Read}
-use Rattle.line_read.specs.Line.{lineAt, lineContent}
+use Rattle.line_read.specs.Line.{lineAt, lineContent, sumLine}
+use Rattle.line_read.specs.Told.{threeBytes, threeZeros, fourBytes, fourZeros}
 use Rattle.line_read.proofs.LineMeaning.{read-back}
-use Rattle.line_scan.specs.declared.Scan.{Scan}
+use Rattle.line_read.proofs.ToldLaws.{read-bytes}
 use Rattle.line_scan.specs.declared.Scan.the-variants.{Done, Refused}
-use Rattle.line_scan.specs.Scan.{Stops, scanFrom, scanSet}
-use Rattle.line_scan.proofs.ScanWalkLaws.{scan-done, scan-further, scan-first, stops-full, stops-unread, CountsFrom, scan-counts, EndsFrom, scan-ends}
+use Rattle.line_scan.specs.Scan.{endsAt, scanFrom, scanSet}
+use Rattle.line_scan.proofs.ScanWalkLaws.{scan-done, scan-full, scan-bad, scan-further, scan-first}
 use Rattle.line_scan.proofs.ScanMeaning.{ends-read}
 use Rattle.line_seven.specs.Seven.{highInSet}
-use Rattle.judge_missing.specs.Lacks.{Flagged, noFlags, noneSeen, seen, finish, finishThen, flaggedOf}
-use Rattle.judge_missing.proofs.FinishLaws.{lacks-first, then-high}
+use Rattle.judge_missing.specs.Lacks.{Flagged, noFlags, noneSeen, finishThen, flaggedOf}
 use Rattle.judge_line.specs.declared.Step.{Step}
 use Rattle.judge_line.specs.Steps.{rowOf, Stepped}
-use Rattle.judge_line.proofs.StartRows.{startGroup, startTop, start-step}
-use Rattle.judge_lines.specs.declared.LineOrEnd.{LineOrEnd}
-use Rattle.judge_lines.specs.Pass.{passFrom, firstUnread, scanUnless, StandsAt, finishedScan, passed}
+use Rattle.judge_line.proofs.StartRows.{startGroup, startTop, start-step, secondGroup, secondTop, second-step, second-unfit}
+use Rattle.judge_lines.specs.Pass.{passFrom, passSet, Started}
 use Rattle.judge_lines.proofs.PassLaws.{pass-bad, pass-on}
 
--- ---- what stands at a line start
+-- ---- at a line start: a line of the set that is read, with k lines before it
 
-module _ (s : List ℕ) (at k : ℕ) where
-  -- no line of this set: 512 lines are read, the line is refused, or it starts another set
-  pub end-full : maxLines ≤ k → StandsAt s at k LineOrEnd.End
-  end-full h = stops-full s at k h
+abbrev pub Stands : List ℕ → ℕ → ℕ → ℕ → ℕ → Type 0
+Stands s at k l n = (k < maxLines) × (lineAt s at ≡ Read l n) × (l ≡ 8000 → ⊥)
 
-  module _ (h : k < maxLines) where
-    pub end-unread : {r : Refusal} → lineAt s at ≡ Line.Refused r → StandsAt s at k LineOrEnd.End
-    end-unread q = stops-unread s at k h q
+-- a scan that is done and counts more than k lines reads one there
+pub stands-there : (s : List ℕ) (at k : ℕ) → k ≤ maxLines → {total lines : ℕ} → scanFrom s at k (maxLines - k) ≡ Done total lines → k < lines → (l : ℕ) × ((n : ℕ) × Stands s at k l n)
+stands-there s at k few {total} {lines} q h = go (endsAt s at) refl (leb maxLines k) refl (lineAt s at) refl
+  where
+    -- a scan that is refused is not done
+    not-done : {r : Refusal} → Refused r ≡ Done total lines → ⊥
+    not-done e = let z : _≡_ {A = ℕ} 0 1 = cc in omega arith
 
-    pub end-start : {l n : ℕ} → lineAt s at ≡ Read l n → l ≡ 8000 → StandsAt s at k LineOrEnd.End
-    end-start q z = subst (Stops k) (sym (scan-done s at k (maxLines - k) (ends-read s at q ∙ eq-eqb _ 8000 z))) refl
-
-    -- one more line
-    pub line-next : {l n : ℕ} → lineAt s at ≡ Read l n → (l ≡ 8000 → ⊥) → StandsAt s at k (LineOrEnd.Line l n)
-    line-next q z = (h, q, z)
+    go : (b : Bool) → endsAt s at ≡ b → (d : Bool) → leb maxLines k ≡ d → (x : Line) → lineAt s at ≡ x → (l : ℕ) × ((n : ℕ) × Stands s at k l n)
+    go true e d f x w =
+        let z : Done at k ≡ Done total lines = sym (scan-done s at k (maxLines - k) e) ∙ q in
+        let y : k ≡ lines = cc in
+        absurd (omega arith)
+    go false e true f x w = absurd (not-done (sym (scan-full s at k (leb-true maxLines k f) e) ∙ q))
+    go false e false f (Line.Refused r) w = absurd (not-done (sym (scan-bad s at k (leb-false maxLines k f) e w) ∙ q))
+    go false e false f (Read l n) w =
+        (l, (n, (leb-false maxLines k f, w, λ z. true≢false (sym (ends-read s at w ∙ eq-eqb l 8000 z) ∙ e))))
 
 -- ---- at a line start: the scan from here on is the scan of the set, and the pass from here on is the pass over the set
 
@@ -73,91 +80,92 @@ along-start s settype at q t {lack} e {top} f = rw (e, f) (record {
       ∙ ap (λ (x : ℕ). passFrom s settype x (flaggedOf startGroup noFlags startTop) noRefusal m) (zero-add at)));
 })
 
-module _ {s : List ℕ} {settype : SetType} {at k : ℕ} {st : Flagged} {lack : Refusal} (a : Along s settype at k st lack) {x : LineOrEnd} (h : StandsAt s at k x) where
-  -- no line of the set is left
-  pub along-end : x ≡ LineOrEnd.End → finishedScan (λ total. finishThen settype st lack (highInSet (take total s))) (scanFrom s at k (maxLines - k)) ≡ passed s settype (scanSet s)
+module _ {s : List ℕ} {settype : SetType} {at k : ℕ} {st : Flagged} {lack : Refusal} (a : Along s settype at k st lack) where
+  -- after the last line
+  pub along-end : {lines : ℕ} → k ≡ lines → finishThen settype st lack (highInSet (take at s)) ≡ passSet s settype lines
   unfolding passFrom
-  along-end e = go (scanFrom s at k (maxLines - k)) (subst (StandsAt s at k) e h) (scan-ends s (maxLines - k) at k) ∙ ap (passed s settype) (a .scan-so)
-    where
-      go : (x : Scan) → Stops k x → EndsFrom s at k x → finishedScan (λ total. finishThen settype st lack (highInSet (take total s))) x ≡ passed s settype x
-      go (Refused u) c d = refl
-      go (Done total lines) c d =
-          ap (λ (n : ℕ). scanUnless (finishThen settype st lack (highInSet (take n s))) total lines) (d .1 c)
-          ∙ ap (λ (x : Refusal). scanUnless x total lines) (a .pass-so 0 ∙ ap (passFrom s settype 0 noneSeen noRefusal) (add-zero k ∙ sym c))
+  along-end e = a .pass-so 0 ∙ ap (passFrom s settype 0 noneSeen noRefusal) (add-zero k ∙ e)
 
-  module _ {l n : ℕ} (e : x ≡ LineOrEnd.Line l n) where
-    found : StandsAt s at k (LineOrEnd.Line l n)
-    found = subst (StandsAt s at k) e h
+  -- one line more is counted, so it is read
+  module _ {total lines : ℕ} (q : scanSet s ≡ Done total lines) (h : k < lines) where
+    there : (l : ℕ) × ((n : ℕ) × Stands s at k l n)
+    there = stands-there s at k (a .few) (a .scan-so ∙ q) h
 
-    -- the line is read
-    line-so : lineAt s at ≡ Read l n
-    line-so = found .1
+    -- what its first seven bytes say
+    pub along-bytes : (at + lineLead ≤ length s) × (threeZeros ≤ threeBytes s at) × (fourZeros ≤ fourBytes s (at + lengthDigits))
+    along-bytes =
+        let b = read-bytes s at (there .1 .1 .1) in
+        (b .0, omega (arith, b .1), omega (arith, b .2))
 
-    pub along-few : k < maxLines
-    along-few = found .0
+    module _ {l n : ℕ} (label-so : l ≡ fourBytes s (at + lengthDigits) - fourZeros) (size-so : n ≡ threeBytes s at - threeZeros) where
+      found : Stands s at k l n
+      found =
+          let w = there .1 .1 in
+          let b = read-bytes s at (w .1) in
+          let x : there .0 ≡ l = omega (arith, b .2) in
+          let y : there .1 .0 ≡ n = omega (arith, b .1) in
+          (w .0, w .1 ∙ ap₂ Read x y, λ z. w .2 (x ∙ z))
 
-    pub along-least : 10 ≤ n
-    along-least = read-back s at line-so .least
+      -- the line is read
+      line-so : lineAt s at ≡ Read l n
+      line-so = found .1
 
-    pub along-within : at + n ≤ length s
-    along-within = read-back s at line-so .within
+      along-few : k < maxLines
+      along-few = found .0
 
-    -- the scan goes on after it
-    scan-after : scanFrom s (at + n) (k + 1) (maxLines - (k + 1)) ≡ scanSet s
-    scan-after = sym (scan-further s at k along-few (ends-read s at line-so ∙ ne-eqb l 8000 (found .2)) line-so) ∙ a .scan-so
+      pub along-least : 10 ≤ n
+      along-least = read-back s at line-so .least
 
-    module _ (r : Step) (members top : List Bool) (q : Stepped (rowOf settype l) settype st lack at l (lineContent s at n) r members top) where
-      pub along-bad : (r .no ≡ 0 → ⊥)
-          → Refused (firstUnread (scanFrom s (at + n) (k + 1) (maxLines - (k + 1))) (refusal (r .no) at l)) ≡ passed s settype (scanSet s)
-      unfolding scanUnless
-      along-bad g = go (scanFrom s (at + n) (k + 1) (maxLines - (k + 1))) (scan-counts s (maxLines - (k + 1)) (at + n) (k + 1)) ∙ ap (passed s settype) scan-after
-        where
-          go : (x : Scan) → CountsFrom (k + 1) x → Refused (firstUnread x (refusal (r .no) at l)) ≡ passed s settype x
-          go (Refused u) c = refl
-          go (Done total lines) c =
-              let m : k + suc (lines - (k + 1)) ≡ lines = omega arith in
-              let w : passFrom s settype 0 noneSeen noRefusal lines ≡ refusal (r .no) at l =
-              ap (passFrom s settype 0 noneSeen noRefusal) (sym m) ∙ (sym (a .pass-so (suc (lines - (k + 1)))) ∙ pass-bad s settype at st lack l n line-so r members top q g (lines - (k + 1))) in
-              sym (rw (w, ne-eqb (r .no) 0 g))
+      pub along-within : at + n ≤ length s
+      along-within = read-back s at line-so .within
 
-      pub along-on : r .no ≡ 0 → Along s settype (at + n) (k + 1) (flaggedOf (r .group) members top) (r .group .lack)
-      along-on g = record {
-        within = along-within;
-        few = omega (arith, along-few);
-        scan-so = scan-after;
-        pass-so = λ m. sym (pass-on s settype at st lack l n line-so r members top q g m) ∙ (a .pass-so (suc m) ∙ ap (passFrom s settype 0 noneSeen noRefusal) (omega arith));
-      }
+      -- the scan goes on after it
+      scan-after : scanFrom s (at + n) (k + 1) (maxLines - (k + 1)) ≡ scanSet s
+      scan-after = sym (scan-further s at k along-few (ends-read s at line-so ∙ ne-eqb l 8000 (found .2)) line-so) ∙ a .scan-so
 
--- ---- after the last line
+      module _ (r : Step) (members top : List Bool) (e : Stepped (rowOf settype l) settype st lack at l (lineContent s at n) r members top) where
+        pub along-bad : (r .no ≡ 0 → ⊥) → refusal (r .no) at l ≡ passSet s settype lines
+        along-bad g =
+            let m : k + suc (lines - (k + 1)) ≡ lines = omega arith in
+            sym (pass-bad s settype at st lack l n line-so r members top e g (lines - (k + 1))) ∙ (a .pass-so (suc (lines - (k + 1))) ∙ ap (passFrom s settype 0 noneSeen noRefusal) m)
 
-pub unless-bad : (r : Refusal) (total lines : ℕ) → (r .no ≡ 0 → ⊥) → Refused r ≡ scanUnless r total lines
-unfolding scanUnless
-unless-bad r total lines g = rw (ne-eqb (r .no) 0 g)
+        pub along-on : r .no ≡ 0 → {j : ℕ} → j ≡ k + 1 → Along s settype (at + n) j (flaggedOf (r .group) members top) (r .group .lack)
+        along-on g {j} one = rw one (record {
+          within = along-within;
+          few = omega (arith, along-few);
+          scan-so = scan-after;
+          pass-so = λ m. sym (pass-on s settype at st lack l n line-so r members top e g m) ∙ (a .pass-so (suc m) ∙ ap (passFrom s settype 0 noneSeen noRefusal) (omega arith));
+        })
 
-pub unless-good : (total lines : ℕ) → Done total lines ≡ scanUnless noRefusal total lines
-unfolding scanUnless
-unless-good total lines = refl
+-- ---- lines 1 and 2
 
--- 16, then what is found after it
-module _ (settype : SetType) (st : Flagged) (lack r high : Refusal) (e : r ≡ finish settype st lack) (total lines : ℕ) where
-  pub lacks-end : (r .no ≡ 0 → ⊥) → Refused r ≡ scanUnless (finishThen settype st lack high) total lines
-  lacks-end g = unless-bad r total lines g ∙ ap (λ (x : Refusal). scanUnless x total lines) (lacks-first settype st lack r high e g)
+-- line 2 as the bytes say it
+second-told : (s : List ℕ) (at : ℕ) {n : ℕ} → lineAt s at ≡ Read 8100 n → (8100 ≡ fourBytes s (at + lengthDigits) - fourZeros) × (n ≡ threeBytes s at - threeZeros)
+second-told s at q =
+    let b = read-bytes s at q in
+    (omega (arith, b .2), omega (arith, b .1))
 
-  pub high-end : r .no ≡ 0 → (x : Scan) → x ≡ scanUnless (cond (seen (st .top) 9206) high noRefusal) total lines → x ≡ scanUnless (finishThen settype st lack high) total lines
-  high-end g x q = q ∙ ap (λ (y : Refusal). scanUnless y total lines) (then-high settype st lack r high e g)
+-- after line 2
+pub along-second : {s : List ℕ} {settype : SetType} {at lines : ℕ} → Started s settype at lines
+    → {lack : Refusal} → lack ≡ noRefusal → {top : List Bool} → top ≡ secondTop → {j : ℕ} → j ≡ 2 → Along s settype (at + sumLine) j (flaggedOf (secondGroup at) noFlags top) lack
+along-second {s} {settype} {at} {lines} w e f two =
+    let told = second-told s at (w .second-so) in
+    rw (e, f) (along-on (along-start s settype at (w .first-so) (w .named) refl refl) (w .scanned) (omega (arith, w .both)) (told .0) (told .1)
+    (record { no = 0; group = secondGroup at }) noFlags secondTop (second-step settype at (lineContent s at sumLine) (w .fits-so)) refl two)
 
--- 24, if 9206 was seen
-module _ (high : Refusal) (b c : Bool) (q : b ≡ c) (total lines : ℕ) where
-  pub not-asked : b ≡ false → Done total lines ≡ scanUnless (cond c high noRefusal) total lines
-  not-asked z = unless-good total lines ∙ ap (λ (x : Bool). scanUnless (cond x high noRefusal) total lines) (sym z ∙ q)
+-- if line 2 has no sum, 14 refuses it
+pub second-refused : (s : List ℕ) (settype : SetType) (at n : ℕ) {total lines : ℕ} → lineAt s 0 ≡ Read 8000 at → typeNamed (lineContent s 0 at) ≡ Of settype → lineAt s at ≡ Read 8100 n
+    → 2 ≤ lines → scanSet s ≡ Done total lines → fitsLabel 8100 (lineContent s at n) ≡ false → refusal badContent at 8100 ≡ passSet s settype lines
+second-refused s settype at n q t w two d e =
+    let told = second-told s at w in
+    along-bad (along-start s settype at q t refl refl) d (omega arith) (told .0) (told .1)
+    (record { no = badContent; group = startGroup }) noFlags startTop (second-unfit settype at (lineContent s at n) e) (λ z. omega arith)
 
-  module _ (z : b ≡ true) where
-    asked : scanUnless high total lines ≡ scanUnless (cond c high noRefusal) total lines
-    asked = ap (λ (x : Bool). scanUnless (cond x high noRefusal) total lines) (sym z ∙ q)
+-- ---- 24, if 9206 was seen
 
-    pub high-told : (r : Refusal) (at : ℕ) → r ≡ refusal highByte at 0 → refusal highByte at 0 ≡ high → Refused r ≡ scanUnless (cond c high noRefusal) total lines
-    high-told r at e f =
-        unless-bad r total lines (λ n. omega (arith, n, ap (λ (x : Refusal). x .no) e)) ∙ (ap (λ (x : Refusal). scanUnless x total lines) (e ∙ f) ∙ asked)
+module _ (high : Refusal) (b c : Bool) (q : b ≡ c) where
+  pub not-asked : b ≡ false → noRefusal ≡ cond c high noRefusal
+  not-asked z = ap (λ (x : Bool). cond x high noRefusal) (sym z ∙ q)
 
-    pub none-high : noRefusal ≡ high → Done total lines ≡ scanUnless (cond c high noRefusal) total lines
-    none-high f = unless-good total lines ∙ (ap (λ (x : Refusal). scanUnless x total lines) f ∙ asked)
+  pub asked : b ≡ true → high ≡ cond c high noRefusal
+  asked z = ap (λ (x : Bool). cond x high noRefusal) (sym z ∙ q)

@@ -1,25 +1,25 @@
 -- 11 to 16, and 24, as the code walks them over the lines of a set: over offsets, with the rows that were seen as flags. proofs/PassLaws ties them to the rules of `meaning`.
-use mathlib.Core.Bool.{cond}
+use mathlib.Core.Bool.{true, cond}
 use mathlib.Core.Path.{_≡_}
 use mathlib.Core.List.{List}
-use Prim.Native.Nat.{ℕ, zero, suc, _+_, _-_, _<_}
+use Prim.Native.Nat.{ℕ, zero, suc, _+_, _≤_}
 use lib.Dec.{eqb}
 use lib.ListN.{take}
 use Rattle.meaning.specs.declared.Refusal.{Refusal}
+use Rattle.meaning.specs.declared.Known.the-variants.{Of}
 use Rattle.meaning.specs.declared.SetType.{SetType}
-use Rattle.meaning.specs.Limits.{maxLines}
 use Rattle.meaning.specs.Refusals.{refusal}
+use Rattle.meaning.specs.FieldTable.{fitsLabel}
+use Rattle.meaning.specs.Rules.{typeNamed}
 use Rattle.meaning.specs.Answers.{noRefusal}
 use Rattle.line_read.specs.declared.Line.{Line}
 use Rattle.line_read.specs.declared.Line.the-variants.{Read, Refused}
-use Rattle.line_read.specs.Line.{lineAt, lineContent}
-use Rattle.line_scan.specs.declared.Scan.{Scan}
+use Rattle.line_read.specs.Line.{lineAt, lineContent, sumLine}
 use Rattle.line_scan.specs.declared.Scan.the-variants.{Done}
-use Rattle.line_scan.specs.Scan.{scanFrom, Stops}
+use Rattle.line_scan.specs.Scan.{scanSet}
 use Rattle.line_seven.specs.Seven.{highInSet}
 use Rattle.judge_missing.specs.Lacks.{Flagged, noneSeen, finishThen}
 use Rattle.judge_line.specs.Steps.{rowOf, lineNo, nextFlagged, staysIn, lackThen}
-use Rattle.judge_lines.specs.declared.LineOrEnd.{LineOrEnd}
 
 -- ---- the pass
 
@@ -40,28 +40,14 @@ passFrom s settype at st lack (suc n) =
 abbrev pub passSet : List ℕ → SetType → ℕ → Refusal
 passSet s settype lines = passFrom s settype 0 noneSeen noRefusal lines
 
--- ---- the scan and the pass at once
+-- ---- where the loop starts
 
--- the refusal of a scan, else r
-abbrev pub firstUnread : Scan → Refusal → Refusal
-firstUnread (Done total lines) r = r
-firstUnread (Scan.Refused q) r = q
-
--- a set that is read, if nothing is refused
-unfoldable pub scanUnless : Refusal → ℕ → ℕ → Scan
-scanUnless r total lines = cond (eqb (r .no) 0) (Done total lines) (Scan.Refused r)
-
--- what is found at a line start that has k lines before it: a line of the set, or that a scan reads no more from there on
-abbrev pub StandsAt : List ℕ → ℕ → ℕ → LineOrEnd → Type 0
-StandsAt s at k (LineOrEnd.Line l n) = (k < maxLines) × (lineAt s at ≡ Read l n) × (l ≡ 8000 → ⊥)
-StandsAt s at k LineOrEnd.End = Stops k (scanFrom s at k (maxLines - k))
-
--- what is found after the last line, by where the set ends, if a scan is done
-abbrev pub finishedScan : (ℕ → Refusal) → Scan → Scan
-finishedScan r (Done total lines) = scanUnless (r total) total lines
-finishedScan r (Scan.Refused q) = Scan.Refused q
-
--- 1 to 7 as the scan found them, then the pass over the lines
-abbrev pub passed : List ℕ → SetType → Scan → Scan
-passed s settype (Done total lines) = scanUnless (passSet s settype lines) total lines
-passed s settype (Scan.Refused r) = Scan.Refused r
+-- lines 1 and 2 of a set that was read and has this many lines: line 1 names this type, and line 2, which stands at `at`, is an 8100 with a sum
+pub record Started (s : List ℕ) (settype : SetType) (at lines : ℕ) : Type 0 where
+  pub first-so : lineAt s 0 ≡ Read 8000 at
+  pub named : typeNamed (lineContent s 0 at) ≡ Of settype
+  pub second-so : lineAt s at ≡ Read 8100 sumLine
+  pub fits-so : fitsLabel 8100 (lineContent s at sumLine) ≡ true
+  pub both : 2 ≤ lines
+  pub total : ℕ
+  pub scanned : scanSet s ≡ Done total lines

@@ -7,6 +7,7 @@ use lib.ListN.{length, getD, take, drop}
 use lib.Dec.{leb, eqb}
 use Rattle.meaning.specs.Refusals.{refusal, badLength, cutLine, badEnd, badLabel, badByte}
 use Rattle.meaning.specs.Lines.{lengthDigits, labelDigits, lineLead, lineEnd, minLineBytes, cr, lf}
+use Rattle.meaning.specs.Lists.{sumDigits}
 use Rattle.byte_low.specs.Low.{firstLow}
 use Rattle.line_read.specs.declared.Line.{Line}
 use Rattle.line_read.specs.declared.Line.the-variants.{Read, Refused}
@@ -45,3 +46,7 @@ lineAt s at = mustRead (numberAt s at lengthDigits) badLength at (λ size. sized
 -- the content of a line of n bytes at an offset
 abbrev pub lineContent : List ℕ → ℕ → ℕ → List ℕ
 lineContent s at n = take (n - (lineLead + lineEnd)) (drop (at + lineLead) s)
+
+-- the bytes of a line 8100 with a sum of five digits
+abbrev pub sumLine : ℕ
+sumLine = lineLead + lineEnd + sumDigits

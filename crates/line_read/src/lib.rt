@@ -26,6 +26,9 @@ const CR_LF: usize = CR as usize + LF as usize * meaning::BYTE_VALUES;
 // "Content has 1 byte or more, so lengths run 010 to 999."
 const MIN_LINE_BYTES: usize = LINE_FRAME + 1;
 
+// The bytes of a line 8100 with a sum of five digits.
+pub const SUM_LINE: usize = LINE_FRAME + meaning::SUM_DIGITS;
+
 // The largest byte that a content usually starts with.
 const USUAL_BYTE: u8 = 253;
 
@@ -100,7 +103,7 @@ fn labelled_line(s: &[u8], at: usize, size: usize, label: usize) -> Line
     // 6, BadByte: "content byte under 20h; place is that byte"
     let content = at + LINE_LEAD;
     let k = size - LINE_FRAME;
-    let low = byte_low::seek_low(s, content, k);
+    let low = byte_low::first_low(s, content, k);
     if low < content + k {
         return refused(Refusal::BAD_BYTE, low);
     }
@@ -211,6 +214,25 @@ pub fn told_label(s: &[u8], at: usize) -> usize
     n - FOUR_ZEROS
 }
 
+// ---- a line that was read before: its whole length and its label
+
+// The whole length that three digits at an offset say. It is made in 32 bits: else the compiler makes it anew for each test of it.
+pub fn size_at(s: &[u8], at: usize) -> usize
+    requires { ⌜ (at + lengthDigits ≤ length (now s)) × (threeZeros ≤ threeBytes (now s) at) ⌝ }
+    ensures { λ r. ⌜ (r ≡ threeBytes (now (s .entry)) at - threeZeros) × (r < 65536) ⌝ }
+{
+    let bytes = three_at(s, at) as u32;
+    (bytes - THREE_ZEROS as u32) as usize
+}
+
+// The label that the four digits after these say.
+pub fn label_at(s: &[u8], at: usize) -> usize
+    requires { ⌜ (at + lineLead ≤ length (now s)) × (fourZeros ≤ fourBytes (now s) (at + lengthDigits)) ⌝ }
+    ensures { λ r. ⌜ r ≡ fourBytes (now (s .entry)) (at + lengthDigits) - fourZeros ⌝ }
+{
+    four_at(s, at + LENGTH_DIGITS) - FOUR_ZEROS
+}
+
 // ---- one line of many
 
 // A byte that usually is the i-th of a line, counted from 0: a digit before the content, and nearly any as its first. Either is asked by two bounds, so that all
@@ -239,15 +261,6 @@ fn usual_lead(s: &[u8], at: usize) -> bool
     fit
 }
 
-// The whole length that three digits at an offset say. It is made in 32 bits: else the compiler makes it anew for each test of it.
-fn size_at(s: &[u8], at: usize) -> usize
-    requires { ⌜ (at + lengthDigits ≤ length (now s)) × (threeZeros ≤ threeBytes (now s) at) ⌝ }
-    ensures { λ r. ⌜ (r ≡ threeBytes (now (s .entry)) at - threeZeros) × (r < 65536) ⌝ }
-{
-    let bytes = three_at(s, at) as u32;
-    (bytes - THREE_ZEROS as u32) as usize
-}
-
 // Two bytes are the end of a line, asked at once.
 fn line_ends(a: u8, b: u8) -> bool
     ensures { λ r. ⌜ (r ≡ true → (a ≡ cr) × (b ≡ lf)) ⌝ }
@@ -255,8 +268,9 @@ fn line_ends(a: u8, b: u8) -> bool
     a as usize + b as usize * meaning::BYTE_VALUES == CR_LF
 }
 
-// The line at an offset keeps 2 to 6: it starts with digits, these say where it ends, and then the rest is tested. A line that is not a usual one may keep them too.
-fn sound_at(s: &[u8], at: usize) -> bool
+// The line at an offset keeps 2 to 6: it starts with digits, these say where it ends, and then the rest is tested. A line that is not a usual one may keep them too. One loop
+// alone calls it, so that it becomes a part of that loop.
+pub fn sound_at(s: &[u8], at: usize) -> bool
     ensures { λ r. ⌜ (r ≡ true → lineAt (now (s .entry)) at ≡ Read (fourBytes (now (s .entry)) (at + lengthDigits) - fourZeros) (threeBytes (now (s .entry)) at - threeZeros)) ⌝ }
 {
     if s.len() < MIN_LINE_BYTES {
@@ -279,18 +293,4 @@ fn sound_at(s: &[u8], at: usize) -> bool
         }
     }
     false
-}
-
-// The same line as `line_at` reads, for a loop over many lines. A line without a fault is the usual one, so that is asked first; only another one is read
-// rule by rule. One loop alone calls it, so that it becomes a part of that loop.
-pub fn usual_line(s: &[u8], at: usize) -> Line
-    ensures { λ r. ⌜ r ≡ lineAt (now (s .entry)) at ⌝ }
-{
-    if sound_at(s, at) {
-        return Line::Read {
-            label: four_at(s, at + LENGTH_DIGITS) - FOUR_ZEROS,
-            size: size_at(s, at),
-        };
-    }
-    line_at(s, at)
 }

@@ -1,9 +1,9 @@
 -- The walks of `ends_at` and `scan_from`, and that of a whole set: its lines, over the bytes and an offset.
 -- What they mean is `ends-is` and `scan-is` in proofs/ScanMeaning.
-use mathlib.Core.Bool.{Bool, cond, _&&_, _||_}
+use mathlib.Core.Bool.{Bool, false, cond, _&&_, _||_}
 use mathlib.Core.Path.{_≡_}
 use mathlib.Core.List.{List}
-use Prim.Native.Nat.{ℕ, zero, suc, _+_, _-_}
+use Prim.Native.Nat.{ℕ, zero, suc, _+_, _-_, _<_}
 use lib.ListN.{length, getD}
 use lib.Dec.{leb, eqb}
 use Rattle.meaning.specs.Limits.{maxLines}
@@ -13,6 +13,7 @@ use Rattle.meaning.specs.Lines.{lengthDigits, lineLead}
 use Rattle.line_read.specs.declared.Line.{Line}
 use Rattle.line_read.specs.declared.Line.the-variants.{Read}
 use Rattle.line_read.specs.Line.{lineAt}
+use Rattle.line_read.specs.Told.{threeBytes, threeZeros, fourBytes, fourZeros}
 use Rattle.line_scan.specs.declared.Scan.{Scan}
 use Rattle.line_scan.specs.declared.Scan.the-variants.{Done, Refused}
 
@@ -40,7 +41,8 @@ scanFrom s at n (suc k) = cond (endsAt s at) (Done at n) (scanAfter (lineAt s at
 unfoldable pub scanSet : List ℕ → Scan
 scanSet s = cond (eqb (length s) 0) (Refused (refusal empty 0 0)) (scanAfter (lineAt s 0) (λ size. scanFrom s size 1 (maxLines - 1)))
 
--- a scan that has k lines before it and reads no more
-abbrev pub Stops : ℕ → Scan → Type 0
-Stops k (Done total lines) = lines ≡ k
-Stops k (Refused r) = Unit
+-- a line of the set that is read stands at an offset that has k lines before it: what it says in its first seven bytes is its label and its length
+pub record GoesOn (s : List ℕ) (at k : ℕ) : Type 0 where
+  pub few : k < maxLines
+  pub no-end : endsAt s at ≡ false
+  pub line-so : lineAt s at ≡ Read (fourBytes s (at + lengthDigits) - fourZeros) (threeBytes s at - threeZeros)

@@ -2,10 +2,12 @@
 // Assumes nothing of the bytes; `scan_from`, which only other crates here call, assumes that its offset lies within them and has at most 512 lines before it. Each contract cites a
 // walk of specs/, and proofs/ScanMeaning says what the walks mean.
 ghost use mathlib.Core.Path.{_≡_};
-ghost use Prim.Native.Nat.{_-_, _≤_};
+ghost use mathlib.Core.Bool.{true};
+ghost use Prim.Native.Nat.{_+_, _-_, _≤_};
 ghost use lib.ListN.{length};
 ghost use Rattle.meaning.specs.Limits.{maxLines};
-ghost use Rattle.line_scan.specs.Scan.{endsAt, scanFrom};
+ghost use Rattle.meaning.specs.Lines.{labelDigits};
+ghost use Rattle.line_scan.specs.Scan.{reads8000, endsAt, scanFrom, GoesOn};
 use line_read::Line;
 use meaning::Refusal;
 use meaning::SetType;
@@ -16,6 +18,23 @@ pub enum Scan {
     Done { length: usize, lines: usize },
     // The first rule that is broken.
     Refused(Refusal),
+}
+
+// The four bytes at an offset read `8000`.
+fn reads_8000(s: &[u8], i: usize) -> bool
+    requires { ⌜ i + labelDigits ≤ length (now s) ⌝ }
+    ensures { λ r. ⌜ r ≡ reads8000 (now (s .entry)) i ⌝ }
+{
+    if s[i] != b'8' {
+        return false;
+    }
+    if s[i + 1] != b'0' {
+        return false;
+    }
+    if s[i + 2] != b'0' {
+        return false;
+    }
+    s[i + 3] == b'0'
 }
 
 // The set ends before an offset: at the end of the input, or if "seven or more bytes remain and bytes four to seven read `8000`", whatever the three
@@ -29,24 +48,24 @@ pub fn ends_at(s: &[u8], at: usize) -> bool
     if s.len() - at < meaning::LINE_LEAD {
         return false;
     }
-    let label = at + meaning::LENGTH_DIGITS;
-    if s[label] != b'8' {
-        return false;
-    }
-    if s[label + 1] != b'0' {
-        return false;
-    }
-    if s[label + 2] != b'0' {
-        return false;
-    }
-    if s[label + 3] != b'0' {
-        return false;
-    }
-    true
+    reads_8000(s, at + meaning::LENGTH_DIGITS)
 }
 
-// The lines of a set from a line start on that has `before` lines before it: at each the set's end is asked first, then 7, then 2 to 6 (B2).
-pub fn scan_from(s: &[u8], start: usize, before: usize) -> Scan
+// A line of this set that keeps 2 to 6 and is a usual one, as most are, stands at an offset that has `before` lines before it.
+fn goes_on(s: &[u8], at: usize, before: usize) -> bool
+    ensures { λ r. ⌜ (r ≡ true → GoesOn (now (s .entry)) at before) ⌝ }
+{
+    if SetType::LINES <= before {
+        return false;
+    }
+    if line_read::sound_at(s, at) {
+        return !reads_8000(s, at + meaning::LENGTH_DIGITS);
+    }
+    false
+}
+
+// The lines of a set from a line start on that has `before` lines before it, one by one: at each the set's end is asked first, then 7, then 2 to 6 (B2).
+fn scan_each(s: &[u8], start: usize, before: usize) -> Scan
     requires { ⌜ (start ≤ length (now s)) × (before ≤ maxLines) ⌝ }
     ensures { λ r. ⌜ r ≡ scanFrom (now (s .entry)) start before (maxLines - before) ⌝ }
 {
@@ -70,4 +89,18 @@ pub fn scan_from(s: &[u8], start: usize, before: usize) -> Scan
             }
         }
     }
+}
+
+// The same lines. Those without a fault are the rule, so they are passed over by a loop of their own that reads nothing else; where it stops, the lines are read one by one.
+pub fn scan_from(s: &[u8], start: usize, before: usize) -> Scan
+    requires { ⌜ (start ≤ length (now s)) × (before ≤ maxLines) ⌝ }
+    ensures { λ r. ⌜ r ≡ scanFrom (now (s .entry)) start before (maxLines - before) ⌝ }
+{
+    let mut at = start;
+    let mut lines = before;
+    while goes_on(s, at, lines) {
+        at += line_read::size_at(s, at);
+        lines += 1;
+    }
+    scan_each(s, at, lines)
 }
