@@ -15,7 +15,8 @@ import stream
 SETS, DAYS, CABLES = PROGRAMS = "calls", "days", "cables"  # the programs of bench/: the calls on a set, those on a day file, those of the cable
 FLOOR, MOVE = NO_PROGRAM = "byte_sum", "move"  # they stand among the calls on a set, and in the place of both programs
 EACH = "judge"  # it stands among the calls on a day file: each of its sets is judged by itself
-STACK, JUDGING, LINEAR, MOVING, GROWTH = NO_LOADS = "stack", "judging", "linear", "moving", "growth"  # they stand among the loads of the bounds
+STACK, JUDGING, LINEAR, MOVING, GROWTH, ENTRY = NO_LOADS = "stack", "judging", "linear", "moving", "growth", "entry"  # they stand among the loads of the bounds
+REFUSED = "refused"  # the load of each program that has each refusal number once
 LONGER, SHORTER = WAYS = "longer", "shorter"  # a correction makes a line so: the name of its load ends with it, after that of its set
 VARIED = "varied"  # the name of each load that is given the stored stream of judge starts so
 GROWING, LINES = ("lines6", "lines40"), (16, 32, 64, 128, 256, 512)  # loads of growing sets, and how many lines each input has
@@ -184,14 +185,24 @@ def stacks():
 
 def bounds():
     """For each program and call the bounds of its table in bench/bounds.txt: a ratio for each load that the call is measured on, bytes of stack, and what
-    else a call is held to. The last table has the loads that few calls on a set are measured on, a line for each."""
-    with open(os.path.join(ROOT, "bench", "bounds.txt")) as file:
-        *tables, few = "".join(line for line in file if not line.startswith("#")).split("\n\n")
+    else a call is held to. The table after those has the loads that few calls on a set are measured on, a line for each."""
+    *tables, few, _ = bound_tables()
     found = {program: table_bounds(table) for program, table in zip(PROGRAMS, tables)}
     for load, calls in table_bounds(few).items():
         for call, most in calls.items():
             found[SETS][call][load] = most
     return found
+
+
+def number_bound():
+    """What each refusal number by itself is held to."""
+    _, most = bound_tables()[-1].split()
+    return float(most)
+
+
+def bound_tables():
+    with open(os.path.join(ROOT, "bench", "bounds.txt")) as file:
+        return "".join(line for line in file if not line.startswith("#")).split("\n\n")
 
 
 def table_bounds(table):

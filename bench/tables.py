@@ -14,7 +14,6 @@ START, END = "<!-- the tables, by bench/run --write -->\n", "<!-- the end of the
 NAMES = {"view_copy": "view, copied", measure.FLOOR: "byte sum", measure.MOVE: "move of the tail", "day_build": "day, build", "day_append": "day, append", "day_find": "day, find"}
 NAMES.update(send="cable, send", block="cable, block", receive="cable, receive")
 HEADS = ("The calls on a set:", "The calls on a day file:", "The calls of the serial cable:")
-REFUSED = "refused"
 MACHINE = platform.machine()
 EMULATED = MACHINE != "x86_64"
 NO_TIME = "-"
@@ -93,9 +92,10 @@ def growth_table(sets, bounds):
     return [head, ""] + table(("Load", *steps), [(load, *("%.1f" % each for each in measure.growth(sets, load))) for load in measure.GROWING])
 
 
-def entry_lines(sets):
+def entry_lines(sets, bounds):
     """What a view takes for each further entry of a sheet."""
-    return ["A view takes {:.1f} instructions for each further entry of a sheet, from {:,} entries to {:,}.".format(measure.entry(sets), *measure.ENTRIES), ""]
+    what = "A view takes {:.1f} instructions for each further entry of a sheet, from {:,} entries to {:,} (at most {:.0f})."
+    return [what.format(measure.entry(sets), *measure.ENTRIES, bounds["view"][measure.ENTRY]), ""]
 
 
 def moving_table(sets, bounds):
@@ -126,9 +126,9 @@ def main(words):
     lines = made_on()
     for program, what in zip(measure.PROGRAMS, HEADS):
         lines += [what, ""] + load_table(counts[program], times[program])
-        lines += ["Ratios for each refusal number by itself:", ""] + refused_table(counts[program][REFUSED])
+        lines += ["Ratios for each refusal number by itself (at most %.2f):" % measure.number_bound(), ""] + refused_table(counts[program][measure.REFUSED])
     sets, of_sets = counts[measure.SETS], bounds[measure.SETS]
-    lines += growth_table(sets, of_sets) + entry_lines(sets) + moving_table(sets, of_sets)
+    lines += growth_table(sets, of_sets) + entry_lines(sets, of_sets) + moving_table(sets, of_sets)
     lines += day_lines(counts[measure.DAYS], bounds[measure.DAYS])
     all_bounds = {call: bound for calls in bounds.values() for call, bound in calls.items()}
     lines += ["Stack over the stored streams of cases, and on the largest path through the code:", ""] + stack_table(stacks, frames.Library(measure.archives()), all_bounds)
