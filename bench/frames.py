@@ -9,8 +9,9 @@ with the return address, without words that the caller passes on the stack.
 It is Trouble, and there is no answer,
 - if functions call each other in a circle, or one calls a function outside its archive that is not in OUTSIDE;
 - if a call goes through a register or memory, or code takes the address of a function;
-- if a jump goes through memory, or through a register that was not made as the compiler makes it for a jump table: an entry of four bytes, plus the register that the entry's address
-  starts from. Such a jump may go to every entry of every table that the function names: there must be one, and each must lie in that function;
+- if a jump goes through a register that was not made as the compiler makes it for a jump table: an entry of four bytes, plus the register that the entry's address starts from; or
+  through memory, but for a word of the stack that nothing but one copy of such a register names. Such a jump may go to every entry of every table that the function names: there must be
+  one, and each must lie in that function;
 - if a place is reached with two heights, a function is left with another height than it began with, it has code that nothing leads to, or anything names rsp as a register, but for
   add and sub of a number and for copying it;
 - if an instruction or a relocation is of a kind that is not known."""
@@ -69,7 +70,7 @@ class Function:
         self.of, self.number = of, number
         self.code = x86.instructions(of.sections[number].data)
         self.targets, self.tables = {}, collections.defaultdict(set)  # of relocated calls and jumps; the starts of tables, by section
-        self.most, self.calls = 0, []
+        self.most, self.calls, self.kept = 0, [], {}  # kept: for a jump through a word of the stack the place where that is written
         self.relocate()
         self.entries = [entry for section, starts in self.tables.items() for entry in self.table(section, starts)]
         self.follow()
@@ -97,13 +98,24 @@ class Function:
                 raise Trouble("data lead elsewhere: %s at %#x" % (self.of.sections[section].name, place))
             yield symbol.value + addend - (place - start)
 
-    def by_table(self, jump):
-        """Whether the two instructions before a jump that name its register are movslq of an entry, and add of the register that the entry's address starts from."""
-        makers = [found for found in self.code.values() if found.start < jump.start and jump.rm in found.names][-2:]
+    def made(self, register, before):
+        """Whether the two instructions before a place that name a register are movslq of an entry, and add of the register that the entry's address starts from."""
+        makers = [found for found in self.code.values() if found.start < before and register in found.names][-2:]
         if [maker.opcode for maker in makers] not in ([LOADS_ENTRY, opcode] for opcode in ADDS_REGISTER):
             return False
         load, add = makers
-        return load.reg == jump.rm and add.names == {jump.rm, load.base}
+        return load.reg == register and add.names == {register, load.base}
+
+    def by_table(self, jump):
+        """Whether a jump goes through a register that was made so, or through a word of the stack that nothing but one copy of such a register names. The height at that copy must be
+        that at the jump: follow asks it."""
+        if jump.rm is not None:
+            return self.made(jump.rm, jump.start)
+        same = [found for found in self.code.values() if found.base == RSP == jump.base and found.offset == jump.offset and found != jump]
+        if len(same) != 1 or same[0].opcode != COPIES or not same[0].wide or same[0].rm is not None:
+            return False
+        self.kept[jump.start] = same[0].start
+        return self.made(same[0].reg, same[0].start)
 
     def follow(self):
         """Goes along every branch with the height at each instruction."""
@@ -122,6 +134,9 @@ class Function:
             below = RED_ZONE if instruction.base == RSP and instruction.offset < 0 else 0
             self.most = max(self.most, after + below)
             ways += [(way, after) for way in self.ways(instruction, height)]
+        for jump, copy in self.kept.items():
+            if heights.get(copy) != heights[jump]:
+                raise Trouble("the jump at %#x goes through another word of the stack than is written at %#x" % (jump, copy))
         for place, instruction in self.code.items():
             if place not in heights and instruction.opcode not in PADDING:
                 raise Trouble("nothing leads to the code at %#x" % place)
@@ -136,7 +151,7 @@ class Function:
         if opcode == RETURN:
             return []
         if opcode == GROUP and instruction.reg & 7 in THROUGH:
-            if instruction.reg & 7 != JUMPS or instruction.rm is None or not self.entries or not self.by_table(instruction):
+            if instruction.reg & 7 != JUMPS or not self.entries or not self.by_table(instruction):
                 raise Trouble("a call or jump through a register or memory at %#x" % place)
             return self.entries
         after = [] if opcode in JUMP else [instruction.end]

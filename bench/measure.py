@@ -194,10 +194,10 @@ def bounds():
     return found
 
 
-def number_bound():
-    """What each refusal number by itself is held to."""
-    _, most = bound_tables()[-1].split()
-    return float(most)
+def number_bounds():
+    """What each refusal number by itself is held to: GDT_EMPTY, and the others."""
+    most = table_bounds(bound_tables()[-1])["most"]
+    return most["1"], most["others"]
 
 
 def bound_tables():

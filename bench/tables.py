@@ -126,7 +126,7 @@ def main(words):
     lines = made_on()
     for program, what in zip(measure.PROGRAMS, HEADS):
         lines += [what, ""] + load_table(counts[program], times[program])
-        lines += ["Ratios for each refusal number by itself (at most %.2f):" % measure.number_bound(), ""] + refused_table(counts[program][measure.REFUSED])
+        lines += ["Ratios for each refusal number by itself (at most %.2f for 1 and %.2f for the others):" % measure.number_bounds(), ""] + refused_table(counts[program][measure.REFUSED])
     sets, of_sets = counts[measure.SETS], bounds[measure.SETS]
     lines += growth_table(sets, of_sets) + entry_lines(sets, of_sets) + moving_table(sets, of_sets)
     lines += day_lines(counts[measure.DAYS], bounds[measure.DAYS])
