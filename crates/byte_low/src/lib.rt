@@ -32,7 +32,7 @@ fn clean(s: &[u8], at: usize, k: usize) -> bool
 }
 
 // The offset of the first byte under 20h among the k bytes at an offset, or the offset after them.
-fn seek_low(s: &[u8], at: usize, k: usize) -> usize
+pub fn seek_low(s: &[u8], at: usize, k: usize) -> usize
     requires { ⌜ at + k ≤ length (now s) ⌝ }
     ensures { λ r. ⌜ r ≡ firstLow (now (s .entry)) at k ⌝ }
 {

@@ -91,8 +91,8 @@ pub fn pass(s: &[u8], settype: SetType, second: usize, lines: usize) -> Refusal
     let mut at = second + line_read::SUM_LINE;
     let mut left = lines - FIXED_LINES;
     while 0 < left {
-        let label = line_read::label_at(s, at);
         let size = line_read::size_at(s, at);
+        let label = line_read::label_at(s, at);
         let step = line_step(s, settype, at, label, size, group, &mut members, &mut top);
         let no = step.no;
         if no != 0 {

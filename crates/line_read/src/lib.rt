@@ -103,7 +103,7 @@ fn labelled_line(s: &[u8], at: usize, size: usize, label: usize) -> Line
     // 6, BadByte: "content byte under 20h; place is that byte"
     let content = at + LINE_LEAD;
     let k = size - LINE_FRAME;
-    let low = byte_low::first_low(s, content, k);
+    let low = byte_low::seek_low(s, content, k);
     if low < content + k {
         return refused(Refusal::BAD_BYTE, low);
     }

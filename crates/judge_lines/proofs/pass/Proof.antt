@@ -54,23 +54,23 @@ loop-holds c =
     let top = at-mark2 .mark2 .ensures ∙ ap (λ (x : List Bool). set x 32 true) (at-mark .mark .ensures) in
     (omega arith, at-start .pre, along-second (at-start .pre) (c .none .ensures) top (omega (arith, at-start .pre .both)))
 
-label-at-requires : tie.Need-label-at-requires Inv-loop μ-loop
-label-at-requires c κs =
-    let l = c .before .loop in
-    let b = along-bytes (l .inv .2) (l .inv .1 .scanned) (omega arith) in
-    (b .0, b .2)
-
 size-at-requires : tie.Need-size-at-requires Inv-loop μ-loop
 size-at-requires c κs =
-    let l = c .before .before .loop in
+    let l = c .before .loop in
     let b = along-bytes (l .inv .2) (l .inv .1 .scanned) (omega arith) in
     (omega (arith, b .0), b .1)
 
+label-at-requires : tie.Need-label-at-requires Inv-loop μ-loop
+label-at-requires c κs =
+    let l = c .before .before .loop in
+    let b = along-bytes (l .inv .2) (l .inv .1 .scanned) (omega arith) in
+    (b .0, b .2)
+
 line-step-requires : tie.Need-line-step-requires Inv-loop μ-loop
 line-step-requires c κs =
-    let at-size-at = c .before .before in
-    let at-label-at = at-size-at .before in
-    let l = at-label-at .before .before .loop in
+    let at-label-at = c .before .before in
+    let at-size-at = at-label-at .before in
+    let l = at-size-at .before .before .loop in
     let inv = l .inv in (
       along-least (inv .2) (inv .1 .scanned) (omega arith) (at-label-at .label-at .ensures) (at-size-at .size-at .ensures .0),
       along-within (inv .2) (inv .1 .scanned) (omega arith) (at-label-at .label-at .ensures) (at-size-at .size-at .ensures .0),
@@ -80,9 +80,9 @@ returns : tie.Need-returns Inv-loop μ-loop
 returns c =
     let at-line-step = c .before in
     let at-members = at-line-step .before .before in
-    let at-size-at = at-members .before in
-    let at-label-at = at-size-at .before in
-    let l = at-label-at .before .before .loop in
+    let at-label-at = at-members .before in
+    let at-size-at = at-label-at .before in
+    let l = at-size-at .before .before .loop in
     along-bad (l .inv .2) (l .inv .1 .scanned) (omega arith) (at-label-at .label-at .ensures) (at-size-at .size-at .ensures .0) _ _ _ (at-line-step .line-step .ensures) (c .if1 .taken)
 
 add-at-2 : tie.Need-add-at-2 Inv-loop μ-loop
@@ -90,9 +90,9 @@ add-at-2 c =
     let at-if1 = c .before in
     let at-line-step = at-if1 .before in
     let at-members = at-line-step .before .before in
-    let at-size-at = at-members .before in
-    let at-label-at = at-size-at .before in
-    let at-loop = at-label-at .before .before in
+    let at-label-at = at-members .before in
+    let at-size-at = at-label-at .before in
+    let at-loop = at-size-at .before .before in
     let l = at-loop .loop in
     let at-mark2 = at-loop .before .before in
     let at-mark = at-mark2 .before .before in
@@ -111,9 +111,9 @@ loop-again c =
     let at-if1 = c .before in
     let at-line-step = at-if1 .before in
     let at-members = at-line-step .before .before in
-    let at-size-at = at-members .before in
-    let at-label-at = at-size-at .before in
-    let l = at-label-at .before .before .loop in
+    let at-label-at = at-members .before in
+    let at-size-at = at-label-at .before in
+    let l = at-size-at .before .before .loop in
     let next =
     along-on (l .inv .2) (l .inv .1 .scanned) (omega arith) (at-label-at .label-at .ensures) (at-size-at .size-at .ensures .0) _ _ _ (at-line-step .line-step .ensures) (at-if1 .if1 .left) in
     (omega arith, l .inv .1, next (omega arith))
@@ -141,8 +141,8 @@ pass-spec =
     add-at
     sub-left
     loop-holds
-    label-at-requires
     size-at-requires
+    label-at-requires
     line-step-requires
     returns
     add-at-2

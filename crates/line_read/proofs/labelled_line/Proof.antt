@@ -12,8 +12,8 @@ add-content c = search needs
 sub-k : tie.Need-sub-k
 sub-k c = search needs
 
-first-low-requires : tie.Need-first-low-requires
-first-low-requires c κs = search needs
+seek-low-requires : tie.Need-seek-low-requires
+seek-low-requires c κs = search needs
 
 add-if1 : tie.Need-add-if1
 add-if1 c = search needs
@@ -23,13 +23,13 @@ refused-requires c κs = search needs
 
 returns : tie.Need-returns
 unfolding must labelledLine
-returns c = c .refused .ensures ∙ search (tests, ← (c .before .before .first-low .ensures))
+returns c = c .refused .ensures ∙ search (tests, ← (c .before .before .seek-low .ensures))
 
 returns-2 : tie.Need-returns-2
 unfolding must labelledLine
-returns-2 c = search (tests, ← (c .before .first-low .ensures))
+returns-2 c = search (tests, ← (c .before .seek-low .ensures))
 
 pub labelled-line-spec : {M : Type 1} → statement M
 labelled-line-spec =
     tie.close
-    (tie.spec add-content sub-k first-low-requires add-if1 refused-requires returns returns-2)
+    (tie.spec add-content sub-k seek-low-requires add-if1 refused-requires returns returns-2)
