@@ -9,9 +9,8 @@ with the return address, without words that the caller passes on the stack.
 It is Trouble, and there is no answer,
 - if functions call each other in a circle, or one calls a function outside its archive that is not in OUTSIDE;
 - if a call goes through a register or memory, or code takes the address of a function;
-- if a jump goes through a register that was not made as the compiler makes it for a jump table: an entry of four bytes, plus the register that the entry's address starts from; or
-  through memory, but for a word of the stack that nothing but one copy of such a register names. Such a jump may go to every entry of every table that the function names: there must be
-  one, and each must lie in that function;
+- if a jump goes through anything but a register, or a word of the stack, that holds on every way a place that one jump table leads to: the address of the table and one of its entries,
+  four bytes, added. Address and place may be copied on the way. Every entry of the table must lie in that function, and the jump may go to each;
 - if a place is reached with two heights, a function is left with another height than it began with, it has code that nothing leads to, or anything names rsp as a register, but for
   add and sub of a number and for copying it;
 - if an instruction or a relocation is of a kind that is not known."""
@@ -30,7 +29,10 @@ OUTSIDE_MOST = 256
 WORD = 8  # bytes of a return address, and of what is pushed
 RED_ZONE = 128  # bytes below the stack pointer that a function may use
 CALL, JUMP, RETURN, TRAPS, PADDING = 0xE8, (0xE9, 0xEB), 0xC3, (0xCC, 0x0F0B), (0x90, 0xCC, 0x0F1F)
-LOADS_ENTRY, ADDS_REGISTER, COPIES = 0x63, (0x01, 0x03), 0x89
+LOADS_ENTRY, ADDS_REGISTER, COPIES, COPIES_WORD, TO_RM = 0x63, (0x01, 0x03), 0x89, (0x89, 0x8B), (0x01, 0x89)
+ADDRESS, ENTRY, PLACE = "address", "entry", "place"
+PRODUCTS, LOST_BY_PRODUCT = (0x98, 0x99, 0xF6, 0xF7), {0, 2}  # products, quotients and wider numbers are made in rax and rdx
+LOST_BY_CALL = {0, 1, 2, 6, 7, 8, 9, 10, 11}  # registers that a callee may change
 WITH_NUMBER, ADDS, SUBTRACTS = (0x81, 0x83), 0, 5  # opcodes, and what they do by their field reg
 GROUP, THROUGH, JUMPS, PUSHES = 0xFF, (2, 3, 4, 5), 4, 6  # an opcode, and what it does by its field reg: THROUGH are calls and jumps
 PUSH, POP, PUSHES_NUMBER = 0x50 >> 3, 0x58 >> 3, (0x68, 0x6A)  # the last three bits are a register
@@ -63,16 +65,27 @@ def pushed(instruction):
     raise Trouble("rsp is changed or asked in a way that is not understood, at %#x" % instruction.start)
 
 
+def operand(instruction, height):
+    """What the field rm names: a register by its number, or a word of the stack by its height; None if it is neither."""
+    if instruction.rm is not None:
+        return instruction.rm
+    return "word", height - instruction.offset if instruction.base == RSP else None
+
+
 class Function:
     """A function: a section of code of an object file, which holds one function. It takes down the most that the function itself uses, and each call with its height."""
 
     def __init__(self, of, number):
         self.of, self.number = of, number
         self.code = x86.instructions(of.sections[number].data)
-        self.targets, self.tables = {}, collections.defaultdict(set)  # of relocated calls and jumps; the starts of tables, by section
-        self.most, self.calls, self.kept = 0, [], {}  # kept: for a jump through a word of the stack the place where that is written
+        self.targets, self.named, tables = {}, {}, collections.defaultdict(set)  # of relocated calls and jumps; for an instruction that names data where they are
+        self.most, self.calls = 0, []
         self.relocate()
-        self.entries = [entry for section, starts in self.tables.items() for entry in self.table(section, starts)]
+        for section, start in self.named.values():
+            tables[section].add(start)
+        self.leads = collections.defaultdict(list)  # for each table the places that it leads to
+        for section, starts in tables.items():
+            self.read_table(section, starts)
         self.follow()
 
     def relocate(self):
@@ -88,60 +101,58 @@ class Function:
             elif symbol.section == 0 or self.of.is_code(symbol.section):
                 raise Trouble("the address of %s is taken at %#x" % (symbol.name or "code", place))
             else:
-                self.tables[symbol.section].add(to)
+                self.named[instruction.start] = symbol.section, to
 
-    def table(self, section, starts):
-        """The places that the tables in a section of data lead to. An entry is the distance from the start of its table."""
+    def read_table(self, section, starts):
+        """Takes down where the tables in a section of data lead. An entry is the distance from the start of its table."""
         for place, kind, symbol, addend in self.of.relocations[section]:
             start = max((start for start in starts if start <= place), default=None)
             if kind not in x86.RELATIVE or symbol.section != self.number or start is None:
                 raise Trouble("data lead elsewhere: %s at %#x" % (self.of.sections[section].name, place))
-            yield symbol.value + addend - (place - start)
+            self.leads[section, start].append(symbol.value + addend - (place - start))
 
-    def made(self, register, before):
-        """Whether the two instructions before a place that name a register are movslq of an entry, and add of the register that the entry's address starts from."""
-        makers = [found for found in self.code.values() if found.start < before and register in found.names][-2:]
-        if [maker.opcode for maker in makers] not in ([LOADS_ENTRY, opcode] for opcode in ADDS_REGISTER):
-            return False
-        load, add = makers
-        return load.reg == register and add.names == {register, load.base}
-
-    def by_table(self, jump):
-        """Whether a jump goes through a register that was made so, or through a word of the stack that nothing but one copy of such a register names. The height at that copy must be
-        that at the jump: follow asks it."""
-        if jump.rm is not None:
-            return self.made(jump.rm, jump.start)
-        same = [found for found in self.code.values() if found.base == RSP == jump.base and found.offset == jump.offset and found != jump]
-        if len(same) != 1 or same[0].opcode != COPIES or not same[0].wide or same[0].rm is not None:
-            return False
-        self.kept[jump.start] = same[0].start
-        return self.made(same[0].reg, same[0].start)
+    def held(self, instruction, height, holding):
+        """What is held after an instruction, if `holding` is held before it. A fact is what, where and of which table: ADDRESS, the table's own; ENTRY, one of its entries, with the register that
+        the entry's address started from; PLACE, the sum of these two. Where is a register or a word of the stack."""
+        opcode, reg, rm = instruction.opcode, instruction.reg, operand(instruction, height)
+        if opcode == GROUP and reg & 7 in THROUGH:
+            return holding
+        to, source = (rm, reg) if opcode in TO_RM else (reg, rm)
+        gone = instruction.names | {rm} | (LOST_BY_CALL if opcode == CALL else LOST_BY_PRODUCT if opcode in PRODUCTS else set())
+        kept = {fact for fact in holding if not gone & {fact[1], fact[-1]}}
+        if instruction.start in self.named:
+            kept.add((ADDRESS, reg, self.named[instruction.start]))
+        elif opcode == LOADS_ENTRY:
+            kept |= {(ENTRY, reg, table, where) for what, where, table, *_ in holding if (what, where) == (ADDRESS, instruction.base)}
+        elif opcode in ADDS_REGISTER:
+            kept |= {(PLACE, to, fact[2]) for fact in holding if fact[0] == ENTRY and {fact[1], fact[3]} == {to, source}}
+        elif opcode in COPIES_WORD and instruction.wide:
+            kept |= {(fact[0], where, fact[2]) for fact in holding if fact[0] != ENTRY and fact[1] == source for where in (to, source)}
+        return frozenset(kept)
 
     def follow(self):
-        """Goes along every branch with the height at each instruction."""
-        heights, ways = {}, [(0, WORD)]
+        """Goes along every branch with the height at each instruction, and with what holds the place that a table leads to."""
+        heights, holders, ways = {}, {}, [(0, WORD, frozenset())]
         while ways:
-            place, height = ways.pop()
+            place, height, holding = ways.pop()
             if heights.get(place, height) != height:
                 raise Trouble("%#x is reached with %d and with %d bytes of stack" % (place, heights[place], height))
-            if place in heights:
+            if place in heights and holders[place] <= holding:
                 continue
             if place not in self.code:
                 raise Trouble("no instruction starts at %#x, to which code leads" % place)
-            heights[place] = height
+            heights[place], holders[place] = height, holders.get(place, holding) & holding
             instruction = self.code[place]
             after = height + pushed(instruction)
             below = RED_ZONE if instruction.base == RSP and instruction.offset < 0 else 0
             self.most = max(self.most, after + below)
-            ways += [(way, after) for way in self.ways(instruction, height)]
-        for jump, copy in self.kept.items():
-            if heights.get(copy) != heights[jump]:
-                raise Trouble("the jump at %#x goes through another word of the stack than is written at %#x" % (jump, copy))
+            holding = self.held(instruction, height, holders[place])
+            ways += [(way, after, holding) for way in self.ways(instruction, height, holders[place])]
         for place, instruction in self.code.items():
             if place not in heights and instruction.opcode not in PADDING:
                 raise Trouble("nothing leads to the code at %#x" % place)
 
-    def ways(self, instruction, height):
+    def ways(self, instruction, height, holding):
         """Where code goes on after an instruction. A call is taken down, and so is a jump into another function."""
         opcode, place = instruction.opcode, instruction.start
         if opcode in TRAPS:
@@ -151,9 +162,10 @@ class Function:
         if opcode == RETURN:
             return []
         if opcode == GROUP and instruction.reg & 7 in THROUGH:
-            if instruction.reg & 7 != JUMPS or not self.entries or not self.by_table(instruction):
+            tables = {fact[2] for fact in holding if fact[:2] == (PLACE, operand(instruction, height))}
+            if instruction.reg & 7 != JUMPS or len(tables) != 1:
                 raise Trouble("a call or jump through a register or memory at %#x" % place)
-            return self.entries
+            return self.leads[tables.pop()]
         after = [] if opcode in JUMP else [instruction.end]
         if not is_branch(instruction):
             return after
