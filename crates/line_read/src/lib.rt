@@ -261,6 +261,20 @@ fn usual_lead(s: &[u8], at: usize) -> bool
     fit
 }
 
+// The bytes before the content of the line at an offset are digits. A content that starts with FEh or FFh is no usual one: then they are asked by themselves.
+fn digits_lead(s: &[u8], at: usize) -> bool
+    requires { ⌜ at + lineLead < length (now s) ⌝ }
+    ensures { λ r. ⌜ (r ≡ true → allDigits (take lineLead (drop at (now (s .entry)))) ≡ true) ⌝ }
+{
+    if usual_lead(s, at) {
+        return true;
+    }
+    match number_at(s, at, LINE_LEAD) {
+        Number::Is(_) => true,
+        Number::None => false,
+    }
+}
+
 // Two bytes are the end of a line, asked at once.
 fn line_ends(a: u8, b: u8) -> bool
     ensures { λ r. ⌜ (r ≡ true → (a ≡ cr) × (b ≡ lf)) ⌝ }
@@ -279,7 +293,7 @@ pub fn sound_at(s: &[u8], at: usize) -> bool
     if s.len() - MIN_LINE_BYTES < at {
         return false;
     }
-    if usual_lead(s, at) {
+    if digits_lead(s, at) {
         let size = size_at(s, at);
         if size < MIN_LINE_BYTES {
             return false;

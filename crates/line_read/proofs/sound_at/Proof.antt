@@ -15,15 +15,15 @@ sub-if2 c = search needs
 returns-2 : tie.Need-returns-2
 returns-2 c = λ e. search needs
 
-usual-lead-requires : tie.Need-usual-lead-requires
-usual-lead-requires c κs = search needs
+digits-lead-requires : tie.Need-digits-lead-requires
+digits-lead-requires c κs = search needs
 
 size-at-requires : tie.Need-size-at-requires
 size-at-requires c κs =
-    let at-usual-lead = c .before in
-    let at-if1 = at-usual-lead .before .before in
+    let at-digits-lead = c .before in
+    let at-if1 = at-digits-lead .before .before in
     let at-start = at-if1 .before .before in
-    (omega arith, three-least (at-start .args .s .now) (at-start .args .at) (omega arith) (at-usual-lead .usual-lead .ensures (c .if3 .taken)))
+    (omega arith, three-least (at-start .args .s .now) (at-start .args .at) (omega arith) (at-digits-lead .digits-lead .ensures (c .if3 .taken)))
 
 returns-3 : tie.Need-returns-3
 returns-3 c = λ e. search needs
@@ -66,10 +66,10 @@ returns-5 c =
     let at-if4 = at-clean-content .before .before in
     let at-size-at = at-if4 .before in
     let at-if3 = at-size-at .before in
-    let at-usual-lead = at-if3 .before in
+    let at-digits-lead = at-if3 .before in
     λ e. let end = c .line-ends .ensures e in line-sound _ _ _ _ refl (omega (arith, at-size-at .size-at .ensures .0))
     (omega (arith, at-size-at .size-at .ensures .0)) (omega (arith, at-size-at .size-at .ensures .0))
-    (at-usual-lead .usual-lead .ensures (at-if3 .if3 .taken)) (at-clean-content .clean-content .ensures (at-if6 .if6 .taken)) (end .0) (end .1)
+    (at-digits-lead .digits-lead .ensures (at-if3 .if3 .taken)) (at-clean-content .clean-content .ensures (at-if6 .if6 .taken)) (end .0) (end .1)
 
 returns-6 : tie.Need-returns-6
 returns-6 c = λ e. search needs
@@ -84,7 +84,7 @@ sound-at-spec =
     returns
     sub-if2
     returns-2
-    usual-lead-requires
+    digits-lead-requires
     size-at-requires
     returns-3
     sub-if5
