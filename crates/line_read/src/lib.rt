@@ -1,5 +1,6 @@
 // One line of a set at an offset, and what a line says that was read before: 2 to 6 of the paper's replies.
-// Assumes nothing of the bytes. Each contract cites a walk of specs/, and proofs/LineMeaning and proofs/ToldLaws say what the walks mean.
+// Assumes nothing of the bytes; `size_at` and `label_at`, which only other crates here call, assume that the digits of a line that was read stand at the offset. Each contract cites a
+// walk of specs/, and proofs/LineMeaning and proofs/ToldLaws say what the walks mean.
 ghost use mathlib.Core.Path.{_≡_};
 ghost use mathlib.Core.Bool.{true};
 ghost use Prim.Native.Nat.{_+_, _-_, _*_, _≤_, _<_};
@@ -282,8 +283,8 @@ fn line_ends(a: u8, b: u8) -> bool
     a as usize + b as usize * meaning::BYTE_VALUES == CR_LF
 }
 
-// The line at an offset keeps 2 to 6: it starts with digits, these say where it ends, and then the rest is tested. A line that is not a usual one may keep them too. One loop
-// alone calls it, so that it becomes a part of that loop.
+// The line at an offset keeps 2 to 6: it starts with digits, these say where it ends, and then the rest is tested. After `false` nothing is said of the line. One loop alone
+// calls it, so that it becomes a part of that loop.
 pub fn sound_at(s: &[u8], at: usize) -> bool
     ensures { λ r. ⌜ (r ≡ true → lineAt (now (s .entry)) at ≡ Read (fourBytes (now (s .entry)) (at + lengthDigits) - fourZeros) (threeBytes (now (s .entry)) at - threeZeros)) ⌝ }
 {

@@ -51,7 +51,7 @@ pub fn ends_at(s: &[u8], at: usize) -> bool
     reads_8000(s, at + meaning::LENGTH_DIGITS)
 }
 
-// A line of this set that keeps 2 to 6 and is a usual one, as most are, stands at an offset that has `before` lines before it.
+// A line of this set that keeps 2 to 6, as most do, stands at an offset that has `before` lines before it.
 fn goes_on(s: &[u8], at: usize, before: usize) -> bool
     ensures { λ r. ⌜ (r ≡ true → GoesOn (now (s .entry)) at before) ⌝ }
 {
