@@ -59,14 +59,6 @@ number-is s at k l h = rw (le-leb k mostDigits h) (go (leb (at + k) (length s)) 
         let a : length s < at + k = leb-false (at + k) (length s) e in
         rw (lt-leb k (length (drop at s)) (omega (arith, length-drop at s)))
 
--- .. and then they are digits
-pub digits-read : (s : List ℕ) (at k n : ℕ) → 1 ≤ k → k ≤ mostDigits → numberAt s at k ≡ Is n → allDigits (take k (drop at s)) ≡ true
-digits-read s at k n l h e = and-right (leb k (length (drop at s))) _ (go _ _ (sym (number-is s at k l h) ∙ e))
-  where
-    go : (b : Bool) (m : ℕ) → asNumber b m ≡ Is n → b ≡ true
-    go true m q = refl
-    go false m q = let z : _≡_ {A = ℕ} 0 1 = cc in absurd (omega arith)
-
 -- ---- one line
 
 -- the line at an offset whose bytes have these faults: "the first fault in this order is the answer" (the label of a line's fault is 0)

@@ -30,9 +30,6 @@ const MIN_LINE_BYTES: usize = LINE_FRAME + 1;
 // The bytes of a line 8100 with a sum of five digits.
 pub const SUM_LINE: usize = LINE_FRAME + meaning::SUM_DIGITS;
 
-// The largest byte that a content usually starts with.
-const USUAL_BYTE: u8 = 253;
-
 // What the bytes `000` and `0000` come to, each byte times the value of its digit.
 const THREE_ZEROS: usize = meaning::DIGIT_ZERO as usize * 111;
 
@@ -236,44 +233,21 @@ pub fn label_at(s: &[u8], at: usize) -> usize
 
 // ---- one line of many
 
-// A byte that usually is the i-th of a line, counted from 0: a digit before the content, and nearly any as its first. Either is asked by two bounds, so that all
-// bytes are asked alike.
-fn usual_byte(i: usize, b: u8) -> bool
-    ensures { λ r. ⌜ (r ≡ true → i < lineLead → digit b ≡ true) ⌝ }
-{
-    if i < LINE_LEAD {
-        return (meaning::DIGIT_ZERO <= b) & (b <= meaning::DIGIT_NINE);
-    }
-    (byte_low::LEAST_BYTE <= b) & (b <= USUAL_BYTE)
-}
-
-// The bytes before the content of the line at an offset, and the first of its content, are usual ones. The loop has no way out between them, so that all are tested
-// at once.
+// The bytes before the content of the line at an offset are digits, and a line ends before them. All eight are asked by two bounds, and the loop has no way out between them:
+// so they are tested at once. The lower bound of the first is one too low, since of two bounds that are equal the compiler makes one test.
 fn usual_lead(s: &[u8], at: usize) -> bool
-    requires { ⌜ at + lineLead < length (now s) ⌝ }
+    requires { ⌜ (1 ≤ at) × (at + lineLead ≤ length (now s)) ⌝ }
     ensures { λ r. ⌜ (r ≡ true → allDigits (take lineLead (drop at (now (s .entry)))) ≡ true) ⌝ }
 {
+    let before = s[at - 1];
     let mut i: usize = 0;
-    let mut fit = true;
-    while i <= LINE_LEAD {
-        fit &= usual_byte(i, s[at + i]);
+    let mut fit = (LF - 1 <= before) & (before <= LF);
+    while i < LINE_LEAD {
+        let b = s[at + i];
+        fit &= (meaning::DIGIT_ZERO <= b) & (b <= meaning::DIGIT_NINE);
         i += 1;
     }
     fit
-}
-
-// The bytes before the content of the line at an offset are digits. A content that starts with FEh or FFh is no usual one: then they are asked by themselves.
-fn digits_lead(s: &[u8], at: usize) -> bool
-    requires { ⌜ at + lineLead < length (now s) ⌝ }
-    ensures { λ r. ⌜ (r ≡ true → allDigits (take lineLead (drop at (now (s .entry)))) ≡ true) ⌝ }
-{
-    if usual_lead(s, at) {
-        return true;
-    }
-    match number_at(s, at, LINE_LEAD) {
-        Number::Is(_) => true,
-        Number::None => false,
-    }
 }
 
 // Two bytes are the end of a line, asked at once.
@@ -288,13 +262,16 @@ fn line_ends(a: u8, b: u8) -> bool
 pub fn sound_at(s: &[u8], at: usize) -> bool
     ensures { λ r. ⌜ (r ≡ true → lineAt (now (s .entry)) at ≡ Read (fourBytes (now (s .entry)) (at + lengthDigits) - fourZeros) (threeBytes (now (s .entry)) at - threeZeros)) ⌝ }
 {
+    if at < 1 {
+        return false;
+    }
     if s.len() < MIN_LINE_BYTES {
         return false;
     }
     if s.len() - MIN_LINE_BYTES < at {
         return false;
     }
-    if digits_lead(s, at) {
+    if usual_lead(s, at) {
         let size = size_at(s, at);
         if size < MIN_LINE_BYTES {
             return false;

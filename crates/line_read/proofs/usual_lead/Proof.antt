@@ -13,10 +13,19 @@ use Rattle.line_read.proofs.usual_lead.Statement.{statement}
 use Rattle.line_read.proofs.usual_lead.Tie as tie
 
 abbrev Inv-loop : tie.InvT-loop
-Inv-loop s at i₀ fit₀ i fit = (i ≤ lineLead + 1) × (fit ≡ true → allDigits (take (lineLead - i) (drop (at + i) s)) ≡ allDigits (take lineLead (drop at s)))
+Inv-loop s at before i₀ fit₀ i fit = (i ≤ lineLead) × (fit ≡ true → allDigits (take (lineLead - i) (drop (at + i) s)) ≡ allDigits (take lineLead (drop at s)))
 
 abbrev μ-loop : tie.MeasureT-loop
-μ-loop s at i₀ fit₀ i fit = lineLead + 1 - i
+μ-loop s at before i₀ fit₀ i fit = lineLead - i
+
+sub-before : tie.Need-sub-before Inv-loop μ-loop
+sub-before c = search needs
+
+shared-slice-read-before : tie.Need-shared-slice-read-before Inv-loop μ-loop
+shared-slice-read-before c = search needs
+
+sub-fit : tie.Need-sub-fit Inv-loop μ-loop
+sub-fit c = search needs
 
 loop-holds : tie.Need-loop-holds Inv-loop μ-loop
 loop-holds c =
@@ -25,14 +34,11 @@ loop-holds c =
     let o : a .at + 0 ≡ a .at = omega arith in
     (omega arith, λ h. ap₂ (λ (n o : ℕ). allDigits (take n (drop o (a .s .now)))) n o)
 
-add-usual-byte : tie.Need-add-usual-byte Inv-loop μ-loop
-add-usual-byte c = search needs
+add-b : tie.Need-add-b Inv-loop μ-loop
+add-b c = search needs
 
-shared-slice-read-usual-byte : tie.Need-shared-slice-read-usual-byte Inv-loop μ-loop
-shared-slice-read-usual-byte c = search needs
-
-usual-byte-requires : tie.Need-usual-byte-requires Inv-loop μ-loop
-usual-byte-requires c κs = search needs
+shared-slice-read-b : tie.Need-shared-slice-read-b Inv-loop μ-loop
+shared-slice-read-b c = search needs
 
 add-i : tie.Need-add-i Inv-loop μ-loop
 add-i c = search needs
@@ -42,12 +48,12 @@ loop-less c = search needs
 
 loop-again : tie.Need-loop-again Inv-loop μ-loop
 loop-again c =
-    let at-loop-test = c .before .before in
+    let at-loop-test = c .before in
     let at-loop = at-loop-test .before in (
       omega arith,
       λ h.
           let l = at-loop .loop in
-          digits-further _ _ (l .i) _ (omega arith) (c .usual-byte .ensures (and-right (l .fit) _ h)) ∙ l .inv .1 (and-left (l .fit) _ h),
+          digits-further _ _ (l .i) _ (omega arith) (λ _. and-right (l .fit) _ h) ∙ l .inv .1 (and-left (l .fit) _ h),
     )
 
 returns : tie.Need-returns Inv-loop μ-loop
@@ -59,10 +65,12 @@ usual-lead-spec =
     (tie.spec
     Inv-loop
     μ-loop
+    sub-before
+    shared-slice-read-before
+    sub-fit
     loop-holds
-    add-usual-byte
-    shared-slice-read-usual-byte
-    usual-byte-requires
+    add-b
+    shared-slice-read-b
     add-i
     loop-less
     loop-again
