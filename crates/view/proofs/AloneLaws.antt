@@ -1,5 +1,5 @@
 -- What the walk of specs/ means: one law for each way that `shown_alone` takes, then that it shows what the definition of `meaning` shows, a part within its slice.
-use mathlib.Core.Path.{_≡_, refl, ap, _∙_, subst}
+use mathlib.Core.Path.{_≡_, refl, ap, _∙_}
 use mathlib.Core.Bool.{Bool, true, false, cond, _&&_}
 use mathlib.Core.List.{List, [], _∷_, _++_}
 use mathlib.Core.Option.{none}
@@ -12,7 +12,6 @@ use lib.ListN.{length}
 use lib.Seq.{take-all}
 use Rattle.meaning.specs.declared.Refusal.{Refusal}
 use Rattle.meaning.specs.declared.Shape.{Shape}
-use Rattle.meaning.specs.declared.Judged.{Judged}
 use Rattle.meaning.specs.declared.Judged.the-variants.{Accepted, Refused as RefusedSet}
 use Rattle.meaning.specs.declared.Viewed.{Viewed}
 use Rattle.meaning.specs.declared.Viewed.the-variants.{Refused}
@@ -103,7 +102,7 @@ viewed-accepted s h n x j = let d = judge-read s x j in rw (d .2) (alone-is s h 
 -- ---- the part that is shown lies within its slice
 
 module _ (s : List ℕ) (x : Shape) (h : List ℕ) (n : ℕ) where
-  alone-within : judge s ≡ Accepted x → Within s h (shownAlone s x h n)
+  pub alone-within : judge s ≡ Accepted x → Within s h (shownAlone s x h n)
   unfolding Within shownAlone
   alone-within j = go (leb (length s) (x .length)) (leb 1 n && leb n (x .lines)) refl
     where
@@ -114,11 +113,3 @@ module _ (s : List ℕ) (x : Shape) (h : List ℕ) (n : ℕ) where
       go true false q = tt
       go true true q =
           under-within s x h n j (leb-true 1 n (and-left (leb 1 n) _ q)) (leb-true n (x .lines) (and-right (leb 1 n) _ q))
-
-pub viewed-within : (s h : List ℕ) (n : ℕ) → Within s h (viewed s h n)
-unfolding Within
-viewed-within s h n = go (judge s) refl
-  where
-    go : (y : Judged) → judge s ≡ y → Within s h (viewed s h n)
-    go (RefusedSet x) j = subst (λ (v : Viewed). Within s h v) (viewed-refused s h n x j) tt
-    go (Accepted x) j = subst (λ (v : Viewed). Within s h v) (viewed-accepted s h n x j) (alone-within s x h n j)

@@ -47,9 +47,15 @@ pub fn viewed(set: &[u8], sheet: &[u8], line: usize) -> Viewed
     }
 }
 
-// The part itself; "a refusal comes with an empty part of the set".
+// The part itself; "a refusal comes with an empty part of the set". It judges the set itself, as `viewed` does: so `shown_alone`, which needs a large frame, stays a function of its own, and
+// a set that is refused does not pay for it.
 pub fn view<'a>(set: &'a [u8], sheet: &'a [u8], line: usize) -> &'a [u8]
     ensures { λ r. ⌜ now r ≡ Views.view (now (set .entry)) (now (sheet .entry)) line ⌝ }
 {
-    view_part::shown_bytes(set, sheet, viewed(set, sheet, line))
+    match judge::judge(set) {
+        Judged::Refused(_) => &set[0..0],
+        Judged::Accepted(shape) => {
+            view_part::shown_bytes(set, sheet, shown_alone(set, shape, sheet, line))
+        }
+    }
 }
