@@ -102,7 +102,7 @@ fn block_in(set: &[u8], i: usize, count: usize, out: &mut [u8]) -> Made
     requires { ⌜ maxBlock ≤ length (now out) ⌝ }
     ensures { λ r. ⌜ (r ≡ blockCall (now (set .entry)) i count (now (out .entry)) .answer) × (now (out .exit) ≡ blockCall (now (set .entry)) i count (now (out .entry)) .buffer) ⌝ }
 {
-    match cable_set::judge_alone(set) {
+    match cable_set::alone_of(judge::judge(set), set.len()) {
         Judged::Refused(r) => Made::Refused(r),
         Judged::Accepted(shape) => block_accepted(set, shape, i, count, out),
     }

@@ -1,11 +1,14 @@
 -- A set alone in its bytes: what judging says of it, and that its blocks are counted by its length and its lines.
 use mathlib.Core.Path.{_≡_, refl, sym, ap, _∙_}
+use mathlib.Core.Bool.{Bool, true, false, cond}
 use mathlib.Core.List.{List, [], _∷_}
 use Prim.Native.Nat.{ℕ, _+_, _-_, _/_, _≤_, _<_}
 use native.Mathlib.Omega.{arith}
 use native.Mathlib.Nat.{add-zero}
+use lib.Dec.{leb}
 use lib.ListN.{length}
 use lib.Seq.{take-all}
+use borrow.Author.Tests.{leb-true, leb-false, le-leb, lt-leb}
 use Rattle.meaning.specs.declared.Refusal.{Refusal}
 use Rattle.meaning.specs.declared.Shape.{Shape}
 use Rattle.meaning.specs.declared.Judged.{Judged}
@@ -24,12 +27,25 @@ use Rattle.meaning_cable.specs.Stream.{stream}
 use Rattle.meaning_cable.specs.Blocks.{blockCount, setAlone, blocksOf}
 use Rattle.meaning_cable.specs.CableCalls.{counted}
 use Rattle.meaning_cable.proofs.OneSetLaws.{alone-read, data-of-set}
-use Rattle.cable_set.specs.BlockCounts.{aloneJudged, dataLength, countFor}
+use Rattle.cable_set.specs.BlockCounts.{aloneJudged, aloneOf, dataLength, countFor}
+
+-- ---- what judging says of a set, held against the bytes: one law for each way of the code
+
+module _ (y : Judged) (n : ℕ) where
+  pub held-refused : (r : Refusal) → y ≡ Refused r → Refused r ≡ aloneOf y n
+  held-refused r e = rw e
+
+  module _ (x : Shape) (e : y ≡ Accepted x) where
+    pub held-more : x .length < n → Refused (refusal badUse (x .length) 0) ≡ aloneOf y n
+    held-more h = rw (e, lt-leb n (x .length) h)
+
+    pub held-only : n ≤ x .length → Accepted x ≡ aloneOf y n
+    held-only h = rw (e, le-leb n (x .length) h)
 
 -- ---- one set alone in its bytes
 
 -- a set that is refused
-pub alone-refused : (s : List ℕ) (r : Refusal) → judge s ≡ Refused r → Refused r ≡ aloneJudged (setAlone s)
+alone-refused : (s : List ℕ) (r : Refusal) → judge s ≡ Refused r → Refused r ≡ aloneJudged (setAlone s)
 unfolding judge setAlone
 alone-refused s r j = go (read s) j
   where
@@ -52,7 +68,7 @@ module _ (s : List ℕ) (x : Shape) (j : judge s ≡ Accepted x) where
       ap length (accepted s what (judge-read s x j .1) .bytes) ∙ (length-render fields (what .rest) ∙ ap (λ (y : Shape). y .length + length (what .rest)) (sym told))
 
   -- a second set follows: 18
-  pub alone-more : x .length < length s → Refused (refusal badUse (x .length) 0) ≡ aloneJudged (setAlone s)
+  alone-more : x .length < length s → Refused (refusal badUse (x .length) 0) ≡ aloneJudged (setAlone s)
   unfolding setAlone
   alone-more h = rw (judge-read s x j .1) (go (what .rest) length-is)
     where
@@ -65,13 +81,26 @@ module _ (s : List ℕ) (x : Shape) (j : judge s ≡ Accepted x) where
       go (b ∷ t) e = ap (λ (n : ℕ). Refused (refusal badUse n 0)) (sym place)
 
   -- the set is alone
-  pub alone-only : length s ≤ x .length → Accepted x ≡ aloneJudged (setAlone s)
+  alone-only : length s ≤ x .length → Accepted x ≡ aloneJudged (setAlone s)
   unfolding setAlone
   alone-only h = rw (judge-read s x j .1) (go (what .rest) length-is)
     where
       go : (t : List ℕ) → length s ≡ x .length + length t → Accepted x ≡ aloneJudged (verdict (inSet fields) (aloneFaults (parsed fields t)) fields)
       go [] e = ap Accepted told
       go (b ∷ t) e = absurd (omega arith)
+
+-- what judging says, held against all bytes, is what is said of one set alone
+pub alone-so : (s : List ℕ) (y : Judged) → y ≡ judge s → aloneOf y (length s) ≡ aloneJudged (setAlone s)
+alone-so s y e = go y (sym e)
+  where
+    held : (x : Shape) → judge s ≡ Accepted x → (b : Bool) → leb (length s) (x .length) ≡ b
+        → cond b (Accepted x) (Refused (refusal badUse (x .length) 0)) ≡ aloneJudged (setAlone s)
+    held x j true q = alone-only s x j (leb-true (length s) (x .length) q)
+    held x j false q = alone-more s x j (leb-false (length s) (x .length) q)
+
+    go : (y : Judged) → judge s ≡ y → aloneOf y (length s) ≡ aloneJudged (setAlone s)
+    go (Refused r) j = alone-refused s r j
+    go (Accepted x) j = held x j (leb (length s) (x .length)) refl
 
 -- ---- its blocks
 

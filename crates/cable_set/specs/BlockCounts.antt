@@ -7,7 +7,7 @@ use Rattle.meaning.specs.declared.Shape.{Shape}
 use Rattle.meaning.specs.declared.Judged.{Judged}
 use Rattle.meaning.specs.declared.Judged.the-variants.{Accepted, Refused}
 use Rattle.meaning.specs.Field.{Field}
-use Rattle.meaning.specs.Refusals.{Reply, refused, done}
+use Rattle.meaning.specs.Refusals.{Reply, refused, done, refusal, badUse}
 use Rattle.meaning.specs.Reading.{shape}
 use Rattle.meaning_cable.specs.Blocks.{maxData}
 
@@ -15,6 +15,11 @@ use Rattle.meaning_cable.specs.Blocks.{maxData}
 abbrev pub aloneJudged : Reply (List Field) → Judged
 aloneJudged (refused r) = Refused r
 aloneJudged (done fs) = Accepted (shape fs)
+
+-- as the set at the front of so many bytes is judged, and 18 if it does not fill them
+abbrev pub aloneOf : Judged → ℕ → Judged
+aloneOf (Refused r) n = Refused r
+aloneOf (Accepted x) n = cond (leb n (x .length)) (Accepted x) (Refused (refusal badUse (x .length) 0))
 
 -- how many bytes of data a set has: one less for each line, and one less after the last
 abbrev pub dataLength : Shape → ℕ

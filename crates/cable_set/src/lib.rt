@@ -1,9 +1,9 @@
 // One set alone in its bytes, and how many blocks it has on the cable.
 // No function has a `requires`. The contracts cite specs/BlockCounts; proofs/AloneSetLaws says what it means.
 ghost use mathlib.Core.Path.{_≡_};
-ghost use Rattle.meaning_cable.specs.Blocks.{setAlone, blocksOf};
+ghost use Rattle.meaning_cable.specs.Blocks.{blocksOf};
 ghost use Rattle.meaning_cable.specs.CableCalls.{counted};
-ghost use Rattle.cable_set.specs.BlockCounts.{aloneJudged, dataLength, countFor};
+ghost use Rattle.cable_set.specs.BlockCounts.{aloneOf, dataLength, countFor};
 use meaning::Judged;
 use meaning::Refusal;
 use meaning::Shape;
@@ -12,15 +12,16 @@ use meaning_cable::BlockCount;
 // The fewest blocks of a set: "a set that would fit one block is cut after its first 1Ch".
 const FEWEST: usize = 2;
 
-// "The sender refuses as the set does, and 18 for a second set".
-pub fn judge_alone(set: &[u8]) -> Judged
-    ensures { λ r. ⌜ r ≡ aloneJudged (setAlone (now (set .entry))) ⌝ }
+// "The sender refuses as the set does, and 18 for a second set": what judging says of the set at the front of so many bytes, held against these. The caller judges the set: so each one calls the
+// same `judge`, and a set that is refused at its start is handed over without a further frame.
+pub fn alone_of(judged: Judged, length: usize) -> Judged
+    ensures { λ r. ⌜ r ≡ aloneOf judged length ⌝ }
 {
-    match judge::judge(set) {
+    match judged {
         Judged::Refused(r) => Judged::Refused(r),
         Judged::Accepted(shape) => {
             // 18, BadUse: "another set follows (place: first set's length)"
-            if shape.length < set.len() {
+            if shape.length < length {
                 return Judged::Refused(Refusal::at(Refusal::BAD_USE, shape.length));
             }
             Judged::Accepted(shape)
@@ -52,7 +53,7 @@ pub fn count_for(length: usize) -> usize
 pub fn blocks_of(set: &[u8]) -> BlockCount
     ensures { λ r. ⌜ r ≡ counted (blocksOf (now (set .entry))) ⌝ }
 {
-    match judge_alone(set) {
+    match alone_of(judge::judge(set), set.len()) {
         Judged::Refused(r) => BlockCount::Refused(r),
         Judged::Accepted(shape) => BlockCount::Of(count_for(data_length(shape))),
     }

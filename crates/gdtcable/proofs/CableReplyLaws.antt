@@ -1,5 +1,5 @@
 -- The link's record as it follows from the answer alone is that of the call.
-use mathlib.Core.Path.{_≡_, refl, ap, ap₂, _∙_}
+use mathlib.Core.Path.{_≡_, refl, sym, ap, ap₂, _∙_}
 use mathlib.Core.List.{List}
 use Prim.Native.Nat.{ℕ}
 use Rattle.meaning.specs.Refusals.{Reply, refused, done}
@@ -10,15 +10,15 @@ use Rattle.meaning_cable.specs.Sending.{linkLeft, send}
 use Rattle.meaning_cable.specs.CableCalls.{sent}
 use Rattle.gdtcable.specs.declared.SentReply.{SentReply}
 use Rattle.gdtcable.specs.declared.SentTurn.{SentTurn}
-use Rattle.gdtcable.specs.CableReplies.{begins, sentReply, linkAfter, sendTurn}
+use Rattle.gdtcable.specs.CableReplies.{begins, sentReply, linkAfter, turnAfter, sendTurn}
 
 link-after : (s : Link) (r : Reply Turned) → linkAfter s (sent r) ≡ linkLeft s r
 link-after s (refused r) = refl
 link-after s (done t) = refl
 
 -- what is made of the sender's answer is all that the call comes to
-pub turn-is : (s : Link) (begin : ℕ) (bytes : List ℕ) (a : Sent) → a ≡ sent (send s (begins begin) bytes) → (t : Link) → t ≡ linkAfter s a
-    → (r : SentReply) → r ≡ sentReply a → record { link = t; reply = r } ≡ sendTurn s begin bytes
-turn-is s begin bytes a answers t left r replies =
+pub turn-is : (s : Link) (begin : ℕ) (bytes : List ℕ) (a b : Sent) → a ≡ sent (send s (begins begin) bytes) → a ≡ b → turnAfter s b ≡ sendTurn s begin bytes
+turn-is s begin bytes a b answers so =
+    let e : b ≡ sent (send s (begins begin) bytes) = sym so ∙ answers in
     ap₂ (λ (x : Link) (y : SentReply). record { link = x; reply = y })
-    (left ∙ (ap (linkAfter s) answers ∙ link-after s (send s (begins begin) bytes))) (replies ∙ ap sentReply answers)
+    (ap (linkAfter s) e ∙ link-after s (send s (begins begin) bytes)) (ap sentReply e)

@@ -42,6 +42,10 @@ abbrev pub linkAfter : Link → Sent → Link
 linkAfter s (Next t) = t .link
 linkAfter s (RefusedSet r) = s
 
+-- both of them
+abbrev pub turnAfter : Link → Sent → SentTurn
+turnAfter s a = record { link = linkAfter s a; reply = sentReply a }
+
 -- all that the call comes to: the link's record and the answer
 abbrev pub sendTurn : Link → ℕ → List ℕ → SentTurn
 sendTurn s begin bytes = record { link = sendCall s (begins begin) bytes .link; reply = sentReply (sendCall s (begins begin) bytes .answer) }

@@ -1,12 +1,15 @@
 // The C face of the serial cable: an archive of its own, so that the other calls stay as they are compiled without it.
 // Assumes nothing of the bytes, the numbers and the records. The contracts cite specs/CableReplies, which gives the numbers of each answer. include/gdt.h declares the calls.
 ghost use mathlib.Core.Path.{_≡_};
+ghost use Rattle.meaning_cable.specs.declared.Sent.the-variants.{Next};
 ghost use Rattle.meaning_cable.specs.Receiving.{receive};
 ghost use Rattle.meaning_cable.specs.CableCalls.{sendCall, blockCall, receivedCall};
 ghost use Rattle.face_replies.specs.Replies.{madeReply};
-ghost use Rattle.gdtcable.specs.CableReplies.{begins, sentReply, linkAfter, sendTurn, receivedReply};
+ghost use Rattle.gdtcable.specs.CableReplies.{begins, sentReply, turnAfter, sendTurn, receivedReply};
 use face_replies::MadeReply;
 use meaning::Made;
+use meaning::Refusal;
+use meaning_cable::Action;
 use meaning_cable::BLOCK;
 use meaning_cable::Link;
 use meaning_cable::Received;
@@ -42,20 +45,30 @@ pub struct SentTurn {
 
 // ---- the sender
 
-// The numbers of what the sender answers.
-fn sent_reply(sent: Sent) -> SentReply
-    ensures { λ r. ⌜ r ≡ sentReply sent ⌝ }
+// The sender goes on or ends: the record that it has then, and what has to be done next.
+fn next_turn(link: Link, action: Action) -> SentTurn
+    ensures { λ r. ⌜ r ≡ turnAfter link (Next (record { link = link; action = action })) ⌝ }
 {
-    match sent {
-        Sent::Next(turned) => SentReply {
+    SentTurn {
+        link,
+        reply: SentReply {
             no: 0,
             place: 0,
             label: 0,
-            what: turned.action.what,
-            block: turned.action.block,
-            count: turned.action.count,
+            what: action.what,
+            block: action.block,
+            count: action.count,
         },
-        Sent::Refused(refusal) => SentReply {
+    }
+}
+
+// A set that is refused leaves the record as it was.
+fn refused_turn(link: Link, refusal: Refusal) -> SentTurn
+    ensures { λ r. ⌜ r ≡ turnAfter link (Sent.Refused refusal) ⌝ }
+{
+    SentTurn {
+        link,
+        reply: SentReply {
             no: refusal.no,
             place: refusal.place,
             label: refusal.label,
@@ -66,25 +79,13 @@ fn sent_reply(sent: Sent) -> SentReply
     }
 }
 
-// A set that is refused leaves the record as it was.
-fn link_after(link: Link, sent: Sent) -> Link
-    ensures { λ r. ⌜ r ≡ linkAfter link sent ⌝ }
-{
-    match sent {
-        Sent::Next(turned) => turned.link,
-        Sent::Refused(_) => link,
-    }
-}
-
-// All that the sender's call comes to, by value.
+// All that the sender's call comes to, by value. Each answer is made whole in its own way, so that no record is copied twice.
 fn send_turn(link: Link, begin: usize, bytes: &[u8]) -> SentTurn
     ensures { λ r. ⌜ r ≡ sendTurn link begin (now (bytes .entry)) ⌝ }
 {
-    let sent = cable_send::send(link, begin != 0, bytes);
-    let next = link_after(link, sent);
-    SentTurn {
-        link: next,
-        reply: sent_reply(sent),
+    match cable_send::send(link, begin != 0, bytes) {
+        Sent::Next(turned) => next_turn(turned.link, turned.action),
+        Sent::Refused(refusal) => refused_turn(link, refusal),
     }
 }
 

@@ -3,12 +3,15 @@ use mathlib.Core.Path.{sym, ap, _∙_}
 use borrow.Author.Needs.{needs}
 use Rattle.meaning_cable.specs.declared.BlockCount.the-variants.{Of}
 use Rattle.cable_set.specs.BlockCounts.{countFor}
-use Rattle.cable_set.proofs.AloneSetLaws.{blocks-counted, blocks-refused}
+use Rattle.cable_set.proofs.AloneSetLaws.{alone-so, blocks-counted, blocks-refused}
 use Rattle.cable_set.proofs.blocks_of.Statement.{statement}
 use Rattle.cable_set.proofs.blocks_of.Tie as tie
 
-judge-alone-requires : tie.Need-judge-alone-requires
-judge-alone-requires c κs = search needs
+judge-requires : tie.Need-judge-requires
+judge-requires c κs = search needs
+
+alone-of-requires : tie.Need-alone-of-requires
+alone-of-requires c κs = search needs
 
 enum-known-r : tie.Need-enum-known-r
 enum-known-r c = search needs
@@ -25,22 +28,25 @@ count-for-requires c κs = search needs
 returns : tie.Need-returns
 returns c =
     let at-r = c .before in
-    let at-judge-alone = at-r .before .before in
-    sym (blocks-refused _ _ (sym (at-r .r .given .1) ∙ at-judge-alone .judge-alone .ensures))
+    let at-alone-of = at-r .before .before in
+    let at-judge = at-alone-of .before in
+    sym (blocks-refused _ _ (sym (at-r .r .given .1) ∙ (at-alone-of .alone-of .ensures ∙ alone-so _ _ (at-judge .judge .ensures))))
 
 returns-2 : tie.Need-returns-2
 returns-2 c =
     let at-data-length = c .before in
     let at-shape = at-data-length .before .before in
-    let at-judge-alone = at-shape .before .before in
+    let at-alone-of = at-shape .before .before in
+    let at-judge = at-alone-of .before in
     ap Of (c .count-for .ensures ∙ ap countFor (at-data-length .data-length .ensures))
-    ∙ sym (blocks-counted _ _ (sym (at-shape .shape .given .1) ∙ at-judge-alone .judge-alone .ensures))
+    ∙ sym (blocks-counted _ _ (sym (at-shape .shape .given .1) ∙ (at-alone-of .alone-of .ensures ∙ alone-so _ _ (at-judge .judge .ensures))))
 
 pub blocks-of-spec : {M : Type 1} → statement M
 blocks-of-spec =
     tie.close
     (tie.spec
-    judge-alone-requires
+    judge-requires
+    alone-of-requires
     enum-known-r
     enum-known-shape
     data-length-requires
