@@ -41,7 +41,8 @@ fn shown_alone(set: &[u8], shape: Shape, sheet: &[u8], line: usize) -> Viewed
 pub fn viewed(set: &[u8], sheet: &[u8], line: usize) -> Viewed
     ensures { λ r. ⌜ r ≡ Views.viewed (now (set .entry)) (now (sheet .entry)) line ⌝ }
 {
-    match judge::judge(set) {
+    // Lent anew: a slice that is handed on as it came is copied in one piece just after it was made of two, and the processor waits for that.
+    match judge::judge(&set[..]) {
         Judged::Refused(r) => Viewed::Refused(r),
         Judged::Accepted(shape) => shown_alone(set, shape, sheet, line),
     }
