@@ -1,5 +1,5 @@
 -- The walks of specs/ step by step: one law for each way that the code takes.
-use mathlib.Core.Path.{_≡_, refl}
+use mathlib.Core.Path.{_≡_, refl, _∙_}
 use mathlib.Core.Bool.{Bool, true, false, cond, not}
 use mathlib.Core.List.{List}
 use Prim.Native.Nat.{ℕ, zero, suc, pred, _+_, _-_, _≤_, _<_}
@@ -19,7 +19,7 @@ use Rattle.correct_offer.specs.declared.Terms.{Terms}
 use Rattle.correct_offer.specs.declared.Objection.{Objection}
 use Rattle.correct_offer.specs.declared.Offer.{Offer}
 use Rattle.correct_offer.specs.Offered.{oneLine, noLine, lineFrom, lineAfter, asksSeven, against, afterAll, offeredTo, offeredAt, offeredHigh, offered}
-use Rattle.correct_offer.specs.Offered.{objection, objectionOf, objectedHigh, objected}
+use Rattle.correct_offer.specs.Offered.{objection, objectionOf, objectedHigh, objected, objectionByNumber}
 
 -- ---- a line, with k lines to skip before it: the line at the offset gives the length n
 
@@ -69,39 +69,93 @@ plain-unasked s b e = rw e (go (saysSeven s))
 
 -- ---- 24, with nothing else against the content
 
-module _ (c : List ℕ) (seven : Bool) where
-  pub high-unasked : seven ≡ false → objection 0 0 0 ≡ objectedHigh c seven
+module _ (c : List ℕ) (high : ℕ) (e : high ≡ firstHigh c 0 (length c)) where
+  pub high-found : high < length c → highByte ≡ objectedHigh c true .no
   unfolding objectedHigh offeredHigh
-  high-unasked q = rw q
+  high-found h = rw (← e, lt-leb (length c) high h)
 
-  module _ (q : seven ≡ true) (high : ℕ) (e : high ≡ firstHigh c 0 (length c)) where
-    pub high-found : high < length c → objection highByte high 0 ≡ objectedHigh c seven
-    unfolding objectedHigh offeredHigh
-    high-found h = rw (q, ← e, lt-leb (length c) high h)
-
-    pub high-none : length c ≤ high → objection 0 0 0 ≡ objectedHigh c seven
-    unfolding objectedHigh offeredHigh
-    high-none h = rw (q, ← e, le-leb (length c) high h)
+  pub high-none : length c ≤ high → 0 ≡ objectedHigh c true .no
+  unfolding objectedHigh offeredHigh
+  high-none h = rw (← e, le-leb (length c) high h)
 
 -- ---- a content for a line with label l
 
 module _ (l : ℕ) (c : List ℕ) (seven : Bool) where
-  pub to-fixed : fixed l ≡ true → objection fixedLine 0 l ≡ objected l c seven
+  pub to-fixed : fixed l ≡ true → fixedLine ≡ objected l c seven .no
   unfolding objected offeredTo offeredHigh
   to-fixed f = rw f
 
   module _ (f : fixed l ≡ false) (low : ℕ) (e : low ≡ firstLow c 0 (length c)) where
-    pub to-low : low < length c → objection badByte low 0 ≡ objected l c seven
+    pub to-low : low < length c → badByte ≡ objected l c seven .no
     unfolding objected offeredTo offeredHigh
     to-low h = rw (f, ← e, lt-leb (length c) low h)
 
-    pub to-high : length c ≤ low → fitsLabel l c ≡ true → objectedHigh c seven ≡ objected l c seven
-    unfolding objected objectedHigh offeredTo
-    to-high h g = rw (f, ← e, le-leb (length c) low h, g)
+    module _ (h : length c ≤ low) where
+      pub to-bad : fitsLabel l c ≡ false → badContent ≡ objected l c seven .no
+      unfolding objected offeredTo offeredHigh
+      to-bad g = rw (f, ← e, le-leb (length c) low h, g)
 
-    pub to-bad : length c ≤ low → fitsLabel l c ≡ false → objection badContent 0 l ≡ objected l c seven
-    unfolding objected offeredTo offeredHigh
-    to-bad h g = rw (f, ← e, le-leb (length c) low h, g)
+      pub to-high : fitsLabel l c ≡ true → seven ≡ true → objectedHigh c true .no ≡ objected l c seven .no
+      unfolding objected objectedHigh offeredTo
+      to-high g q = rw (q, f, ← e, le-leb (length c) low h, g)
+
+      pub to-good : fitsLabel l c ≡ true → seven ≡ false → 0 ≡ objected l c seven .no
+      unfolding objected offeredTo offeredHigh
+      to-good g q = rw (q, f, ← e, le-leb (length c) low h, g)
+
+-- ---- by its number
+
+module _ (n l : ℕ) (c : List ℕ) where
+  pub number-good : n ≡ 0 → objection 0 0 0 ≡ objectionByNumber n l c
+  unfolding objectionByNumber
+  number-good z = rw z
+
+  pub number-low : n ≡ badByte → (low : ℕ) → low ≡ firstLow c 0 (length c) → objection badByte low 0 ≡ objectionByNumber n l c
+  unfolding objectionByNumber
+  number-low z low e = rw (z, ← e)
+
+  pub number-high : n ≡ highByte → (high : ℕ) → high ≡ firstHigh c 0 (length c) → objection highByte high 0 ≡ objectionByNumber n l c
+  unfolding objectionByNumber
+  number-high z high e = rw (z, ← e)
+
+  pub number-label : (n ≡ 0 → ⊥) → (n ≡ badByte → ⊥) → (n ≡ highByte → ⊥) → objection n 0 l ≡ objectionByNumber n l c
+  unfolding objectionByNumber
+  number-label z y x = rw (ne-eqb n 0 z, ne-eqb n badByte y, ne-eqb n highByte x)
+
+-- the number says the rest
+objection-is : (l : ℕ) (c : List ℕ) (seven : Bool) → objectionByNumber (objected l c seven .no) l c ≡ objected l c seven
+unfolding objected objectionByNumber offeredTo offeredHigh
+objection-is l c seven = go (fixed l) (leb (length c) low) (fitsLabel l c) seven (leb (length c) high)
+  where
+    low : ℕ
+    low = firstLow c 0 (length c)
+
+    high : ℕ
+    high = firstHigh c 0 (length c)
+
+    -- by the five tests
+    found : Bool → Bool → Bool → Bool → Bool → Objection
+    found a b f s h =
+        let x = oneLine l 0 0 in
+        let o = cond a (against fixedLine 0 l x) (cond b (cond f (against 0 0 0 x) (against badContent 0 l x)) (against badByte low 0 x)) in
+        objectionOf (cond (eqb (o .no) 0) (cond s (cond h o (against highByte high 0 (oneLine 0 (o .at) (o .size)))) o) o)
+
+    told : Objection → Objection
+    told o =
+        cond (eqb (o .no) 0) (objection 0 0 0)
+        (cond (eqb (o .no) badByte) (objection badByte low 0) (cond (eqb (o .no) highByte) (objection highByte high 0) (objection (o .no) 0 l)))
+
+    go : (a b f s h : Bool) → told (found a b f s h) ≡ found a b f s h
+    go true b f s h = refl
+    go false false f s h = refl
+    go false true false s h = refl
+    go false true true false h = refl
+    go false true true true true = refl
+    go false true true true false = refl
+
+-- what is found by the number that was found
+pub objection-by : (l : ℕ) (c : List ℕ) (seven : Bool) (n : ℕ) → n ≡ objected l c seven .no → (o : Objection) → o ≡ objectionByNumber n l c → o ≡ objected l c seven
+objection-by l c seven n e o p = p ∙ (rw e (objection-is l c seven))
 
 -- ---- a content for a line by its number
 

@@ -1,5 +1,6 @@
--- The walks of `line_after`, `terms_of`, `judge_content` and `judge_change`: the lines of a set by offsets, whether seven bits have to be asked for, and the tests 19, 20, 6, 14, 24
--- in the code's order. What they mean for an accepted set is `line-stands` and `offer-is` in proofs/OfferLaws, and `content-served` and `part-served` in proofs/TermsLaws.
+-- The walks of `line_after`, `terms_of`, `judge_content`, `objection_by_number` and `judge_change`: the lines of a set by offsets, whether seven bits have to be asked for, and the tests
+-- 19, 20, 6, 14, 24 in the code's order. What they mean for an accepted set is `line-stands` and `offer-is` in proofs/OfferLaws, and `content-served` and `part-served` in
+-- proofs/TermsLaws.
 use mathlib.Core.Bool.{Bool, cond, not, _&&_}
 use mathlib.Core.List.{List, [], _∷_}
 use Prim.Native.Nat.{ℕ, zero, suc, pred, _+_}
@@ -92,6 +93,13 @@ objectedHigh c seven = objectionOf (offeredHigh (against 0 0 0 noLine) c seven)
 -- 20, 6, 14, 24
 unfoldable pub objected : ℕ → List ℕ → Bool → Objection
 objected l c seven = objectionOf (offeredHigh (offeredTo (oneLine l 0 0) c) c seven)
+
+-- the same by its number alone: for 6 and 24 which byte, for 20 and 14 the label
+unfoldable pub objectionByNumber : ℕ → ℕ → List ℕ → Objection
+objectionByNumber n l c =
+    cond (eqb n 0) (objection 0 0 0)
+    (cond (eqb n badByte) (objection badByte (firstLow c 0 (length c)) 0)
+    (cond (eqb n highByte) (objection highByte (firstHigh c 0 (length c)) 0) (objection n 0 l)))
 
 -- ---- the fault that an offer stands for
 

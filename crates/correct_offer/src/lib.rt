@@ -1,9 +1,10 @@
 // Whether a line of an accepted set may take a new content: "19, 20, 6, 14", then 24, for a correction and for each entry of a sheet.
 // Assumes nothing of the bytes: each contract cites a walk of specs/, and proofs/OfferLaws and TermsLaws say what the walks of an accepted set mean.
 ghost use mathlib.Core.Path.{_≡_};
+ghost use mathlib.Core.Bool.{true};
 ghost use Rattle.meaning.specs.Refusals.{noSuchLine};
 ghost use Rattle.meaning.specs.Corrections.{fixed};
-ghost use Rattle.correct_offer.specs.Offered.{noLine, lineAfter, asksSeven, termsOf, afterAll, against, objection, objectedHigh, objected, offered};
+ghost use Rattle.correct_offer.specs.Offered.{noLine, lineAfter, asksSeven, termsOf, afterAll, against, objection, objectedHigh, objected, objectionByNumber, offered};
 use meaning::Refusal;
 use meaning::Shape;
 
@@ -140,37 +141,55 @@ fn against(no: usize, byte: usize, label: usize, line: OneLine) -> Offer
     }
 }
 
-// 24, HighByte: "for a correction or sheet entry after BadContent", so only if nothing else speaks against the content.
-fn judge_high(content: &[u8], seven: bool) -> Objection
-    ensures { λ r. ⌜ r ≡ objectedHigh (now (content .entry)) seven ⌝ }
+// 24, HighByte, of a content that may have no byte over 7Fh, or 0.
+fn judge_high(content: &[u8]) -> usize
+    ensures { λ r. ⌜ r ≡ objectedHigh (now (content .entry)) true .no ⌝ }
 {
-    if !seven {
-        return Objection::by(0, 0, 0);
+    if byte_high::first_high(content, 0, content.len()) < content.len() {
+        return Refusal::HIGH_BYTE;
     }
-    let high = byte_high::first_high(content, 0, content.len());
-    if high < content.len() {
-        return Objection::by(Refusal::HIGH_BYTE, high, 0);
-    }
-    Objection::by(0, 0, 0)
+    0
 }
 
-// A new content for a line with this label, of a correction or of an entry of a sheet: 20, 6, 14, and 24 if seven bits have to be asked for.
-pub fn judge_content(label: usize, content: &[u8], seven: bool) -> Objection
-    ensures { λ r. ⌜ r ≡ objected label (now (content .entry)) seven ⌝ }
+// A new content for a line with this label, of a correction or of an entry of a sheet: 20, 6, 14, and 24 if seven bits have to be asked for. The answer is the number alone (0:
+// nothing speaks against it), since most contents are good: `objection_by_number` tells the rest.
+pub fn judge_content(label: usize, content: &[u8], seven: bool) -> usize
+    ensures { λ r. ⌜ r ≡ objected label (now (content .entry)) seven .no ⌝ }
 {
     if is_fixed(label) {
-        return Objection::by(Refusal::FIXED_LINE, 0, label);
+        return Refusal::FIXED_LINE;
     }
-    // 6, BadByte: "place in the new content"
-    let low = byte_low::first_low(content, 0, content.len());
-    if low < content.len() {
-        return Objection::by(Refusal::BAD_BYTE, low, 0);
+    if byte_low::first_low(content, 0, content.len()) < content.len() {
+        return Refusal::BAD_BYTE;
     }
     // 14, BadContent: "empty included"
-    if table_kinds::fits_label(label, content) {
-        return judge_high(content, seven);
+    if !table_kinds::fits_label(label, content) {
+        return Refusal::BAD_CONTENT;
     }
-    Objection::by(Refusal::BAD_CONTENT, 0, label)
+    // 24, HighByte: "for a correction or sheet entry after BadContent", so only if nothing else speaks against the content.
+    if seven {
+        return judge_high(content);
+    }
+    0
+}
+
+// What speaks against a content for a line with this label, by the number of the refusal.
+pub fn objection_by_number(no: usize, label: usize, content: &[u8]) -> Objection
+    ensures { λ r. ⌜ r ≡ objectionByNumber no label (now (content .entry)) ⌝ }
+{
+    if no == 0 {
+        return Objection::by(0, 0, 0);
+    }
+    // 6, BadByte: "place in the new content"
+    if no == Refusal::BAD_BYTE {
+        let low = byte_low::first_low(content, 0, content.len());
+        return Objection::by(Refusal::BAD_BYTE, low, 0);
+    }
+    if no == Refusal::HIGH_BYTE {
+        let high = byte_high::first_high(content, 0, content.len());
+        return Objection::by(Refusal::HIGH_BYTE, high, 0);
+    }
+    Objection::by(no, 0, label)
 }
 
 // 19, NoSuchLine: "line number 0 or beyond the set; place: set length".
@@ -201,6 +220,7 @@ pub fn judge_change(set: &[u8], shape: Shape, line: usize, content: &[u8]) -> Of
     }
     let x = line_after(set, line - 1);
     let seven = asks_seven(set, content);
-    let found = judge_content(x.label, content, seven);
+    let no = judge_content(x.label, content, seven);
+    let found = objection_by_number(no, x.label, content);
     against(found.no, found.byte, found.label, x)
 }

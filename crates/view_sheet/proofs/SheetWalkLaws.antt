@@ -28,11 +28,11 @@ use Rattle.entry_read.proofs.HeadLaws.{whole-back}
 use Rattle.correct_offer.specs.declared.Offer.{Offer}
 use Rattle.correct_offer.specs.declared.OneLine.{OneLine}
 use Rattle.correct_offer.specs.declared.Terms.{Terms}
-use Rattle.correct_offer.specs.Offered.{lineFrom, lineAfter, termsOf, offered, objected, offerSpot}
+use Rattle.correct_offer.specs.Offered.{lineFrom, lineAfter, termsOf, offered, objected, objectionByNumber, offerSpot}
 use Rattle.line_roll.specs.declared.Roll.{Roll}
 use Rattle.line_roll.specs.Rolled.{lineStart, Lined, Rolled}
 use Rattle.correct_offer.specs.declared.Objection.{Objection}
-use Rattle.correct_offer.proofs.OfferWalkLaws.{number-none, number-beyond, number-there}
+use Rattle.correct_offer.proofs.OfferWalkLaws.{number-none, number-beyond, number-there, objection-by}
 use Rattle.correct_offer.proofs.OfferLaws.{line-stands, objected-byte}
 use Rattle.view_part.specs.Parts.{newer}
 use Rattle.view_sheet.specs.declared.SheetEntry.{SheetEntry}
@@ -46,34 +46,45 @@ module _ (at n : ℕ) (w : Part) (q : w ≡ part (at + entryLead) n) where
   pub content-ends : w .place + w .length ≡ at + (entryLead + n)
   content-ends = rw q (omega arith)
 
-  -- what is found of it, for line k with label l
-  module _ (h : List ℕ) (k l : ℕ) (seven : Bool) (o : Objection) (p : o ≡ objected l (take ((w .place + w .length) - w .place) (drop (w .place) h)) seven) where
+  -- the number that is found of it, for line k with label l
+  module _ (h : List ℕ) (k l : ℕ) (seven : Bool) (m : ℕ) (e : m ≡ objected l (take ((w .place + w .length) - w .place) (drop (w .place) h)) seven .no) where
     abbrev found : SheetEntry
     found = byObjection (objected l (take n (drop (at + entryLead) h)) seven) at k n
 
-    found-so : o ≡ objected l (take n (drop (at + entryLead) h)) seven
-    found-so = p ∙ rw (q, add-sub-cancel-left (at + entryLead) n)
+    content-so : take ((w .place + w .length) - w .place) (drop (w .place) h) ≡ take n (drop (at + entryLead) h)
+    content-so = rw (q, add-sub-cancel-left (at + entryLead) n)
 
-    -- the byte that is refused stands in it
-    pub byte-within : w .place + o .byte ≤ at + (entryLead + n)
-    byte-within =
-        let c : List ℕ = take n (drop (at + entryLead) h) in
-        omega (arith, ap (λ (y : Objection). y .byte) found-so, objected-byte l c seven, length-take n (drop (at + entryLead) h), ap (λ (y : Part). y .place) q)
+    pub entry-good : m ≡ 0 → Good k n ≡ found
+    entry-good z = rw (sym (rw (content-so, z) at e))
 
-    entry-by : byObjection o at k n ≡ found
-    entry-by = rw found-so
+    -- what is found by the number
+    module _ (o : Objection) (p : o ≡ objectionByNumber m l (take ((w .place + w .length) - w .place) (drop (w .place) h))) where
+      found-so : o ≡ objected l (take n (drop (at + entryLead) h)) seven
+      found-so = rw content-so at (objection-by l (take ((w .place + w .length) - w .place) (drop (w .place) h)) seven m e o p)
 
-    pub entry-good : o .no ≡ 0 → Good k n ≡ found
-    entry-good z = rw z at entry-by
+      -- the byte that is refused stands in it
+      pub byte-within : w .place + o .byte ≤ at + (entryLead + n)
+      byte-within =
+          let c : List ℕ = take n (drop (at + entryLead) h) in
+          omega (arith, ap (λ (y : Objection). y .byte) found-so, objected-byte l c seven, length-take n (drop (at + entryLead) h), ap (λ (y : Part). y .place) q)
 
-    module _ (z : o .no ≡ 0 → ⊥) where
-      pub entry-byte : tellsByte (o .no) ≡ true → SheetEntry.Refused (refusal (o .no) (w .place + o .byte) (o .label)) ≡ found
-      entry-byte b =
-          let a : w .place + o .byte ≡ at + (entryLead + o .byte) = omega (arith, ap (λ (y : Part). y .place) q) in
-          rw a (rw (ne-eqb (o .no) 0 z, b) at entry-by)
+      entry-by : byObjection o at k n ≡ found
+      entry-by = rw found-so
 
-      pub entry-bad : tellsByte (o .no) ≡ false → SheetEntry.Refused (refusal (o .no) at (o .label)) ≡ found
-      entry-bad b = rw (ne-eqb (o .no) 0 z, b, add-zero at) at entry-by
+      number-so : o .no ≡ m
+      number-so = ap (λ (y : Objection). y .no) found-so ∙ sym (rw content-so at e)
+
+      module _ (z : m ≡ 0 → ⊥) where
+        refused : o .no ≡ 0 → ⊥
+        refused y = z (sym number-so ∙ y)
+
+        pub entry-byte : tellsByte (o .no) ≡ true → SheetEntry.Refused (refusal (o .no) (w .place + o .byte) (o .label)) ≡ found
+        entry-byte b =
+            let a : w .place + o .byte ≡ at + (entryLead + o .byte) = omega (arith, ap (λ (y : Part). y .place) q) in
+            rw a (rw (ne-eqb (o .no) 0 refused, b) at entry-by)
+
+        pub entry-bad : tellsByte (o .no) ≡ false → SheetEntry.Refused (refusal (o .no) at (o .label)) ≡ found
+        entry-bad b = rw (ne-eqb (o .no) 0 refused, b, add-zero at) at entry-by
 
 -- ---- the label of its line
 

@@ -79,13 +79,15 @@ fn judge_entry(
     let part = content_part(sheet, at, bytes);
     let start = part.place;
     let end = start + part.length;
-    let found = correct_offer::judge_content(label, &sheet[start..end], seven);
-    if found.no == 0 {
+    let content = &sheet[start..end];
+    let no = correct_offer::judge_content(label, content, seven);
+    if no == 0 {
         return SheetEntry::Good {
             named,
             length: bytes,
         };
     }
+    let found = correct_offer::objection_by_number(no, label, content);
     if Refusal::tells_byte(found.no) {
         return bad_entry(found.no, start + found.byte, found.label);
     }
