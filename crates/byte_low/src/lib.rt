@@ -47,17 +47,15 @@ pub fn seek_low(s: &[u8], at: usize, k: usize) -> usize
     i
 }
 
-// The same offset, among no more bytes than a block has: the first and the last half of a block are tested at once.
+// The same offset, among no more bytes than a block has: the first and the last half of a block are tested at once, both for one branch.
 fn short_low(s: &[u8], at: usize, k: usize) -> usize
     requires { ⌜ (k ≤ block) × (at + k ≤ length (now s)) ⌝ }
     ensures { λ r. ⌜ r ≡ firstLow (now (s .entry)) at k ⌝ }
 {
     let end = at + k;
     if HALF_BLOCK <= k {
-        if clean(s, at, HALF_BLOCK) {
-            if clean(s, end - HALF_BLOCK, HALF_BLOCK) {
-                return end;
-            }
+        if clean(s, at, HALF_BLOCK) & clean(s, end - HALF_BLOCK, HALF_BLOCK) {
+            return end;
         }
     }
     seek_low(s, at, k)

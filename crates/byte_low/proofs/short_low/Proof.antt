@@ -4,6 +4,7 @@ use native.Mathlib.Omega.{arith}
 use borrow.Author.Needs.{needs}
 use lib.Dec.{leb}
 use Rattle.meaning.specs.Lines.{leastByte}
+use Rattle.meaning.proofs.Bools.{and-left, and-right}
 use Rattle.byte_low.proofs.SeekLaws.{seek-ends}
 use Rattle.byte_low.proofs.short_low.Statement.{statement}
 use Rattle.byte_low.proofs.short_low.Tie as tie
@@ -23,9 +24,10 @@ clean-requires-2 c κs = search needs
 returns : tie.Need-returns
 returns c =
     let at-clean2 = c .before in
-    let at-if2 = at-clean2 .before in
-    let at-clean = at-if2 .before in
-    sym (seek-ends (leb leastByte) _ _ _ _ (omega arith) (omega arith) (at-clean .clean .ensures (at-if2 .if2 .taken)) (at-clean2 .clean2 .ensures (c .if3 .taken)))
+    let at-clean = at-clean2 .before in
+    let first = at-clean .clean .ensures (and-left _ _ (c .if2 .taken)) in
+    let last = at-clean2 .clean2 .ensures (and-right (at-clean .clean .result) _ (c .if2 .taken)) in
+    sym (seek-ends (leb leastByte) _ _ _ _ (omega arith) (omega arith) first last)
 
 seek-low-requires : tie.Need-seek-low-requires
 seek-low-requires c κs = search needs
