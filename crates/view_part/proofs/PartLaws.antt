@@ -1,4 +1,4 @@
--- The ways that `newer_part` and `shown_bytes` end, and that a newer part lies within its slice.
+-- The ways that `later_entry` and `shown_bytes` end, and that a newer part lies within its slice.
 use mathlib.Core.Path.{_≡_, subst}
 use mathlib.Core.Bool.{Bool, true, false, cond}
 use mathlib.Core.List.{List}
@@ -11,17 +11,17 @@ use Rattle.meaning.specs.declared.Part.{Part}
 use Rattle.meaning.specs.declared.Viewed.{Viewed}
 use Rattle.meaning.specs.declared.Viewed.the-variants.{Sheet, Set}
 use Rattle.meaning.specs.Views.{shownBytes}
-use Rattle.view_part.specs.Parts.{newer, Within}
+use Rattle.view_part.specs.Parts.{newer, later, Within}
 
 -- ---- one more entry
 
-pub newer-this : (v : Viewed) (p : Part) (k n : ℕ) → k ≡ n → Sheet p ≡ newer v p k n
-unfolding newer
-newer-this v p k n e = rw (eq-eqb k n e)
+pub later-this : (last at k n : ℕ) → k ≡ n → at ≡ later last at k n
+unfolding later
+later-this last at k n e = rw (eq-eqb k n e)
 
-pub newer-other : (v : Viewed) (p : Part) (k n : ℕ) → (k ≡ n → ⊥) → v ≡ newer v p k n
-unfolding newer
-newer-other v p k n e = rw (ne-eqb k n e)
+pub later-other : (last at k n : ℕ) → (k ≡ n → ⊥) → last ≡ later last at k n
+unfolding later
+later-other last at k n e = rw (ne-eqb k n e)
 
 pub newer-within : (s h : List ℕ) (v : Viewed) (p : Part) (k n : ℕ) → p .place + p .length ≤ length h → Within s h v → Within s h (newer v p k n)
 unfolding newer Within

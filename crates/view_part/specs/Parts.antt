@@ -12,6 +12,10 @@ use Rattle.meaning.specs.declared.Viewed.the-variants.{Sheet, Set, Refused}
 unfoldable pub newer : Viewed → Part → ℕ → ℕ → Viewed
 newer v p k n = cond (eqb k n) (Sheet p) v
 
+-- the same of the offsets of entries: of the one at `at`, if the last one before it for line n stands at `last`
+unfoldable pub later : ℕ → ℕ → ℕ → ℕ → ℕ
+later last at k n = cond (eqb k n) at last
+
 -- the part of the set s or of the sheet h that is shown lies within it
 unfoldable pub Within : List ℕ → List ℕ → Viewed → Type 0
 Within s h (Sheet q) = q .place + q .length ≤ length h

@@ -2,18 +2,17 @@
 // Assumes nothing of the bytes; `shown_bytes`, which only other crates here call, assumes that the part lies within its slice.
 ghost use mathlib.Core.Path.{_≡_};
 ghost use Rattle.meaning.specs.Views.{shownBytes};
-ghost use Rattle.view_part.specs.Parts.{newer, Within};
-use meaning::Part;
+ghost use Rattle.view_part.specs.Parts.{later, Within};
 use meaning::Viewed;
 
-// "The last for a line counts": the part of the sheet if the entry is for the line asked for, else what was shown before.
-pub fn newer_part(shown: Viewed, part: Part, named: usize, line: usize) -> Viewed
-    ensures { λ r. ⌜ r ≡ newer shown part named line ⌝ }
+// "The last for a line counts": the offset of an entry if it is for the line asked for, else that of the last one before it.
+pub fn later_entry(last: usize, at: usize, named: usize, line: usize) -> usize
+    ensures { λ r. ⌜ r ≡ later last at named line ⌝ }
 {
     if named == line {
-        return Viewed::Sheet(part);
+        return at;
     }
-    shown
+    last
 }
 
 // The part itself; "a refusal comes with an empty part of the set".

@@ -16,7 +16,7 @@ use Rattle.meaning.specs.declared.Viewed.{Viewed}
 use Rattle.meaning.specs.declared.Viewed.the-variants.{Sheet, Set, Refused}
 use Rattle.meaning.specs.Refusals.{tellsByte, behind, refusal, badList, noSuchLine, tooManyLines}
 use Rattle.meaning.specs.Lines.{minLineBytes}
-use Rattle.meaning.specs.Entries.{entryLead}
+use Rattle.meaning.specs.Entries.{entryLead, twoBytesAt}
 use Rattle.meaning.specs.Reading.{judge}
 use Rattle.meaning.specs.Views.{part}
 use Rattle.meaning.proofs.Demands.{judge-read}
@@ -34,10 +34,10 @@ use Rattle.line_roll.specs.Rolled.{lineStart, Lined, Rolled}
 use Rattle.correct_offer.specs.declared.Objection.{Objection}
 use Rattle.correct_offer.proofs.OfferWalkLaws.{number-none, number-beyond, number-there, objection-by}
 use Rattle.correct_offer.proofs.OfferLaws.{line-stands, objected-byte}
-use Rattle.view_part.specs.Parts.{newer}
+use Rattle.view_part.specs.Parts.{newer, later}
 use Rattle.view_sheet.specs.declared.SheetEntry.{SheetEntry}
 use Rattle.view_sheet.specs.declared.SheetEntry.the-variants.{Good}
-use Rattle.view_sheet.specs.Showing.{byObjection, sheetEntryBy, sheetEntryAt, setPart, goodThen, shownFrom, shownBySheet, shownUnder}
+use Rattle.view_sheet.specs.Showing.{byObjection, sheetEntryBy, sheetEntryAt, setPart, goodThen, shownFrom, EntryWithin, shownLast, shownBySheet, shownUnder}
 
 -- ---- one entry of the sheet
 
@@ -131,16 +131,24 @@ good-length : (b : Bool) (r : Refusal) (k n k′ n′ : ℕ) → cond b (Good k�
 good-length true r k n k′ n′ e = cc
 good-length false r k n k′ n′ e = let z : _≡_ {A = ℕ} 0 1 = cc in absurd (omega arith)
 
--- an entry that is good lies within the sheet
-pub sheet-within : (s : List ℕ) (t : Terms) (h : List ℕ) (at k n : ℕ) → sheetEntryAt s t h at ≡ Good k n → at + (entryLead + n) ≤ length h
-unfolding sheetEntryAt
-sheet-within s t h at k n e = go (entryAt h at) refl e
-  where
-    go : (y : Head) → entryAt h at ≡ y → sheetEntryBy s t h at y ≡ Good k n → at + (entryLead + n) ≤ length h
-    go (Whole k′ n′) w q =
-        let o : Offer = offered s t k′ (take n′ (drop (at + entryLead) h)) in
-        omega (arith, good-length (eqb (o .no) 0) (refusal (o .no) (at + behind entryLead (offerSpot o)) (o .label)) k n k′ n′ q, whole-back h at w .within)
-    go Cut w q = let z : _≡_ {A = ℕ} 0 1 = cc in absurd (omega arith)
+-- an entry that is good is whole: it says its length, and lies within the sheet
+module _ (s : List ℕ) (t : Terms) (h : List ℕ) (at k n : ℕ) (e : sheetEntryAt s t h at ≡ Good k n) where
+  sheet-whole : (k′ : ℕ) × (entryAt h at ≡ Whole k′ n)
+  unfolding sheetEntryAt
+  sheet-whole = go (entryAt h at) refl e
+    where
+      go : (y : Head) → entryAt h at ≡ y → sheetEntryBy s t h at y ≡ Good k n → (k′ : ℕ) × (entryAt h at ≡ Whole k′ n)
+      go (Whole k′ n′) w q =
+          let o : Offer = offered s t k′ (take n′ (drop (at + entryLead) h)) in
+          let m : n′ ≡ n = good-length (eqb (o .no) 0) (refusal (o .no) (at + behind entryLead (offerSpot o)) (o .label)) k n k′ n′ q in
+          (k′, rw m at w)
+      go Cut w q = let z : _≡_ {A = ℕ} 0 1 = cc in absurd (omega arith)
+
+  pub sheet-within : at + (entryLead + n) ≤ length h
+  sheet-within = whole-back h at (sheet-whole .1) .within
+
+  pub sheet-length : twoBytesAt h at ≡ n
+  sheet-length = whole-back h at (sheet-whole .1) .length-told
 
 -- ---- the set
 
@@ -176,14 +184,52 @@ module _ (s : List ℕ) (t : Terms) (h : List ℕ) (n m at : ℕ) (v : Viewed) w
         go zero w = absurd (omega arith)
         go (suc i) w = rw (lt-leb (length h) at l, e)
 
-    pub shown-next : (k len : ℕ) → sheetEntryAt s t h at ≡ Good k len → (w : Part) → w ≡ part (at + entryLead) len → (v′ : Viewed) → v′ ≡ newer v w k n
-        → shownFrom s t h n (pred m) (w .place + w .length) v′ ≡ shownFrom s t h n m at v
+    pub shown-next : (k len : ℕ) → sheetEntryAt s t h at ≡ Good k len → (v′ : Viewed) → v′ ≡ newer v (part (at + entryLead) len) k n
+        → shownFrom s t h n (pred m) (at + (entryLead + len)) v′ ≡ shownFrom s t h n m at v
     unfolding shownFrom
-    shown-next k len e w p v′ q = go m few
+    shown-next k len e v′ q = go m few
       where
-        go : (i : ℕ) → length h ≤ at + i → shownFrom s t h n (pred i) (w .place + w .length) v′ ≡ shownFrom s t h n i at v
+        go : (i : ℕ) → length h ≤ at + i → shownFrom s t h n (pred i) (at + (entryLead + len)) v′ ≡ shownFrom s t h n i at v
         go zero r = absurd (omega arith)
-        go (suc i) r = rw (lt-leb (length h) at l, e, q, ← content-ends at len w p, p)
+        go (suc i) r = rw (lt-leb (length h) at l, e, q)
+
+-- ---- the last entry for the line
+
+-- no entry
+pub last-none : (h : List ℕ) → EntryWithin h (length h)
+unfolding EntryWithin
+last-none h l = absurd (omega arith)
+
+pub shown-none : (h : List ℕ) (last : ℕ) → length h ≤ last → Set (part 0 0) ≡ shownLast h last
+unfolding shownLast
+shown-none h last e = rw (le-leb (length h) last e)
+
+-- an entry of n bytes
+pub last-within : (h : List ℕ) (last : ℕ) → EntryWithin h last → last < length h → last + (entryLead + twoBytesAt h last) ≤ length h
+unfolding EntryWithin
+last-within h last w l = w l
+
+pub shown-there : (h : List ℕ) (last n : ℕ) → last < length h → n ≡ twoBytesAt h last → Sheet (part (last + entryLead) n) ≡ shownLast h last
+unfolding shownLast
+shown-there h last n l e = rw (lt-leb (length h) last l, e)
+
+-- one more entry that is good, for line k
+module _ (s : List ℕ) (t : Terms) (h : List ℕ) (at k len : ℕ) (e : sheetEntryAt s t h at ≡ Good k len) (last n last′ : ℕ) (q : last′ ≡ later last at k n) where
+  pub later-within : EntryWithin h last → EntryWithin h last′
+  unfolding EntryWithin later
+  later-within w = rw q (go (eqb k n))
+    where
+      go : (b : Bool) → cond b at last < length h → cond b at last + (entryLead + twoBytesAt h (cond b at last)) ≤ length h
+      go true l = omega (arith, sheet-within s t h at k len e, sheet-length s t h at k len e)
+      go false l = w l
+
+  pub later-shown : at < length h → shownLast h last′ ≡ newer (shownLast h last) (part (at + entryLead) len) k n
+  unfolding later newer
+  later-shown l = rw q (go (eqb k n))
+    where
+      go : (b : Bool) → shownLast h (cond b at last) ≡ cond b (Sheet (part (at + entryLead) len)) (shownLast h last)
+      go true = sym (shown-there h at len l (sym (sheet-length s t h at k len e)))
+      go false = refl
 
 -- the part of the set that is shown if the sheet has no entry for the line
 abbrev pub withSet : Part → Viewed → Viewed

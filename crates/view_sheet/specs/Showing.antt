@@ -3,16 +3,16 @@
 -- What they mean is `under-is` in proofs/ShowingLaws.
 use mathlib.Core.Bool.{cond}
 use mathlib.Core.List.{List}
-use Prim.Native.Nat.{ℕ, zero, suc, pred, _+_, _-_}
+use Prim.Native.Nat.{ℕ, zero, suc, pred, _+_, _-_, _≤_, _<_}
 use lib.ListN.{length, take, drop}
 use lib.Dec.{leb, eqb}
 use Rattle.meaning.specs.declared.Part.{Part}
 use Rattle.meaning.specs.declared.Shape.{Shape}
 use Rattle.meaning.specs.declared.Viewed.{Viewed}
-use Rattle.meaning.specs.declared.Viewed.the-variants.{Set, Refused}
+use Rattle.meaning.specs.declared.Viewed.the-variants.{Sheet, Set, Refused}
 use Rattle.meaning.specs.Refusals.{behind, refusal, badList, noSuchLine, tooManyLines}
 use Rattle.meaning.specs.Lines.{lineLead, lineEnd}
-use Rattle.meaning.specs.Entries.{entryLead}
+use Rattle.meaning.specs.Entries.{entryLead, twoBytesAt}
 use Rattle.meaning.specs.Views.{part}
 use Rattle.entry_read.specs.declared.Head.{Head}
 use Rattle.entry_read.specs.declared.Head.the-variants.{Whole, Cut}
@@ -67,6 +67,14 @@ shownFrom s t h n zero at v = cond (leb (length h) at) v (Refused (refusal tooMa
 shownFrom s t h n (suc m) at v =
     cond (leb (length h) at) v
     (goodThen (sheetEntryAt s t h at) (λ k l. shownFrom s t h n m (at + (entryLead + l)) (newer v (part (at + entryLead) l) k n)))
+
+-- if there is an entry at this offset of the sheet h, it lies within h
+unfoldable pub EntryWithin : List ℕ → ℕ → Type 0
+EntryWithin h at = at < length h → at + (entryLead + twoBytesAt h at) ≤ length h
+
+-- what is shown if the last entry for the line stands at this offset of the sheet h; after its last byte stands none
+unfoldable pub shownLast : List ℕ → ℕ → Viewed
+shownLast h last = cond (leb (length h) last) (Set (part 0 0)) (Sheet (part (last + entryLead) (twoBytesAt h last)))
 
 -- what the whole sheet shows, or nothing of the set; a sheet never has more entries than bytes
 unfoldable pub shownBySheet : List ℕ → Terms → List ℕ → ℕ → Viewed

@@ -11,7 +11,7 @@ ghost use Rattle.meaning.specs.Entries.{entryLead};
 ghost use Rattle.meaning.specs.Views.{part};
 ghost use Rattle.line_roll.specs.Rolled.{Lined, Rolled};
 ghost use Rattle.correct_offer.specs.Offered.{objected};
-ghost use Rattle.view_sheet.specs.Showing.{byObjection, noSuchEntry, setPart, sheetEntryAt, shownBySheet, shownUnder};
+ghost use Rattle.view_sheet.specs.Showing.{byObjection, noSuchEntry, setPart, sheetEntryAt, EntryWithin, shownLast, shownBySheet, shownUnder};
 use correct_offer::Terms;
 use entry_read::Head;
 use line_roll::Roll;
@@ -145,16 +145,28 @@ fn part_of_set(set: &[u8], shape: Shape, line: usize) -> Part
     }
 }
 
+// The part of the sheet that the last entry for a line holds, by the entry's offset; nothing of the set if there is none.
+fn shown_last(sheet: &[u8], last: usize) -> Viewed
+    requires { ⌜ EntryWithin (now sheet) last ⌝ }
+    ensures { λ r. ⌜ r ≡ shownLast (now (sheet .entry)) last ⌝ }
+{
+    if last < sheet.len() {
+        let bytes = entry_read::told_length(sheet, last);
+        return Viewed::Sheet(content_part(sheet, last, bytes));
+    }
+    Viewed::Set(Part {
+        place: 0,
+        length: 0,
+    })
+}
+
 // What the sheet shows for a line: the part of the last entry for it, or nothing of the set if it has none. Each entry is judged. The labels of the set are read into `labels`.
 fn shown_by_roll(set: &[u8], terms: Terms, labels: &mut [u16], sheet: &[u8], line: usize) -> Viewed
     requires { ⌜ Lined (now set) (terms .lines) ⌝ }
     requires { ⌜ terms .lines ≤ length (now labels) ⌝ }
     ensures { λ r. ⌜ r ≡ shownBySheet (now (set .entry)) terms (now (sheet .entry)) line ⌝ }
 {
-    let mut shown = Viewed::Set(Part {
-        place: 0,
-        length: 0,
-    });
+    let mut last = sheet.len();
     let mut roll = Roll::none();
     let mut at = 0;
     while at < sheet.len() {
@@ -166,13 +178,12 @@ fn shown_by_roll(set: &[u8], terms: Terms, labels: &mut [u16], sheet: &[u8], lin
                 return Viewed::Refused(r);
             }
             SheetEntry::Good { named, length } => {
-                let part = content_part(sheet, at, length);
-                shown = view_part::newer_part(shown, part, named, line);
-                at = part.place + part.length;
+                last = view_part::later_entry(last, at, named, line);
+                at += meaning::ENTRY_LEAD + length;
             }
         }
     }
-    shown
+    shown_last(sheet, last)
 }
 
 // The same, with room for the labels.

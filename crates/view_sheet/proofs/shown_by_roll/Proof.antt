@@ -1,23 +1,23 @@
 -- `shown_by_roll` is the walk `shownFrom`: what the entries that are left show after those before them is what all show. What the roll knows stays known.
-use mathlib.Core.Path.{_≡_, refl, sym, _∙_}
+use mathlib.Core.Path.{_≡_, refl, sym, ap, _∙_}
 use Prim.Native.Nat.{ℕ, _+_, _-_, _≤_, pred}
 use native.Mathlib.Omega.{arith}
 use borrow.Author.Needs.{needs}
 use lib.ListN.{length}
 use Rattle.line_roll.specs.Rolled.{Rolled}
 use Rattle.line_roll.proofs.RollLaws.{rolled-none}
-use Rattle.view_sheet.specs.Showing.{shownFrom, shownBySheet}
-use Rattle.view_sheet.proofs.SheetWalkLaws.{content-ends, sheet-within, shown-end, shown-bad, shown-next}
+use Rattle.view_sheet.specs.Showing.{shownFrom, EntryWithin, shownLast, shownBySheet}
+use Rattle.view_sheet.proofs.SheetWalkLaws.{sheet-within, shown-end, shown-bad, shown-next, last-none, shown-none, later-within, later-shown}
 use Rattle.view_sheet.proofs.shown_by_roll.Statement.{statement}
 use Rattle.view_sheet.proofs.shown_by_roll.Tie as tie
 
 abbrev Inv-loop : tie.InvT-loop
-Inv-loop set terms labels₀ sheet line shown₀ roll₀ at₀ labels shown roll at =
-    (at ≤ length sheet) × (k : ℕ) × (length sheet ≤ at + k) × (shownFrom set terms sheet line k at shown ≡ shownBySheet set terms sheet line)
-    × Rolled set labels roll × (length labels ≡ length labels₀)
+Inv-loop set terms labels₀ sheet line last₀ roll₀ at₀ labels last roll at =
+    (at ≤ length sheet) × (k : ℕ) × (length sheet ≤ at + k) × (shownFrom set terms sheet line k at (shownLast sheet last) ≡ shownBySheet set terms sheet line)
+    × Rolled set labels roll × (length labels ≡ length labels₀) × EntryWithin sheet last
 
 abbrev μ-loop : tie.MeasureT-loop
-μ-loop set terms labels₀ sheet line shown₀ roll₀ at₀ labels shown roll at = length sheet - at
+μ-loop set terms labels₀ sheet line last₀ roll₀ at₀ labels last roll at = length sheet - at
 
 none-requires : tie.Need-none-requires Inv-loop μ-loop
 none-requires c κs = search needs
@@ -31,9 +31,10 @@ loop-holds c =
       omega arith,
       length (a .sheet .now),
       omega arith,
-      refl,
+      ap (shownFrom (a .set .now) (a .terms) (a .sheet .now) (a .line) (length (a .sheet .now)) 0) (sym (shown-none (a .sheet .now) (length (a .sheet .now)) (omega arith))),
       rw (c .none .ensures) (rolled-none (a .set .now) (a .labels .now)),
       refl,
+      last-none (a .sheet .now),
     )
 
 check-entry-requires : tie.Need-check-entry-requires Inv-loop μ-loop
@@ -69,34 +70,17 @@ returns c =
     let at-loop = at-loop-test .before in
     let l = at-loop .loop in
     let e = sym (at-check-entry .check-entry .ensures .0) ∙ at-entry .entry .given .1 in
-    shown-bad _ _ _ _ (l .inv .1) (l .at) (l .shown) (at-loop-test .loop-test .taken) (l .inv .2) _ e ∙ l .inv .3
+    shown-bad _ _ _ _ (l .inv .1) (l .at) _ (at-loop-test .loop-test .taken) (l .inv .2) _ e ∙ l .inv .3
 
 enum-known-entry-2 : tie.Need-enum-known-entry-2 Inv-loop μ-loop
 enum-known-entry-2 c = search needs
 
-content-part-requires : tie.Need-content-part-requires Inv-loop μ-loop
-content-part-requires c κs =
-    let at-entry2 = c .before in
-    let at-match = at-entry2 .before in
-    let at-slice-known2 = at-match .before .before in
-    let at-check-entry = at-slice-known2 .before .before in
-    let at-loop-test = at-check-entry .before .before in
-    let at-loop = at-loop-test .before in
-    let l = at-loop .loop in
-    let at-none = at-loop .before in
-    let at-slice-known = at-none .before .before in
-    let at-start = at-slice-known .before .before in
-    let a = at-start .args in
-    let e = sym (at-check-entry .check-entry .ensures .0) ∙ at-entry2 .entry2 .given .1 in
-    sheet-within (a .set .now) (a .terms) (a .sheet .now) (l .at) _ _ e
-
-newer-part-requires : tie.Need-newer-part-requires Inv-loop μ-loop
-newer-part-requires c κs = search needs
+later-entry-requires : tie.Need-later-entry-requires Inv-loop μ-loop
+later-entry-requires c κs = search needs
 
 add-at : tie.Need-add-at Inv-loop μ-loop
 add-at c =
-    let at-content-part = c .before .before in
-    let at-entry2 = at-content-part .before .before in
+    let at-entry2 = c .before .before in
     let at-match = at-entry2 .before in
     let at-slice-known2 = at-match .before .before in
     let at-labels = at-slice-known2 .before in
@@ -110,13 +94,29 @@ add-at c =
     let a = at-start .args in
     let e = sym (at-check-entry .check-entry .ensures .0) ∙ at-entry2 .entry2 .given .1 in
     let w = sheet-within (a .set .now) (a .terms) (a .sheet .now) (l .at) _ _ e in
-    let p = content-ends (l .at) _ _ (at-content-part .content-part .ensures) in
-    omega (arith, w, p, at-start .fits, at-start .good)
+    omega (arith, w, at-start .fits, at-start .good)
+
+add-at-2 : tie.Need-add-at-2 Inv-loop μ-loop
+add-at-2 c =
+    let at-entry2 = c .before .before in
+    let at-match = at-entry2 .before in
+    let at-slice-known2 = at-match .before .before in
+    let at-labels = at-slice-known2 .before in
+    let at-check-entry = at-labels .before in
+    let at-loop-test = at-check-entry .before .before in
+    let at-loop = at-loop-test .before in
+    let l = at-loop .loop in
+    let at-none = at-loop .before in
+    let at-slice-known = at-none .before .before in
+    let at-start = at-slice-known .before .before in
+    let a = at-start .args in
+    let e = sym (at-check-entry .check-entry .ensures .0) ∙ at-entry2 .entry2 .given .1 in
+    let w = sheet-within (a .set .now) (a .terms) (a .sheet .now) (l .at) _ _ e in
+    omega (arith, w, at-start .fits, at-start .good)
 
 loop-less : tie.Need-loop-less Inv-loop μ-loop
 loop-less c =
-    let at-content-part = c .before .before in
-    let at-entry2 = at-content-part .before .before in
+    let at-entry2 = c .before .before in
     let at-match = at-entry2 .before in
     let at-slice-known2 = at-match .before .before in
     let at-labels = at-slice-known2 .before in
@@ -130,13 +130,11 @@ loop-less c =
     let a = at-start .args in
     let e = sym (at-check-entry .check-entry .ensures .0) ∙ at-entry2 .entry2 .given .1 in
     let w = sheet-within (a .set .now) (a .terms) (a .sheet .now) (l .at) _ _ e in
-    let p = content-ends (l .at) _ _ (at-content-part .content-part .ensures) in
-    omega (arith, w, p, at-loop-test .loop-test .taken)
+    omega (arith, w, at-loop-test .loop-test .taken)
 
 loop-again : tie.Need-loop-again Inv-loop μ-loop
 loop-again c =
-    let at-content-part = c .before .before in
-    let at-entry2 = at-content-part .before .before in
+    let at-entry2 = c .before .before in
     let at-match = at-entry2 .before in
     let at-slice-known2 = at-match .before .before in
     let at-labels = at-slice-known2 .before in
@@ -150,23 +148,28 @@ loop-again c =
     let a = at-start .args in
     let e = sym (at-check-entry .check-entry .ensures .0) ∙ at-entry2 .entry2 .given .1 in
     let w = sheet-within (a .set .now) (a .terms) (a .sheet .now) (l .at) _ _ e in
-    let p = content-ends (l .at) _ _ (at-content-part .content-part .ensures) in
+    let q = c .later-entry .ensures in
     let t = at-loop-test .loop-test .taken in (
-      omega (arith, w, p),
+      omega (arith, w),
       pred (l .inv .1),
-      omega (arith, w, p, l .inv .2, t),
-      shown-next _ _ _ _ (l .inv .1) (l .at) (l .shown) t (l .inv .2) _ _ e _ (at-content-part .content-part .ensures) _ (c .before .newer-part .ensures) ∙ l .inv .3,
+      omega (arith, w, l .inv .2, t),
+      shown-next _ _ _ _ (l .inv .1) (l .at) _ t (l .inv .2) _ _ e _ (later-shown _ _ _ _ _ _ e (l .last) _ _ q t) ∙ l .inv .3,
       at-check-entry .check-entry .ensures .1,
       omega (arith, at-labels .labels .given, l .inv .5),
+      later-within _ _ _ _ _ _ e (l .last) _ _ q (l .inv .6),
     )
 
+shown-last-requires : tie.Need-shown-last-requires Inv-loop μ-loop
+shown-last-requires c κs = c .before .loop .inv .6
+
 same-length-2 : tie.Need-same-length-2 Inv-loop μ-loop
-same-length-2 c = c .before .loop .inv .5
+same-length-2 c = c .before .before .loop .inv .5
 
 returns-2 : tie.Need-returns-2 Inv-loop μ-loop
 returns-2 c =
-    let l = c .before .loop in
-    shown-end _ _ _ _ (l .inv .1) (l .at) (l .shown) (c .loop-test .left) ∙ l .inv .3
+    let at-loop-test = c .before in
+    let l = at-loop-test .before .loop in
+    c .shown-last .ensures ∙ shown-end _ _ _ _ (l .inv .1) (l .at) _ (at-loop-test .loop-test .left) ∙ l .inv .3
 
 pub shown-by-roll-spec : {M : Type 1} → statement M
 shown-by-roll-spec =
@@ -181,10 +184,11 @@ shown-by-roll-spec =
     same-length
     returns
     enum-known-entry-2
-    content-part-requires
-    newer-part-requires
+    later-entry-requires
     add-at
+    add-at-2
     loop-less
     loop-again
+    shown-last-requires
     same-length-2
     returns-2)
