@@ -69,7 +69,7 @@ pub fn first_high(s: &[u8], at: usize, k: usize) -> usize
     seek_high(s, i, end - i)
 }
 
-// No byte is over 7Fh: for bytes that are few and most often have none. The last block may start before the first byte that is left, and then asks more.
+// No byte is over 7Fh: for bytes that most often have none. The last block may start before the first byte that is left, and then asks more.
 pub fn all_plain(s: &[u8]) -> bool
     ensures { λ r. ⌜ (r ≡ true → firstHigh (now (s .entry)) 0 (length (now (s .entry))) ≡ length (now (s .entry))) ⌝ }
 {
@@ -77,6 +77,13 @@ pub fn all_plain(s: &[u8]) -> bool
         return seek_high(s, 0, s.len()) == s.len();
     }
     let mut i: usize = 0;
+    while i + WIDE_BLOCK < s.len() {
+        if plain(s, i, WIDE_BLOCK) {
+            i += WIDE_BLOCK;
+        } else {
+            return false;
+        }
+    }
     while i + BLOCK < s.len() {
         if plain(s, i, BLOCK) {
             i += BLOCK;
