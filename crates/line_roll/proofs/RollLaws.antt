@@ -24,10 +24,10 @@ use Rattle.meaning.proofs.PlaceLaws.{drop-render}
 use Rattle.meaning.proofs.SetLaws.{accepted}
 use Rattle.meaning.proofs.Demands.{judge-read}
 use Rattle.line_read.proofs.LineMeaning.{read-line, read-back}
-use Rattle.line_read.proofs.ToldLaws.{read-told}
+use Rattle.line_read.proofs.ToldLaws.{length-told, told-there, read-told}
 use Rattle.line_read.specs.Line.{lineAt}
 use Rattle.line_read.specs.declared.Line.the-variants.{Read}
-use Rattle.line_read.specs.Told.{toldLength, toldLabel}
+use Rattle.line_read.specs.Told.{threeBytes, threeZeros, toldLength, toldLabel}
 use Rattle.line_roll.specs.Rolled.{lineStart, labelValues, Lined, noRoll, Rolled}
 
 -- ---- one label more
@@ -37,8 +37,8 @@ unfolding lineStart
 rolled-none s ls = record { at-so = refl; labels-so = λ k h. absurd (omega arith) }
 
 module _ (s ls : List ℕ) (n at : ℕ) (r : Rolled s ls (record { known = n; at = at })) where
-  pub rolled-next : (l : ℕ) → l ≡ toldLabel s at → (m : ℕ) → m ≡ toldLength s at → n < length ls
-      → Rolled s (set ls n l) (record { known = n + 1; at = at + (m + (lineLead + lineEnd)) })
+  pub rolled-next : (l : ℕ) → l ≡ toldLabel s at → (m : ℕ) → m ≡ toldLength s at + (lineLead + lineEnd) → n < length ls
+      → Rolled s (set ls n l) (record { known = n + 1; at = at + m })
   unfolding lineStart
   rolled-next l p m q h = record { at-so = rw (add-one, q, r .at-so); labels-so = λ k g. go k g (eqb k n) refl }
     where
@@ -58,6 +58,22 @@ module _ (s ls : List ℕ) (n at : ℕ) (r : Rolled s ls (record { known = n; at
     pub next-within : at + (toldLength s at + (lineLead + lineEnd)) ≤ length s
     unfolding lineStart
     next-within = rw (r .at-so) (d .within n h)
+
+    next-sized : toldLength s at ≢ 0
+    next-sized = rw (r .at-so) (d .sized n h)
+
+    -- its three digits say its whole length
+    pub next-there : at + lineLead ≤ length s
+    next-there = told-there s at (toldLength s at) refl next-sized
+
+    next-told : threeBytes s at - (threeZeros + (lineLead + lineEnd)) ≡ toldLength s at
+    next-told = length-told s at next-there (threeBytes s at) refl
+
+    pub next-digits : threeZeros ≤ threeBytes s at
+    next-digits = omega (arith, next-told, next-sized)
+
+    pub next-size : (m : ℕ) → m ≡ threeBytes s at - threeZeros → m ≡ toldLength s at + (lineLead + lineEnd)
+    next-size m e = omega (arith, e, next-told, next-sized)
 
 -- fewer of the lines
 pub fewer-lined : (s : List ℕ) (n m : ℕ) → Lined s n → m ≤ n → Lined s m

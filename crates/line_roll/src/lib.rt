@@ -32,7 +32,7 @@ pub fn read_to(set: &[u8], labels: &mut [u16], roll: Roll, lines: usize) -> Roll
     let mut at = roll.at;
     while known < lines {
         labels[known] = line_read::told_label(set, at) as u16;
-        at += line_read::told_length(set, at) + meaning::LINE_FRAME;
+        at += line_read::size_at(set, at);
         known += 1;
     }
     Roll { known, at }

@@ -5,7 +5,7 @@ use native.Mathlib.Omega.{arith}
 use borrow.Author.Needs.{needs}
 use lib.ListN.{length, length-set}
 use Rattle.line_roll.specs.Rolled.{Rolled}
-use Rattle.line_roll.proofs.RollLaws.{rolled-next, next-labelled, next-within}
+use Rattle.line_roll.proofs.RollLaws.{rolled-next, next-labelled, next-within, next-there, next-digits, next-size}
 use Rattle.line_roll.proofs.read_to.Statement.{statement}
 use Rattle.line_roll.proofs.read_to.Tie as tie
 
@@ -37,14 +37,18 @@ mul-labels c = search needs
 slice-write-labels : tie.Need-slice-write-labels Inv-loop μ-loop
 slice-write-labels c = search needs
 
-told-length-requires : tie.Need-told-length-requires Inv-loop μ-loop
-told-length-requires c κs = search needs
+size-at-requires : tie.Need-size-at-requires Inv-loop μ-loop
+size-at-requires c κs =
+    let at-loop-test = c .before in
+    let at-loop = at-loop-test .before in
+    let at-slice-known = at-loop .before .before in
+    let at-start = at-slice-known .before in
+    let l = at-loop .loop in
+    let n = next-there (at-start .args .set .now) (l .labels) (l .known) (l .at) (l .inv .0) _ (at-start .pre .0) (at-loop-test .loop-test .taken) in
+    (omega (arith, n), next-digits (at-start .args .set .now) (l .labels) (l .known) (l .at) (l .inv .0) _ (at-start .pre .0) (at-loop-test .loop-test .taken))
 
 add-at : tie.Need-add-at Inv-loop μ-loop
-add-at c = search needs
-
-add-at-2 : tie.Need-add-at-2 Inv-loop μ-loop
-add-at-2 c =
+add-at c =
     let at-told-label = c .before in
     let at-loop-test = at-told-label .before in
     let at-loop = at-loop-test .before in
@@ -52,7 +56,8 @@ add-at-2 c =
     let at-start = at-slice-known .before in
     let l = at-loop .loop in
     let n = next-within (at-start .args .set .now) (l .labels) (l .known) (l .at) (l .inv .0) _ (at-start .pre .0) (at-loop-test .loop-test .taken) in
-    omega (arith, n, c .told-length .ensures .0, at-start .fits, at-start .good)
+    let m = next-size (at-start .args .set .now) (l .labels) (l .known) (l .at) (l .inv .0) _ (at-start .pre .0) (at-loop-test .loop-test .taken) _ (c .size-at .ensures .0) in
+    omega (arith, n, m, at-start .fits, at-start .good)
 
 add-known : tie.Need-add-known Inv-loop μ-loop
 add-known c = search needs
@@ -68,8 +73,9 @@ loop-again c =
     let at-slice-known = at-loop .before .before in
     let at-start = at-slice-known .before in
     let l = at-loop .loop in
+    let m = next-size (at-start .args .set .now) (l .labels) (l .known) (l .at) (l .inv .0) _ (at-start .pre .0) (at-loop-test .loop-test .taken) _ (c .size-at .ensures .0) in
     let room : l .known < length (l .labels) = omega (arith, at-start .pre .1 .1, l .inv .1, at-loop-test .loop-test .taken) in (
-      rolled-next (at-start .args .set .now) (l .labels) (l .known) (l .at) (l .inv .0) _ (at-told-label .told-label .ensures) _ (c .told-length .ensures .0) room,
+      rolled-next (at-start .args .set .now) (l .labels) (l .known) (l .at) (l .inv .0) _ (at-told-label .told-label .ensures) _ m room,
       length-set (l .labels) (l .known) _ ∙ l .inv .1,
     )
 
@@ -92,9 +98,8 @@ read-to-spec =
     cast-labels
     mul-labels
     slice-write-labels
-    told-length-requires
+    size-at-requires
     add-at
-    add-at-2
     add-known
     loop-less
     loop-again
