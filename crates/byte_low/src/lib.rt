@@ -61,11 +61,14 @@ fn short_low(s: &[u8], at: usize, k: usize) -> usize
     seek_low(s, at, k)
 }
 
-// The same offset. A content without a fault is the rule, so blocks are passed over while they are clean.
+// The same offset. A content without a fault is the rule, so blocks are passed over while they are clean; most contents of a correction have no block.
 pub fn first_low(s: &[u8], at: usize, k: usize) -> usize
     requires { ⌜ at + k ≤ length (now s) ⌝ }
     ensures { λ r. ⌜ r ≡ firstLow (now (s .entry)) at k ⌝ }
 {
+    if k < BLOCK {
+        return short_low(s, at, k);
+    }
     let end = at + k;
     let mut i = at;
     while WIDE_BLOCK <= end - i {

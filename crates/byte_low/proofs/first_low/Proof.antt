@@ -22,6 +22,12 @@ Inv-loop2 s at k end i₀ i = (i ≤ end) × (firstLow s i (end - i) ≡ firstLo
 abbrev μ-loop2 : tie.MeasureT-loop2
 μ-loop2 s at k end i₀ i = end - i
 
+short-low-requires : tie.Need-short-low-requires Inv-loop μ-loop Inv-loop2 μ-loop2
+short-low-requires c κs = search needs
+
+returns : tie.Need-returns Inv-loop μ-loop Inv-loop2 μ-loop2
+returns c = c .short-low .ensures
+
 add-end : tie.Need-add-end Inv-loop μ-loop Inv-loop2 μ-loop2
 add-end c = search needs
 
@@ -45,7 +51,7 @@ loop-again c =
     let at-clean = c .before in
     let at-loop = at-clean .before .before in
     let l = at-loop .loop in
-    (omega arith, sym (seek-on (leb leastByte) _ _ (l .i) _ (omega arith) (at-clean .clean .ensures (c .if1 .taken))) ∙ l .inv .1)
+    (omega arith, sym (seek-on (leb leastByte) _ _ (l .i) _ (omega arith) (at-clean .clean .ensures (c .if2 .taken))) ∙ l .inv .1)
 
 sub-seek-low : tie.Need-sub-seek-low Inv-loop μ-loop Inv-loop2 μ-loop2
 sub-seek-low c = search needs
@@ -53,8 +59,8 @@ sub-seek-low c = search needs
 seek-low-requires : tie.Need-seek-low-requires Inv-loop μ-loop Inv-loop2 μ-loop2
 seek-low-requires c κs = search needs
 
-returns : tie.Need-returns Inv-loop μ-loop Inv-loop2 μ-loop2
-returns c =
+returns-2 : tie.Need-returns-2 Inv-loop μ-loop Inv-loop2 μ-loop2
+returns-2 c =
     let at-clean = c .before .before in
     let at-loop = at-clean .before .before in
     c .seek-low .ensures ∙ at-loop .loop .inv .1
@@ -79,7 +85,7 @@ loop2-again c =
     let at-clean2 = c .before in
     let at-loop2 = at-clean2 .before .before in
     let l = at-loop2 .loop2 in
-    (omega arith, sym (seek-on (leb leastByte) _ _ (l .i) _ (omega arith) (at-clean2 .clean2 .ensures (c .if2 .taken))) ∙ l .inv .1)
+    (omega arith, sym (seek-on (leb leastByte) _ _ (l .i) _ (omega arith) (at-clean2 .clean2 .ensures (c .if3 .taken))) ∙ l .inv .1)
 
 sub-seek-low-2 : tie.Need-sub-seek-low-2 Inv-loop μ-loop Inv-loop2 μ-loop2
 sub-seek-low-2 c = search needs
@@ -87,8 +93,8 @@ sub-seek-low-2 c = search needs
 seek-low-requires-2 : tie.Need-seek-low-requires-2 Inv-loop μ-loop Inv-loop2 μ-loop2
 seek-low-requires-2 c κs = search needs
 
-returns-2 : tie.Need-returns-2 Inv-loop μ-loop Inv-loop2 μ-loop2
-returns-2 c =
+returns-3 : tie.Need-returns-3 Inv-loop μ-loop Inv-loop2 μ-loop2
+returns-3 c =
     let at-clean2 = c .before .before in
     let at-loop2 = at-clean2 .before .before in
     c .seek-low2 .ensures ∙ at-loop2 .loop2 .inv .1
@@ -96,11 +102,11 @@ returns-2 c =
 sub-short-low : tie.Need-sub-short-low Inv-loop μ-loop Inv-loop2 μ-loop2
 sub-short-low c = search needs
 
-short-low-requires : tie.Need-short-low-requires Inv-loop μ-loop Inv-loop2 μ-loop2
-short-low-requires c κs = search needs
+short-low-requires-2 : tie.Need-short-low-requires-2 Inv-loop μ-loop Inv-loop2 μ-loop2
+short-low-requires-2 c κs = search needs
 
-returns-3 : tie.Need-returns-3 Inv-loop μ-loop Inv-loop2 μ-loop2
-returns-3 c = c .short-low .ensures ∙ c .before .before .loop2 .inv .1
+returns-4 : tie.Need-returns-4 Inv-loop μ-loop Inv-loop2 μ-loop2
+returns-4 c = c .short-low2 .ensures ∙ c .before .before .loop2 .inv .1
 
 pub first-low-spec : {M : Type 1} → statement M
 first-low-spec =
@@ -110,6 +116,8 @@ first-low-spec =
     μ-loop
     Inv-loop2
     μ-loop2
+    short-low-requires
+    returns
     add-end
     loop-holds
     sub-loop
@@ -119,7 +127,7 @@ first-low-spec =
     loop-again
     sub-seek-low
     seek-low-requires
-    returns
+    returns-2
     loop2-holds
     sub-loop2
     clean-requires-2
@@ -128,7 +136,7 @@ first-low-spec =
     loop2-again
     sub-seek-low-2
     seek-low-requires-2
-    returns-2
+    returns-3
     sub-short-low
-    short-low-requires
-    returns-3)
+    short-low-requires-2
+    returns-4)
