@@ -14,10 +14,10 @@ use Rattle.meaning.specs.declared.Shape.{Shape}
 use Rattle.meaning.specs.declared.Judged.{Judged}
 use Rattle.meaning.specs.declared.Judged.the-variants.{Accepted, Refused}
 use Rattle.meaning.specs.Field.{Field}
-use Rattle.meaning.specs.Refusals.{Reply, refused, done, refusal, badUse, thenTo, verdict}
+use Rattle.meaning.specs.Refusals.{Reply, refused, done, refusal, empty, badUse, thenTo, verdict}
 use Rattle.meaning.specs.Pieces.{Parsed, parsed}
 use Rattle.meaning.specs.Lines.{size, offset}
-use Rattle.meaning.specs.Reading.{read, shape, judged, judge, inSet}
+use Rattle.meaning.specs.Reading.{scan, read, shape, judged, judge, inSet}
 use Rattle.meaning.specs.Corrections.{aloneFaults}
 use Rattle.meaning.proofs.LineLaws.{length-render}
 use Rattle.meaning.proofs.SetLaws.{accepted}
@@ -114,6 +114,12 @@ blocks-counted s x e = go (setAlone s) refl e
     go (done fs) a h =
         let y : x ≡ shape fs = cc in
         ap (λ (n : ℕ). Of (countFor n)) (data-of-set s fs a ∙ ap dataLength (sym y))
+
+-- 1: no bytes
+pub blocks-empty : (s : List ℕ) → length s ≡ 0 → counted (blocksOf s) ≡ RefusedCount (refusal empty 0 0)
+unfolding blocksOf setAlone read scan
+blocks-empty [] e = refl
+blocks-empty (b ∷ s) e = absurd (omega arith)
 
 pub blocks-refused : (s : List ℕ) (r : Refusal) → Refused r ≡ aloneJudged (setAlone s) → counted (blocksOf s) ≡ RefusedCount r
 unfolding blocksOf

@@ -53,6 +53,10 @@ pub fn count_for(length: usize) -> usize
 pub fn blocks_of(set: &[u8]) -> BlockCount
     ensures { λ r. ⌜ r ≡ counted (blocksOf (now (set .entry))) ⌝ }
 {
+    // 1, Empty, which `judge` would answer too: here nothing has been set up for judging yet.
+    if set.len() == 0 {
+        return BlockCount::Refused(Refusal::at(Refusal::EMPTY, 0));
+    }
     match alone_of(judge::judge(set), set.len()) {
         Judged::Refused(r) => BlockCount::Refused(r),
         Judged::Accepted(shape) => BlockCount::Of(count_for(data_length(shape))),

@@ -2,10 +2,10 @@
 use mathlib.Core.Path.{_≡_, refl, sym, ap, ap₂, _∙_}
 use mathlib.Core.List.{List, [], _∷_, _++_, append-assoc}
 use Prim.Native.Nat.{ℕ, _+_, _-_, _*_, _/_, _≤_, _<_}
-use native.Mathlib.Nat.{zero-add}
+use native.Mathlib.Nat.{zero-add, add-zero}
 use native.Mathlib.Omega.{arith}
 use lib.Dec.{leb}
-use lib.ListN.{length, take, drop, length-append}
+use lib.ListN.{length, take, drop, length-append, drop-of-length-le}
 use lib.Seq.{length-take-le}
 use borrow.Author.Tests.{le-leb, lt-leb}
 use Rattle.meaning.specs.declared.Refusal.{Refusal}
@@ -13,9 +13,9 @@ use Rattle.meaning.specs.declared.Shape.{Shape}
 use Rattle.meaning.specs.declared.Judged.the-variants.{Refused as RefusedSet}
 use Rattle.meaning.specs.declared.Made.the-variants.{Done, Refused}
 use Rattle.meaning.specs.Field.{isNil}
-use Rattle.meaning.specs.Refusals.{Reply, refused, done, thenTo, refusal, withRoom, badUse, noRoom, tooManySets}
+use Rattle.meaning.specs.Refusals.{Reply, refused, done, thenTo, refusal, withRoom, empty, badUse, noRoom, tooManySets}
 use Rattle.meaning.specs.Pieces.{Parsed}
-use Rattle.meaning.specs.Reading.{judged, read}
+use Rattle.meaning.specs.Reading.{scan, judged, read}
 use Rattle.meaning.specs.Answers.{made}
 use Rattle.meaning.proofs.Bools.{end-is}
 use Rattle.meaning.proofs.AnswerLaws.{refused-accepted, refusal-same, refused-made, made-same}
@@ -73,6 +73,11 @@ module _ (f b : List ℕ) where
 
 -- ---- appending
 
+-- nothing stands after the last byte: 1, at that place
+nothing-there : (f : List ℕ) (old : ℕ) → length f ≤ old → judged (placed old (read (drop old f))) ≡ RefusedSet (refusal empty old 0)
+unfolding read scan
+nothing-there f old h = rw (drop-of-length-le f h) (ap (λ (n : ℕ). RefusedSet (refusal empty n 0)) (add-zero old))
+
 module _ (f : List ℕ) (old : ℕ) (b : List ℕ) (count : ℕ) where
   -- 18: the old length is over the file
   pub append-over : length f < old → (Refused (refusal badUse (length f) 0) ≡ appendCall f old b count .answer) × (b ≡ appendCall f old b count .buffer)
@@ -88,6 +93,10 @@ module _ (f : List ℕ) (old : ℕ) (b : List ℕ) (count : ℕ) where
       go : (q : Reply Parsed) → judged q ≡ RefusedSet r → (k : Parsed → Reply (List DayEntry)) → (Refused r ≡ made (thenTo q k)) × (b ≡ indexLeft (thenTo q k) b)
       go (refused x) p k = (ap Refused (sym (refusal-same p)), refl)
       go (done d) p k = refused-accepted (sym p)
+
+  -- 1: nothing was appended
+  pub append-empty : length f ≡ old → (Refused (refusal empty old 0) ≡ appendCall f old b count .answer) × (b ≡ appendCall f old b count .buffer)
+  append-empty e = append-own (omega arith) (refusal empty old 0) (nothing-there f old (omega arith))
 
   module _ (x : Shape) (h : old ≤ length f) (s : SetHere f old x) where
     second : isNil (s .what .rest) ≡ leb (length f) (old + x .length)

@@ -140,6 +140,10 @@ pub fn append(file: &[u8], old: usize, index: &mut [usize], count: usize) -> Mad
     if file.len() < old {
         return Made::Refused(Refusal::at(Refusal::BAD_USE, file.len()));
     }
+    // 1, Empty, which `judge` would answer too: nothing was appended.
+    if file.len() == old {
+        return Made::Refused(Refusal::at(Refusal::EMPTY, old));
+    }
     match judge_at(file, old) {
         Judged::Refused(r) => Made::Refused(r),
         Judged::Accepted(shape) => append_accepted(file, old, shape, index, count),
