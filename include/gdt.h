@@ -1,20 +1,24 @@
-/* gdt.h: reading, writing and correcting GDT 2.1 sets, day files of them, and the serial cable.
+/* gdt.h: reading, writing, correcting and recoding GDT 2.1 sets, day files of them, and the serial cable.
 
    Every call takes any bytes from anyone. It answers a record of numbers by value (gdt_view_copy a length). `no` is 0 if the call was
-   done, else the number of the refusal (GDT_EMPTY to GDT_BAD_CRC); then `place` says where, and `label` which label is concerned.
+   done, else the number of the refusal (GDT_EMPTY to GDT_NO_SUCH_CHARACTER); then `place` says where, and `label` which label is concerned.
    Both are 0 if the call was done, and `label` is 0 if no label is concerned. After a refusal every lent byte, entry, number and record is
    what it was before, and the other numbers of the answer are 0 (in gdt_received the receiver's four are those given).
 
-   `place` is the offset of the first byte of the line concerned, for GDT_BAD_BYTE and GDT_HIGH_BYTE of the byte concerned; what differs is
-   said at the number. It counts in the set; for gdt_write in the list (the entry's first byte); for an entry of a sheet in the sheet; for
-   these two numbers, if the new content of a correction has the byte, in that content. If a set and what is offered to it may both have such
-   a byte, gdt_judge of the set tells which it is: the set is asked first. The day calls add the set's offset in the file to the place of
-   what they find wrong in a set (GDT_EMPTY to GDT_BAD_SUM, and GDT_HIGH_BYTE); so GDT_MISSING at set level is at the set's offset.
+   `place` is the offset of the first byte of the line concerned, for GDT_BAD_BYTE, GDT_HIGH_BYTE and GDT_NO_SUCH_CHARACTER of the byte
+   concerned; what differs is said at the number. It counts in the set; for gdt_write in the list (the entry's first byte); for an entry of a
+   sheet in the sheet; for GDT_BAD_BYTE and GDT_HIGH_BYTE, if the new content of a correction has the byte, in that content. If a set and what
+   is offered to it may both have such a byte, gdt_judge of the set tells which it is: the set is asked first. The day calls add the set's
+   offset in the file to the place of what they find wrong in a set (GDT_EMPTY to GDT_BAD_SUM, and GDT_HIGH_BYTE); so GDT_MISSING at set level
+   is at the set's offset.
 
    A content byte is 20h to FFh. A set that has 9206 with content `1` is in the 7-bit code: there no content byte is over 7Fh, else it is
    refused by GDT_HIGH_BYTE. Of a set this is asked after GDT_MISSING and before GDT_BAD_SUM; of a list after GDT_MISSING and before
    GDT_NO_ROOM; of the new content of a correction after GDT_BAD_CONTENT and before GDT_NO_ROOM; of an entry of a sheet after
-   GDT_BAD_CONTENT of that entry, and before the next entry is looked at.
+   GDT_BAD_CONTENT of that entry, and before the next entry is looked at. 9206 with content `2` names code page 437, with `3` code page 1252
+   (ANSI); a set without 9206 counts as code page 437. Which bytes of one are which of the other is fixed by the mapping files of Unicode,
+   CP437.TXT and CP1252.TXT: below 80h a byte is the same in both; from 80h on 54 characters are in both, and 81h, 8Dh, 8Fh, 90h and 9Dh of
+   1252 are none.
 
    A field list, and a sheet of pending corrections, is entry after entry with nothing between: the content's length in two bytes, the
    label (in a sheet the line number, from 1) in two bytes, both little-endian, then the content. A list has no entry for 8100: gdt_write
@@ -35,9 +39,9 @@
    A pointer must not be null, also if its length is 0. What is lent to be written overlaps nothing else that is lent.
    No call keeps a pointer, allocates, or uses more than 8 KiB of stack.
 
-   Two programs stand behind this header: the proved library, in four archives (`rt staticlib gdt`; `rt staticlib gdtwrite` for
-   gdt_write; `rt staticlib gdtday` for the three day calls; `rt staticlib gdtcable` for the three calls of the cable), and the second,
-   independent program in second/. */
+   Two programs stand behind this header: the proved library, in five archives (`rt staticlib gdt`; `rt staticlib gdtwrite` for
+   gdt_write; `rt staticlib gdtday` for the three day calls; `rt staticlib gdtcable` for the three calls of the cable;
+   `rt staticlib gdtrecode` for gdt_to_437 and gdt_to_1252), and the second, independent program in second/. */
 #ifndef GDT_H
 #define GDT_H
 
@@ -51,7 +55,7 @@ enum {
     GDT_BAD_END = 4,         /* a line does not end in 0Dh 0Ah */
     GDT_BAD_LABEL = 5,       /* a label is not four digits */
     GDT_BAD_BYTE = 6,        /* a content byte is under 20h */
-    GDT_TOO_MANY_LINES = 7,  /* a 513th line, or a 512th entry of a list, starts */
+    GDT_TOO_MANY_LINES = 7,  /* a 513th line, or a 512th entry of a list, starts; or recoding would add the 513th line (place: the set's length) */
     GDT_NO_START = 8,        /* line 1 is not 8000 */
     GDT_UNKNOWN_SET = 9,     /* 8000 names none of 6300, 6301, 6302, 6310, 6311 */
     GDT_NO_SUM = 10,         /* line 2 is not 8100, or there is none (place: the set's length) */
@@ -71,7 +75,8 @@ enum {
     GDT_TOO_MANY_SETS = 23,  /* a 2,049th set of a day file (place: its offset in the file) */
     GDT_HIGH_BYTE = 24,      /* a content byte is over 7Fh, and the set has 9206 with content 1 (place: the first such byte; label 0) */
     GDT_BAD_BLOCK = 25,      /* received bytes have not the form of a block, or its count or its label is not in turn (place: 0) */
-    GDT_BAD_CRC = 26         /* the four hex digits of a block are not its CRC (place: 0) */
+    GDT_BAD_CRC = 26,        /* the four hex digits of a block are not its CRC (place: 0) */
+    GDT_NO_SUCH_CHARACTER = 27 /* the wanted code page has not the character of a content byte (place: the first such byte) */
 };
 
 /* The greatest length of a block. */
@@ -83,8 +88,8 @@ struct gdt_judged {
     size_t length, lines, type;
 };
 
-/* What index, list, writer, correction, the day calls and gdt_block answer: how many entries or bytes were made; of a correction the new used
-   length; of gdt_day_build and gdt_day_append the entries of the index, of gdt_day_find the sets that were found; of gdt_block the length
+/* What index, list, writer, correction, recoding, the day calls and gdt_block answer: how many entries or bytes were made; of a correction and
+   of recoding the new used length; of gdt_day_build and gdt_day_append the entries of the index, of gdt_day_find the sets that were found; of gdt_block the length
    of the block. */
 struct gdt_made {
     size_t no, place, label;
@@ -118,6 +123,18 @@ struct gdt_made gdt_write(const uint8_t *list, size_t list_length, uint8_t *out,
 /* Gives line number `line` of the set in the first `used` bytes of the buffer a new content, inside the buffer; bytes after the
    new used length become zero. */
 struct gdt_made gdt_correct(uint8_t *buffer, size_t room, size_t used, size_t line, const uint8_t *content, size_t content_length);
+
+/* Brings the one set in the first `used` bytes of the buffer into code page 437, or into code page 1252, inside the buffer, and answers its new
+   length; bytes after it become zero.
+   A set that is in the wanted code page already stays as it is: its 9206 names that, or 437 is wanted and it has no 9206. If its 9206 is `1`
+   only that content changes, to `2` or `3`. In every other set each content byte becomes that of the same character in the wanted code page,
+   and 9206 names it; a set without 9206, if 1252 is wanted, gains the line 9206 with content `3` as line 3, and 8100 counts it too.
+   In this order: GDT_BAD_USE if `used` is over `room` (place: room); the set's own refusals; GDT_BAD_USE if another set follows (place: the
+   first one's length); GDT_TOO_MANY_LINES if a line would be added to 512 lines (place: the set's length); GDT_NO_SUCH_CHARACTER, if contents
+   are recoded, at the first byte whose character the wanted code page has not; GDT_NO_ROOM if the new length is over `room` (place: that
+   length). */
+struct gdt_made gdt_to_437(uint8_t *buffer, size_t room, size_t used);
+struct gdt_made gdt_to_1252(uint8_t *buffer, size_t room, size_t used);
 
 /* Says where the content of line number `line` stands under a sheet of pending corrections. */
 struct gdt_viewed gdt_view(const uint8_t *set, size_t set_length, const uint8_t *sheet, size_t sheet_length, size_t line);

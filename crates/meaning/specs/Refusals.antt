@@ -84,11 +84,14 @@ badBlock = 25
 abbrev pub badCrc : ℕ
 badCrc = 26
 
+abbrev pub noSuchCharacter : ℕ
+noSuchCharacter = 27
+
 abbrev pub numbers : List ℕ
 numbers =
     empty ∷ badLength ∷ cutLine ∷ badEnd ∷ badLabel ∷ badByte ∷ tooManyLines ∷ noStart ∷ unknownSet ∷ noSum ∷ notInSet
     ∷ stray ∷ repeated ∷ badContent ∷ otherVersion ∷ missing ∷ badSum ∷ badUse ∷ noSuchLine ∷ fixedLine ∷ badList ∷ noRoom ∷ tooManySets
-    ∷ highByte ∷ badBlock ∷ badCrc ∷ []
+    ∷ highByte ∷ badBlock ∷ badCrc ∷ noSuchCharacter ∷ []
 
 abbrev pub refusal : ℕ → ℕ → ℕ → Refusal
 refusal n p l = record { no = n; place = p; label = l }
@@ -117,7 +120,7 @@ atLine n k l = record { no = n; line = k; spot = start; label = l }
 abbrev pub atByte : ℕ → ℕ → ℕ → Fault
 atByte n k i = record { no = n; line = k; spot = byte i; label = 0 }
 
--- 6 and 24 are placed at a byte of a content
+-- what speaks against one content is placed at a byte of it for 6 and 24
 unfoldable pub tellsByte : ℕ → Bool
 tellsByte n = eqb n badByte || eqb n highByte
 

@@ -233,8 +233,10 @@ impl Refusal {
 
     pub const BAD_CRC: usize = 26;
 
+    pub const NO_SUCH_CHARACTER: usize = 27;
+
     // Called by nobody: its proof says that the numbers are those of specs/, in the paper's order.
-    pub fn numbers() -> [usize; 26]
+    pub fn numbers() -> [usize; 27]
         ensures { λ r. ⌜ r ≡ numbers ⌝ }
     {
         [
@@ -264,6 +266,7 @@ impl Refusal {
             Refusal::HIGH_BYTE,
             Refusal::BAD_BLOCK,
             Refusal::BAD_CRC,
+            Refusal::NO_SUCH_CHARACTER,
         ]
     }
 
@@ -285,7 +288,7 @@ impl Refusal {
         }
     }
 
-    // 6 and 24 are placed at a byte of a content, not at the line's first byte.
+    // What speaks against one content is placed at a byte of it for 6 and 24, else at the line's first byte.
     pub fn tells_byte(no: usize) -> bool
         ensures { λ r. ⌜ r ≡ tellsByte no ⌝ }
     {
