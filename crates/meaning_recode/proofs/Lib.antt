@@ -1,1 +1,2 @@
 -- The laws of recoding.
+pub mod CodeLaws
