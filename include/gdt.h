@@ -17,8 +17,8 @@
    GDT_NO_ROOM; of the new content of a correction after GDT_BAD_CONTENT and before GDT_NO_ROOM; of an entry of a sheet after
    GDT_BAD_CONTENT of that entry, and before the next entry is looked at. 9206 with content `2` names code page 437, with `3` code page 1252
    (ANSI); a set without 9206 counts as code page 437. Which bytes of one are which of the other is fixed by the mapping files of Unicode,
-   CP437.TXT and CP1252.TXT: below 80h a byte is the same in both; from 80h on 54 characters are in both, and 81h, 8Dh, 8Fh, 90h and 9Dh of
-   1252 are none.
+   CP437.TXT and CP1252.TXT: below 80h a byte is the same in both; from 80h on 54 characters are in both. 1252 has no character at 81h, 8Dh,
+   8Fh, 90h and 9Dh; such a byte is accepted in a set all the same.
 
    A field list, and a sheet of pending corrections, is entry after entry with nothing between: the content's length in two bytes, the
    label (in a sheet the line number, from 1) in two bytes, both little-endian, then the content. A list has no entry for 8100: gdt_write
@@ -55,7 +55,8 @@ enum {
     GDT_BAD_END = 4,         /* a line does not end in 0Dh 0Ah */
     GDT_BAD_LABEL = 5,       /* a label is not four digits */
     GDT_BAD_BYTE = 6,        /* a content byte is under 20h */
-    GDT_TOO_MANY_LINES = 7,  /* a 513th line, or a 512th entry of a list, starts; or recoding would add the 513th line (place: the set's length) */
+    GDT_TOO_MANY_LINES = 7,  /* a 513th line, or a 512th entry of a list, starts; or recoding would add a 513th line (place: the set's
+                                length) */
     GDT_NO_START = 8,        /* line 1 is not 8000 */
     GDT_UNKNOWN_SET = 9,     /* 8000 names none of 6300, 6301, 6302, 6310, 6311 */
     GDT_NO_SUM = 10,         /* line 2 is not 8100, or there is none (place: the set's length) */
@@ -76,7 +77,7 @@ enum {
     GDT_HIGH_BYTE = 24,      /* a content byte is over 7Fh, and the set has 9206 with content 1 (place: the first such byte; label 0) */
     GDT_BAD_BLOCK = 25,      /* received bytes have not the form of a block, or its count or its label is not in turn (place: 0) */
     GDT_BAD_CRC = 26,        /* the four hex digits of a block are not its CRC (place: 0) */
-    GDT_NO_SUCH_CHARACTER = 27 /* the wanted code page has not the character of a content byte (place: the first such byte) */
+    GDT_NO_SUCH_CHARACTER = 27 /* a content byte has no character, or one that the wanted code page has not (place: the first such byte; label 0) */
 };
 
 /* The greatest length of a block. */
@@ -125,13 +126,13 @@ struct gdt_made gdt_write(const uint8_t *list, size_t list_length, uint8_t *out,
 struct gdt_made gdt_correct(uint8_t *buffer, size_t room, size_t used, size_t line, const uint8_t *content, size_t content_length);
 
 /* Brings the one set in the first `used` bytes of the buffer into code page 437, or into code page 1252, inside the buffer, and answers its new
-   length; bytes after it become zero.
-   A set that is in the wanted code page already stays as it is: its 9206 names that, or 437 is wanted and it has no 9206. If its 9206 is `1`
-   only that content changes, to `2` or `3`. In every other set each content byte becomes that of the same character in the wanted code page,
+   length; all bytes of the buffer after it become zero.
+   A set that is in the wanted code page already stays as it is: its 9206 names that code page, or 437 is wanted and it has no 9206. If its
+   9206 is `1`, only that content changes, to `2` or `3`. In every other set each content byte becomes that of the same character in the wanted code page,
    and 9206 names it; a set without 9206, if 1252 is wanted, gains the line 9206 with content `3` as line 3, and 8100 counts it too.
    In this order: GDT_BAD_USE if `used` is over `room` (place: room); the set's own refusals; GDT_BAD_USE if another set follows (place: the
    first one's length); GDT_TOO_MANY_LINES if a line would be added to 512 lines (place: the set's length); GDT_NO_SUCH_CHARACTER, if contents
-   are recoded, at the first byte whose character the wanted code page has not; GDT_NO_ROOM if the new length is over `room` (place: that
+   are recoded, at the first byte that has no character, or one that the wanted code page has not; GDT_NO_ROOM if the new length is over `room` (place: that
    length). */
 struct gdt_made gdt_to_437(uint8_t *buffer, size_t room, size_t used);
 struct gdt_made gdt_to_1252(uint8_t *buffer, size_t room, size_t used);

@@ -120,7 +120,7 @@ atLine n k l = record { no = n; line = k; spot = start; label = l }
 abbrev pub atByte : ℕ → ℕ → ℕ → Fault
 atByte n k i = record { no = n; line = k; spot = byte i; label = 0 }
 
--- what speaks against one content is placed at a byte of it for 6 and 24
+-- of what a correction or an entry of a sheet is refused by for its content, 6 and 24 are placed at a byte of it; 27 is given by recoding alone
 unfoldable pub tellsByte : ℕ → Bool
 tellsByte n = eqb n badByte || eqb n highByte
 

@@ -67,7 +67,7 @@ startFaults fs =
 -- ---- 11 to 15: "then all lines, in order, each by 11, 12, 13, 14, 15"
 
 -- Here and below the profile p is given to the rules of contents, and none of them uses it: one field table serves all set types. A rule of 11 to 15 that depends on what the fixed
--- lines choose would read it here. What 9206 chooses is asked by 24 alone, of all lines at once.
+-- lines choose would read it here. Of the rules of a set only 24 asks what 9206 chooses, of all lines at once.
 
 -- a field whose content fits its label
 unfoldable pub fits : Profile → Field → Bool

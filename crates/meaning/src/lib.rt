@@ -288,7 +288,7 @@ impl Refusal {
         }
     }
 
-    // What speaks against one content is placed at a byte of it for 6 and 24, else at the line's first byte.
+    // Of what a correction or an entry of a sheet is refused by for its content, 6 and 24 are placed at a byte of it; 27 is given by recoding alone.
     pub fn tells_byte(no: usize) -> bool
         ensures { λ r. ⌜ r ≡ tellsByte no ⌝ }
     {

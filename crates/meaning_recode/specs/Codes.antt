@@ -1,6 +1,6 @@
 -- The code pages 437 and 1252 (request E5): what each byte of one is in the other, "a table of 256 entries for each direction, taken from the published Unicode mapping files for both code
 -- pages". A byte becomes the byte of the same character. Below 80h it stays as it is; of the 128 bytes from 80h on, 54 have a character that the other code page has too.
--- That the tables say what the mapping files print is a theorem (theory_recode:PageExamples).
+-- That they follow from the columns of CP437.TXT and CP1252.TXT, copied as printed, is proved (theory_recode:PageExamples).
 use mathlib.Core.List.{List, [], _∷_}
 use Prim.Native.Nat.{ℕ}
 use lib.ListN.{getD}

@@ -1,4 +1,4 @@
--- The call of recoding as a caller sees it: what it answers, and every byte of the lent buffer afterwards, refusals too.
+-- The two calls of recoding as a caller sees them, one for each wanted code page: what is answered, and every byte of the lent buffer afterwards, refusals too.
 use mathlib.Core.List.{List}
 use Prim.Native.Nat.{ℕ}
 use Rattle.meaning.specs.Answers.{Call, made, bytesLeft}

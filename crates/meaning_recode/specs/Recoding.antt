@@ -1,6 +1,6 @@
 -- "From code page 437 to 1252 and back" (request E5): recoding of a whole set in its buffer.
 -- Where the request leaves a choice, the decision is named (E5a ..; docs/DECISIONS.md).
-use mathlib.Core.Bool.{Bool, true, false, cond, not, _&&_, _||_}
+use mathlib.Core.Bool.{Bool, false, cond, not, _&&_, _||_}
 use mathlib.Core.List.{List, [], _∷_, _++_, map}
 use Prim.Native.Nat.{ℕ, suc, _+_}
 use lib.ListN.{length, take}
@@ -21,7 +21,7 @@ use Rattle.meaning_recode.specs.Codes.{noByte, recoded}
 
 -- ---- the code page that a set is in
 
--- what 9206 holds: 2 for code page 437, "9206 = 3" for 1252
+-- what 9206 holds (document 002): "2=IBM(Standard) CP 437"; 3, "9206 = 3" of the request, is CP 1252
 abbrev pub mark : Code → List ℕ
 mark Page437 = digits 1 2
 mark Page1252 = digits 1 3
@@ -57,7 +57,7 @@ gains w fs = not (inCode w fs || hasCharset fs)
 abbrev pub addedFaults : Code → List Field → List Fault
 addedFaults w fs = ask (not (gains w fs) || leb (length fs + 1) maxLines) (atLine tooManyLines (length fs) 0)
 
--- a fault for each byte of a content from its byte i on that the wanted code page has not, in the line that has k lines before it
+-- 27, NoSuchCharacter: a fault for each byte of a content, from its byte i on, that becomes no byte of the wanted code page; in the line that has k lines before it
 abbrev pub unknownBytes : Code → ℕ → ℕ → List ℕ → List Fault
 unknownBytes w k i [] = []
 unknownBytes w k i (b ∷ bs) = ask (not (eqb (recoded w b) noByte)) (atByte noSuchCharacter k i) ++ unknownBytes w k (suc i) bs
@@ -81,13 +81,13 @@ recodeField w f = field (f .label) (map (recoded w) (f .content))
 abbrev pub markField : Code → Field → Field
 markField w f = cond (eqb (f .label) 9206) (field 9206 (mark w)) f
 
--- "gains that line as line 3"
+-- "gains that line as line 3"; only asked if 1252 is wanted
 abbrev pub withCharset : Code → List Field → List Field
 withCharset w [] = []
 withCharset w (f ∷ []) = f ∷ []
 withCharset w (f ∷ g ∷ fs) = f ∷ g ∷ field 9206 (mark w) ∷ fs
 
--- the lines in the wanted code page, with 9206 that names it: in its place, or as line 3, and then 8100 is brought up to date (E5e)
+-- every content in the wanted code page; 9206 names it where it stands; a set without 9206 gains it as line 3, and 8100 counts it (E5e)
 abbrev pub allLines : Code → List Field → List Field
 allLines w fs = cond (hasCharset fs) (map (markField w) (map (recodeField w) fs)) (resum (withCharset w (map (recodeField w) fs)))
 
@@ -100,7 +100,7 @@ recodeLines w fs = cond (inCode w fs) fs (cond (sevenBit fs) (map (markField w) 
 abbrev pub recodeSet : Code → ℕ → Parsed → Reply (List ℕ)
 recodeSet w room d = thenTo (verdict (inSet (d .fields)) (aloneFaults d ++ recodeFaults w (d .fields)) (recodeLines w (d .fields))) (λ fs. setWithRoom fs room)
 
--- "recoding of a whole set in its buffer": the set of the first `used` bytes of the buffer b in the wanted code page. "Refusals, after all set refusals: TooManyLines ..; NoSuchCharacter (27) ..;
+-- "recoding of a whole set in its buffer": the set in the first `used` bytes of the buffer b, brought into the wanted code page. "Refusals, after all set refusals: TooManyLines ..; NoSuchCharacter (27) ..;
 -- NoRoom last", and 18 as in a correction (E5b): 18 (used length, at the buffer's length), the set's own, 18 (another set follows, at the set's length), 7, 27, 22
 unfoldable pub recode : List ℕ → ℕ → Code → Reply (List ℕ)
 recode b used w = cond (leb used (length b)) (thenTo (read (take used b)) (λ d. recodeSet w (length b) d)) (refused (refusal badUse (length b) 0))
