@@ -1,0 +1,2 @@
+-- Recoding is exact for its rules by themselves.
+pub mod PageExamples
