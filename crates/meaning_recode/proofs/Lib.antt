@@ -1,2 +1,3 @@
 -- The laws of recoding.
 pub mod CodeLaws
+pub mod RecodeDecided
