@@ -42,7 +42,7 @@ unfolding sevenBit
 seven-none [] h = refl
 seven-none (f ∷ fs) h = rw (not-seven f (h 0 (omega arith))) (seven-none fs (λ k l. h (suc k) (omega arith)))
 
-every-none : (fs : List Field) → Every (λ f. f .label ≡ 9206 → ⊥) fs → (k : ℕ) → k < length fs → labelAtLine fs k ≡ 9206 → ⊥
+pub every-none : (fs : List Field) → Every (λ f. f .label ≡ 9206 → ⊥) fs → (k : ℕ) → k < length fs → labelAtLine fs k ≡ 9206 → ⊥
 every-none [] h k l e = omega arith
 every-none (f ∷ fs) h zero l e = h .0 e
 every-none (f ∷ fs) h (suc k) l e = every-none fs (h .1) k (omega arith) e
@@ -50,7 +50,7 @@ every-none (f ∷ fs) h (suc k) l e = every-none fs (h .1) k (omega arith) e
 -- ---- a line is 9206
 
 -- 9206 is single at set level in every table
-single-9206 : (t : SetType) → Single 9206 (find (table t) 9206)
+pub single-9206 : (t : SetType) → Single 9206 (find (table t) 9206)
 unfolding table rows6300 rows6301 rows6302 rows6310 rows6311 find findIn rowLabel
 single-9206 T6300 = record { known = _; is = refl; named-so = refl; top-level = refl; one = refl }
 single-9206 T6301 = record { known = _; is = refl; named-so = refl; top-level = refl; one = refl }
