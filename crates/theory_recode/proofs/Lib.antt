@@ -1,2 +1,3 @@
 -- Recoding is exact for its rules by themselves.
 pub mod PageExamples
+pub mod ContentExact
