@@ -1,3 +1,4 @@
 -- Recoding is exact for its rules by themselves.
 pub mod PageExamples
 pub mod ContentExact
+pub mod CharsetExact
