@@ -2,3 +2,4 @@
 pub mod PageExamples
 pub mod ContentExact
 pub mod CharsetExact
+pub mod LinesExact
