@@ -3,3 +3,4 @@ pub mod PageExamples
 pub mod ContentExact
 pub mod CharsetExact
 pub mod LinesExact
+pub mod FirstUnknown
