@@ -4,3 +4,4 @@ pub mod ContentExact
 pub mod CharsetExact
 pub mod LinesExact
 pub mod FirstUnknown
+pub mod RecodeExact
