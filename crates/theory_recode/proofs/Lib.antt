@@ -4,4 +4,5 @@ pub mod ContentExact
 pub mod CharsetExact
 pub mod LinesExact
 pub mod FirstUnknown
+pub mod RecodeCases
 pub mod RecodeExact
