@@ -6,3 +6,4 @@ pub mod LinesExact
 pub mod FirstUnknown
 pub mod RecodeCases
 pub mod RecodeExact
+pub mod ShutOutRecode
