@@ -1,21 +1,23 @@
 -- What the theorems of recoding shut out, tried, as in ShutOut of crate `examples`: `SaysX` is the statement of theorem x with any function in the place of the definition, `x-says` the
 -- theorem itself; then trivial functions are put in. docs/PROMISES.md has the table of it: "What each theorem asks, and what it shuts out".
 use mathlib.Core.Path.{_≡_, refl, sym, ap, _∙_}
-use mathlib.Core.List.{List, [], _∷_, _++_}
+use mathlib.Core.List.{List, [], _∷_, _++_, map}
 use mathlib.Core.Logic.{_↔_}
 use Prim.Native.Nat.{ℕ, _+_, _≤_, _<_}
 use native.Mathlib.Omega.{arith}
 use lib.ListN.{length, take, getD, replicate}
 use Rattle.meaning.specs.declared.Refusal.{Refusal}
 use Rattle.meaning.specs.Field.{Field, field}
-use Rattle.meaning.specs.Refusals.{Reply, refused, done, refusal}
+use Rattle.meaning.specs.Refusals.{Reply, refused, done, refusal, thenTo}
+use Rattle.meaning.specs.Lines.{render}
+use Rattle.meaning.specs.Reading.{read}
 use Rattle.meaning.specs.Computes.{computes}
 use Rattle.meaning.proofs.Asking.{line, setOf}
 use Rattle.meaning.proofs.FaultLaws.{refused-done, done-same}
 use Rattle.breaches.proofs.CallExact.{refused-same}
 use Rattle.meaning_recode.specs.declared.Code.{Code}
 use Rattle.meaning_recode.specs.declared.Code.the-variants.{Page437, Page1252}
-use Rattle.meaning_recode.specs.Recoding.{recode}
+use Rattle.meaning_recode.specs.Recoding.{recodeField, markField, recode}
 use Rattle.meaning_recode.specs.RecodeComputes.{recodeComputes}
 use Rattle.theory_recode.specs.RecodeRules.{Recodes}
 use Rattle.theory_recode.specs.RecodeBreaches.{RecodeRefused}
@@ -82,6 +84,10 @@ Recoder = List ℕ → ℕ → Code → Reply (List ℕ)
 abbrev leaving : Recoder
 leaving b used w = done (take used b)
 
+-- puts this in the place of every line of a set
+abbrev eachLine : (Code → Field → Field) → Recoder
+eachLine g b used w = thenTo (read (take used b)) (λ d. done (render (map (g w) (d .fields)) []))
+
 -- refuses what is to be refused, and leaves every other set as it is
 abbrev idle : List ℕ → Reply (List ℕ) → Reply (List ℕ)
 idle b (refused r) = refused r
@@ -133,6 +139,22 @@ recoded-exactly-not-idle : SaysRecodedExactly (λ b used w. idle (take used b) (
 unfolding named in437
 recoded-exactly-not-idle h =
     other-byte (sym (ap (idle (take 61 in437)) recode-letter) ∙ recoded-exactly-at (λ b used w. idle (take used b) (recode b used w)) h in437 61 Page1252 in1252 .1 recode-letter)
+
+-- nor one that names the wanted code page and recodes no content
+recoded-exactly-not-marking : SaysRecodedExactly (eachLine markField) → ⊥
+unfolding computes named in437 in1252
+recoded-exactly-not-marking h =
+    let e : done (named (line 9206 "3") 0x81) ≡ done in1252 = recoded-exactly-at (eachLine markField) h in437 61 Page1252 in1252 .1 recode-letter in
+    let z : _≡_ {A = ℕ} 0x81 0xFC = ap (λ (xs : List ℕ). getD xs 58 0) (done-same e) in
+    omega arith
+
+-- nor one that recodes the contents and leaves the name of the old code page, a 2 at 34
+recoded-exactly-not-unmarked : SaysRecodedExactly (eachLine recodeField) → ⊥
+unfolding computes recodeComputes named in437 in1252
+recoded-exactly-not-unmarked h =
+    let e : done (named (line 9206 "2") 0xFC) ≡ done in1252 = recoded-exactly-at (eachLine recodeField) h in437 61 Page1252 in1252 .1 recode-letter in
+    let z : _≡_ {A = ℕ} 0x32 0x33 = ap (λ (xs : List ℕ). getD xs 34 0) (done-same e) in
+    omega arith
 
 -- nor one that does not look at the room
 recoded-exactly-not-roomless : SaysRecodedExactly (λ b used w. recode (b ++ replicate 10 0) used w) → ⊥
