@@ -3,31 +3,30 @@
 use mathlib.Core.Path.{_≡_, refl, sym, ap, _∙_, subst}
 use mathlib.Core.Bool.{Bool, true, false, not, _&&_, _||_, true≢false}
 use mathlib.Core.List.{List, [], _∷_}
-use mathlib.Core.Logic.{_⊎_, inl, inr, _≢_}
-use mathlib.Core.Option.{some}
+use mathlib.Core.Logic.{_⊎_, inl, inr}
 use Prim.Native.Nat.{ℕ, zero, suc, _≤_, _<_}
 use native.Mathlib.Omega.{arith}
 use lib.Dec.{leb, eqb}
 use lib.ListN.{length, getD}
-use borrow.Author.Tests.{eqb-true, eqb-false, eq-eqb, ne-eqb, leb-true}
+use borrow.Author.Tests.{eqb-true, eqb-false, eq-eqb, leb-true}
 use Rattle.meaning.specs.declared.Row.{Row}
 use Rattle.meaning.specs.declared.SetType.{SetType}
 use Rattle.meaning.specs.declared.SetType.the-variants.{T6300, T6301, T6302, T6310, T6311}
 use Rattle.meaning.specs.Digits.{digits}
-use Rattle.meaning.specs.Field.{Field, field, noField, labels, elem, labelAtLine, contentAtLine}
+use Rattle.meaning.specs.Field.{Field, field, elem, labelAtLine, contentAtLine}
 use Rattle.meaning.specs.Kinds.{firstIsIn, isCharset, ofKind}
 use Rattle.meaning.specs.FieldTable.{fieldTable, fieldRowIn, fieldRow, hasLength, fitsRow, fitsLabel}
 use Rattle.meaning.specs.Tables.{setLevel, single, rows6300, rows6301, rows6302, rows6310, rows6311, table, rowLabel, findIn, find}
 use Rattle.meaning.specs.Rules.{sevenBit}
-use Rattle.meaning.proofs.Bools.{and-left, and-right, and-both, or-right, not-true, not-false}
+use Rattle.meaning.proofs.Bools.{and-left, and-right, or-right, not-true}
 use Rattle.meaning.proofs.SameLaws.{same-bytes, bytes-same}
 use Rattle.keeps.specs.Keeps.{HasRow, HasSevenBits, KeepsRules}
 use Rattle.keeps.proofs.TableFacts.{or-cases, no-absurd, one-row}
-use Rattle.keeps.proofs.SevenExact.{has-seven, seven-has}
+use Rattle.keeps.proofs.SevenExact.{seven-has}
 use Rattle.meaning_recode.specs.declared.Code.{Code}
 use Rattle.meaning_recode.specs.declared.Code.the-variants.{Page437, Page1252}
 use Rattle.meaning_recode.specs.Recoding.{mark, saysCode, says, hasCharset, inCode}
-use Rattle.theory_recode.specs.RecodeRules.{notWanted, codeDigit, NamedAt, Names, NoCharset, IsIn}
+use Rattle.theory_recode.specs.RecodeRules.{notWanted, codeDigit, Names, NoCharset, IsIn}
 
 -- ---- tests and lines, of any lines
 

@@ -1,16 +1,16 @@
 -- A byte, and then a content, in the wanted code page: what the table says is exactly what the mapping files say.
-use mathlib.Core.Path.{_≡_, refl, sym, ap, _∙_, subst}
-use mathlib.Core.Bool.{Bool, true, false, not}
-use mathlib.Core.List.{List, [], _∷_, _++_, map}
+use mathlib.Core.Path.{_≡_, refl, sym, _∙_, subst}
+use mathlib.Core.Bool.{not}
+use mathlib.Core.List.{List, [], _∷_, map}
 use mathlib.Core.Logic.{_⊎_, inl, inr, _≢_}
 use Prim.Native.Nat.{ℕ, zero, suc, _+_, _≤_, _<_}
 use native.Mathlib.Omega.{arith}
 use lib.Dec.{eqb}
 use lib.ListN.{length, getD, length-map}
 use lib.Seq.{ext-getD}
-use borrow.Author.Tests.{eqb-true, eqb-false, ne-eqb}
+use borrow.Author.Tests.{eqb-false, ne-eqb}
 use Rattle.meaning.specs.Field.{Field, contentAtLine}
-use Rattle.meaning.specs.Refusals.{Fault, atByte, ask, noSuchCharacter}
+use Rattle.meaning.specs.Refusals.{atByte, noSuchCharacter}
 use Rattle.meaning.proofs.Bools.{not-true}
 use Rattle.meaning.proofs.FaultLaws.{append-none, none-both, ask-none, Plain}
 use Rattle.keeps.proofs.TableFacts.{lt-or-le}

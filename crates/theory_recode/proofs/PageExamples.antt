@@ -4,17 +4,17 @@ use mathlib.Core.Path.{_≡_, refl, sym, ap, _∙_, subst}
 use mathlib.Core.Bool.{Bool, true, false, cond, _&&_, _||_}
 use mathlib.Core.List.{List, [], _∷_, map}
 use mathlib.Core.Logic.{_↔_}
-use Prim.Native.Nat.{ℕ, zero, suc, _+_, _≤_, _<_}
+use Prim.Native.Nat.{ℕ, zero, suc, _+_, _<_}
 use native.Mathlib.Omega.{arith}
-use lib.ListN.{length, getD}
-use lib.Dec.{leb, eqb}
-use borrow.Author.Tests.{eqb-true, eqb-false, eq-eqb, ne-eqb}
+use lib.ListN.{getD}
+use lib.Dec.{eqb}
+use borrow.Author.Tests.{eqb-true, eqb-false, ne-eqb}
 use Rattle.meaning.proofs.Bools.{and-left, and-right}
 use Rattle.meaning_recode.specs.declared.Code.{Code}
 use Rattle.meaning_recode.specs.declared.Code.the-variants.{Page437, Page1252}
 use Rattle.meaning_recode.specs.Codes.{noByte, to1252, to437, tableInto, recoded}
-use Rattle.theory_recode.specs.Pages.{unnamed, column437, column1252, column, character}
-use Rattle.theory_recode.specs.RecodeRules.{notWanted, SameCharacter}
+use Rattle.theory_recode.specs.Pages.{unnamed, column437, column1252, column}
+use Rattle.theory_recode.specs.RecodeRules.{SameCharacter}
 
 -- the byte of a character in a column, the first entry of which is that of byte k; no byte if it is not there
 abbrev byteFrom : ℕ → List ℕ → ℕ → ℕ

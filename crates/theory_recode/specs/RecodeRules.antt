@@ -9,7 +9,7 @@ use lib.ListN.{length, take, getD}
 use Rattle.meaning.specs.declared.SetType.{SetType}
 use Rattle.meaning.specs.Limits.{maxLines}
 use Rattle.meaning.specs.Digits.{digits}
-use Rattle.meaning.specs.Field.{Field, field, noField, labelAtLine, contentAtLine}
+use Rattle.meaning.specs.Field.{Field, field, noField, labelAtLine}
 use Rattle.meaning.specs.Lines.{size, render}
 use Rattle.keeps.specs.Keeps.{HasSevenBits, Keeps}
 use Rattle.keeps.specs.Makes.{sumLineOf}
