@@ -4,7 +4,7 @@ use mathlib.Core.Path.{_≡_, refl, sym, ap, _∙_, subst}
 use mathlib.Core.Bool.{Bool, true, false, not, _&&_, _||_, true≢false}
 use mathlib.Core.List.{List, [], _∷_}
 use mathlib.Core.Logic.{_⊎_, inl, inr}
-use Prim.Native.Nat.{ℕ, zero, suc, _≤_, _<_}
+use Prim.Native.Nat.{ℕ, zero, suc, _+_, _≤_, _<_}
 use native.Mathlib.Omega.{arith}
 use lib.Dec.{leb, eqb}
 use lib.ListN.{length, getD}
@@ -12,7 +12,7 @@ use borrow.Author.Tests.{eqb-true, eqb-false, eq-eqb, leb-true}
 use Rattle.meaning.specs.declared.Row.{Row}
 use Rattle.meaning.specs.declared.SetType.{SetType}
 use Rattle.meaning.specs.declared.SetType.the-variants.{T6300, T6301, T6302, T6310, T6311}
-use Rattle.meaning.specs.Digits.{digits}
+use Rattle.meaning.specs.Digits.{digits, digitZero}
 use Rattle.meaning.specs.Field.{Field, field, elem, labelAtLine, contentAtLine}
 use Rattle.meaning.specs.Kinds.{firstIsIn, isCharset, ofKind}
 use Rattle.meaning.specs.FieldTable.{fieldTable, fieldRowIn, fieldRow, hasLength, fitsRow, fitsLabel}
@@ -145,19 +145,19 @@ CharsetDigit c = (c ≡ digits 1 1) ⊎ ((c ≡ digits 1 2) ⊎ (c ≡ digits 1 
 charset-digit : (c : List ℕ) → fitsLabel 9206 c ≡ true → CharsetDigit c
 unfolding fitsLabel fitsRow fieldRow fieldRowIn fieldTable rowLabel hasLength ofKind isCharset firstIsIn elem
 charset-digit [] e = absurd (true≢false (sym e))
-charset-digit (b ∷ []) e = go (or-cases (eqb b 49) _ (and-right (hasLength (fieldRow 9206) (b ∷ [])) _ e))
+charset-digit (b ∷ []) e = go (or-cases (eqb b (digitZero + 1)) _ (and-right (hasLength (fieldRow 9206) (b ∷ [])) _ e))
   where
-    third : (eqb b 51 ≡ true) ⊎ (false ≡ true) → CharsetDigit (b ∷ [])
-    third (inl p) = inr (inr (ap (λ (x : ℕ). x ∷ []) (eqb-true b 51 p)))
+    third : (eqb b (digitZero + 3) ≡ true) ⊎ (false ≡ true) → CharsetDigit (b ∷ [])
+    third (inl p) = inr (inr (ap (λ (x : ℕ). x ∷ []) (eqb-true b (digitZero + 3) p)))
     third (inr p) = absurd (true≢false (sym p))
 
-    second : (eqb b 50 ≡ true) ⊎ (eqb b 51 || false ≡ true) → CharsetDigit (b ∷ [])
-    second (inl p) = inr (inl (ap (λ (x : ℕ). x ∷ []) (eqb-true b 50 p)))
-    second (inr p) = third (or-cases (eqb b 51) _ p)
+    second : (eqb b (digitZero + 2) ≡ true) ⊎ (eqb b (digitZero + 3) || false ≡ true) → CharsetDigit (b ∷ [])
+    second (inl p) = inr (inl (ap (λ (x : ℕ). x ∷ []) (eqb-true b (digitZero + 2) p)))
+    second (inr p) = third (or-cases (eqb b (digitZero + 3)) _ p)
 
-    go : (eqb b 49 ≡ true) ⊎ (eqb b 50 || (eqb b 51 || false) ≡ true) → CharsetDigit (b ∷ [])
-    go (inl p) = inl (ap (λ (x : ℕ). x ∷ []) (eqb-true b 49 p))
-    go (inr p) = second (or-cases (eqb b 50) _ p)
+    go : (eqb b (digitZero + 1) ≡ true) ⊎ (eqb b (digitZero + 2) || (eqb b (digitZero + 3) || false) ≡ true) → CharsetDigit (b ∷ [])
+    go (inl p) = inl (ap (λ (x : ℕ). x ∷ []) (eqb-true b (digitZero + 1) p))
+    go (inr p) = second (or-cases (eqb b (digitZero + 2)) _ p)
 charset-digit (b ∷ d ∷ c) e =
     let s : leb 1 (length (b ∷ d ∷ c)) && leb (length (b ∷ d ∷ c)) 1 ≡ true = and-left _ _ e in
     let hi : length (b ∷ d ∷ c) ≤ 1 = leb-true (length (b ∷ d ∷ c)) 1 (and-right (leb 1 (length (b ∷ d ∷ c))) _ s) in

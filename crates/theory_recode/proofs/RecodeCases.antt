@@ -14,9 +14,10 @@ use Rattle.meaning.specs.Digits.{digits}
 use Rattle.meaning.specs.Field.{Field, field, labelAtLine, contentAtLine}
 use Rattle.meaning.specs.Refusals.{Fault, atLine, atByte, ask, tooManyLines, noSuchCharacter}
 use Rattle.meaning.specs.Pieces.{parsed}
-use Rattle.meaning.specs.Lines.{lineSize, size}
+use Rattle.meaning.specs.Lines.{lineSize, size, minLineBytes}
 use Rattle.meaning.specs.FieldTable.{fitsLabel}
 use Rattle.meaning.specs.Rules.{profile, fits, sevenBit}
+use Rattle.meaning.specs.Lists.{sumLine}
 use Rattle.meaning.specs.Corrections.{resum}
 use Rattle.meaning.proofs.DigitLaws.{digits-all, plain-digits}
 use Rattle.meaning.proofs.FaultLaws.{Plain}
@@ -70,7 +71,7 @@ of-set-so s t fs rest k = record {
   short = accepted-size s (parsed fs rest) (keeps-accepted s t fs rest k);
 }
 
--- ---- "over 99,999" never decides
+-- ---- "over 99,999" never decides: a mark adds at most a byte to its line, the gained line has ten, and the sum's line fourteen
 
 size-recoded : (w : Code) (fs : List Field) → size (map (recodeField w) fs) ≡ size fs
 size-recoded w [] = refl
@@ -88,23 +89,26 @@ size-marked : (w : Code) (fs : List Field) → size (map (markField w) fs) ≤ s
 size-marked w [] = omega arith
 size-marked w (f ∷ fs) = omega (arith, mark-line w f, size-marked w fs)
 
-size-charset : (w : Code) (fs : List Field) → size (withCharset w fs) ≤ size fs + 10
+size-charset : (w : Code) (fs : List Field) → size (withCharset w fs) ≤ size fs + minLineBytes
 size-charset w [] = omega arith
 size-charset w (f ∷ []) = omega arith
 size-charset Page437 (f ∷ g ∷ fs) = omega arith
 size-charset Page1252 (f ∷ g ∷ fs) = omega arith
 
-size-resum : (fs : List Field) → size (resum fs) ≤ size fs + 14
+size-resum : (fs : List Field) → size (resum fs) ≤ size fs + sumLine
 size-resum [] = omega arith
 size-resum (f ∷ []) = omega arith
 size-resum (f ∷ g ∷ fs) = omega arith
 
-size-new : (w : Code) (fs : List Field) → size (recodeLines w fs) ≤ size fs + (length fs + 24)
+abbrev mostNew : List Field → ℕ
+mostNew fs = size fs + (length fs + (minLineBytes + sumLine))
+
+size-new : (w : Code) (fs : List Field) → size (recodeLines w fs) ≤ mostNew fs
 unfolding recodeLines
 size-new w fs = go (inCode w fs) (sevenBit fs) (hasCharset fs)
   where
     go : (a b c : Bool)
-        → size (cond a fs (cond b (map (markField w) fs) (cond c (map (markField w) (map (recodeField w) fs)) (resum (withCharset w (map (recodeField w) fs)))))) ≤ size fs + (length fs + 24)
+        → size (cond a fs (cond b (map (markField w) fs) (cond c (map (markField w) (map (recodeField w) fs)) (resum (withCharset w (map (recodeField w) fs)))))) ≤ mostNew fs
     go true b c = omega arith
     go false true c = omega (arith, size-marked w fs)
     go false false true = omega (arith, size-marked w (map (recodeField w) fs), size-recoded w fs, length-map fs (recodeField w))
@@ -198,7 +202,8 @@ outcome w fs s = go (which fs (s .charset) w)
         let c = if-without w fs (not-in w fs (p .0)) (not-seven-bits fs (p .1)) (charset-no fs n) in
         of-lines q n p (c .0) (c .1) (leb (length fs + 1) maxLines) refl
 
--- what is recoded has at most 512 lines, and every byte of it is a character of the wanted code page
+-- ---- what is recoded in every content: with the line that it may gain it has at most 512, and every byte of it is a character of the wanted code page
+
 pub few-enough : (w : Code) (fs gs : List Field) → OtherPage w fs → NoCharset fs → Recoded w fs gs → length fs + 1 ≤ maxLines
 few-enough w fs gs p n (stays i e) = absurd (p .0 i)
 few-enough w fs gs p n (only-charset h x) = absurd (p .1 h)

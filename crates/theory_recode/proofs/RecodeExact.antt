@@ -26,6 +26,7 @@ use Rattle.meaning.proofs.AnswerLaws.{refused-accepted, refusal-same}
 use Rattle.meaning.proofs.FaultLaws.{ask-none, refused-done, cond-done, thenTo-done, verdict-done, withRoom-done}
 use Rattle.keeps.specs.Keeps.{Keeps}
 use Rattle.keeps.proofs.Exact.{accepted-keeps, keeps-accepted}
+use Rattle.breaches.specs.Breaches.{FirstBreach}
 use Rattle.breaches.proofs.CallExact.{refused-same}
 use Rattle.breaches.proofs.FirstOnly.{refused-exactly-with}
 use Rattle.meaning_recode.specs.declared.Code.{Code}
@@ -151,9 +152,10 @@ module _ (room : ℕ) (w : Code) (fs : List Field) (r : Refusal) (s : OfSet fs) 
       let q : r ≡ refusal noRoom (size new) 0 = e ∙ ap (λ (y : List Field). refusal noRoom (size y) 0) (c .1) in
       ap answer (c .0) ∙ rw (lt-leb (size new) room (subst (λ (y : List Field). room < size y) (c .1) l)) (ap refused (sym q))
 
-read-refused : (s : List ℕ) (r : Refusal) → judge s ≡ Refused r → read s ≡ refused r
+-- the set's own refusals
+read-refused : (s : List ℕ) (r : Refusal) → (read s ≡ refused r) ↔ FirstBreach s r
 unfolding judge
-read-refused s r e = go (read s) refl e
+read-refused s r = (λ e. refused-exactly-with s r .0 (ap judged e), λ x. go (read s) refl (refused-exactly-with s r .1 x))
   where
     go : (y : Reply Parsed) → read s ≡ y → judged y ≡ Refused r → read s ≡ refused r
     go (refused y) q f = q ∙ ap refused (refusal-same f)
@@ -161,11 +163,11 @@ read-refused s r e = go (read s) refl e
 
 -- Recoding is refused with number, place and label r exactly if they are those of the first reason in the request's order.
 pub recode-refused-with : (b : List ℕ) (used : ℕ) (w : Code) (r : Refusal) → (recode b used w ≡ refused r) ↔ RecodeRefused b used w r
-unfolding recode judge
+unfolding recode
 recode-refused-with b used w r = (λ e. within (leb used (length b)) refl e, from)
   where
     set : used ≤ length b → (y : Reply Parsed) → read (take used b) ≡ y → thenTo y (λ d. recodeSet w (length b) d) ≡ refused r → RecodeRefused b used w r
-    set l (refused y) q f = as-the-set l (refused-exactly-with (take used b) r .0 (ap judged q ∙ ap Refused (refused-same f)))
+    set l (refused y) q f = as-the-set l (read-refused (take used b) r .0 (q ∙ ap refused (refused-same f)))
     set l (done d) q f =
         let k = accepted-keeps (take used b) d q in
         let s : OfSet (d .fields) = of-set-so (take used b) (k .0) (d .fields) (d .rest) (k .1) in
@@ -178,6 +180,6 @@ recode-refused-with b used w r = (λ e. within (leb used (length b)) refl e, fro
 
     from : RecodeRefused b used w r → recode b used w ≡ refused r
     from (used-over l f) = rw (lt-leb used (length b) l) (ap refused (sym f))
-    from (as-the-set l f) = rw (le-leb used (length b) l, read-refused (take used b) r (refused-exactly-with (take used b) r .1 f)) refl
+    from (as-the-set l f) = rw (le-leb used (length b) l, read-refused (take used b) r .1 f) refl
     from (of-set l t fs rest k x) =
         rw (le-leb used (length b) l, keeps-accepted (take used b) t fs rest k) (set-refused (length b) w fs r (of-set-so (take used b) t fs rest k) rest x)
