@@ -100,7 +100,7 @@ recodeLines w fs = cond (inCode w fs) fs (cond (sevenBit fs) (map (markField w) 
 abbrev pub recodeSet : Code → ℕ → Parsed → Reply (List ℕ)
 recodeSet w room d = thenTo (verdict (inSet (d .fields)) (aloneFaults d ++ recodeFaults w (d .fields)) (recodeLines w (d .fields))) (λ fs. setWithRoom fs room)
 
--- "recoding of a whole set in its buffer": the set in the first `used` bytes of the buffer b, brought into the wanted code page. "Refusals, after all set refusals: TooManyLines ..; NoSuchCharacter (27) ..;
--- NoRoom last", and 18 as in a correction (E5b): 18 (used length, at the buffer's length), the set's own, 18 (another set follows, at the set's length), 7, 27, 22
+-- "recoding of a whole set in its buffer": the set in the first `used` bytes of the buffer b, brought into the wanted code page. "Refusals, after all set refusals: TooManyLines ..;
+-- NoSuchCharacter (27) ..; NoRoom last", and 18 as in a correction (E5b): 18 (used length, at the buffer's length), the set's own, 18 (another set follows, at the set's length), 7, 27, 22
 unfoldable pub recode : List ℕ → ℕ → Code → Reply (List ℕ)
 recode b used w = cond (leb used (length b)) (thenTo (read (take used b)) (λ d. recodeSet w (length b) d)) (refused (refusal badUse (length b) 0))
