@@ -1,4 +1,4 @@
 -- The laws of recoding.
 pub mod CodeLaws
 pub mod InsertLaws
-pub mod RecodeDecided
+pub mod KindLaws
