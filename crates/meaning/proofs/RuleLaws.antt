@@ -37,7 +37,7 @@ content-rules-none strayed p k g h = fit-none p k g h
 content-rules-none (atSetLevel r) p k g h = fit-none p k g h
 content-rules-none (member r) p k g h = fit-none p k g h
 
-line-keep : (o : Role) (p : Profile) (st : State) (k : ℕ) (f g : Field) → g .label ≡ f .label → Fit p g
+pub line-keep : (o : Role) (p : Profile) (st : State) (k : ℕ) (f g : Field) → g .label ≡ f .label → Fit p g
     → lineRules o p st k f ≡ [] → lineRules o p st k g ≡ []
 unfolding lineRules
 line-keep o p st k f g e h q =

@@ -82,7 +82,7 @@ module _ (w : Code) where
   same-at : (c : List ℕ) (i x : ℕ) → x < 128 → eqb (getD (into c) i 0) x ≡ eqb (getD c i 0) x
   same-at c i x l = ap (λ (b : ℕ). eqb b x) (byte-at c i) ∙ same-low (getD c i 0) x l
 
-  all-digits-kept : (c : List ℕ) → allDigits (into c) ≡ allDigits c
+  pub all-digits-kept : (c : List ℕ) → allDigits (into c) ≡ allDigits c
   all-digits-kept [] = refl
   all-digits-kept (b ∷ c) = ap₂ (λ (x y : Bool). x && y) (same-digit b) (all-digits-kept c)
 

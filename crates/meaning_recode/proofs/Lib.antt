@@ -2,3 +2,4 @@
 pub mod CodeLaws
 pub mod InsertLaws
 pub mod KindLaws
+pub mod MapLaws
