@@ -212,7 +212,7 @@ sum-fit : (p : Profile) (m : ℕ) → Fit p (sumField m)
 sum-fit p m = record { right = fits-sum p m; version-right = not-version p (sumField m) (λ q. omega arith) }
 
 module _ (fs : List Field) (up : Upright fs) where
-  two : 2 ≤ length fs
+  pub two : 2 ≤ length fs
   two = two-lines fs (begins-of fs (up .rules .begins) .second-label)
     where
       two-lines : (l : List Field) → labelAtLine l 1 ≡ 8100 → 2 ≤ length l

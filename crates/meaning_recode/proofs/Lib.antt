@@ -3,3 +3,4 @@ pub mod CodeLaws
 pub mod InsertLaws
 pub mod KindLaws
 pub mod MapLaws
+pub mod StandLaws

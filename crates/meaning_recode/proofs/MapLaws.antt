@@ -81,7 +81,7 @@ module _ (g : Field → Field) (a : Alters g) where
       subst (λ (r : Role). lineRules r p st k (g f) ++ rulesFrom p (next r st k (g f .label)) (k + 1) (map g fs) ≡ []) same
       (none-both _ _ (line-keep o p st k f (g f) (a .label-so f) fit (x .0)) rest′)
 
-  size-map : (p : Profile) (st : State) (k : ℕ) (fs : List Field) → rulesFrom p st k fs ≡ [] → size (map g fs) ≡ size fs
+  pub size-map : (p : Profile) (st : State) (k : ℕ) (fs : List Field) → rulesFrom p st k fs ≡ [] → size (map g fs) ≡ size fs
   unfolding rulesFrom
   size-map p st k [] e = refl
   size-map p st k (f ∷ fs) e =
@@ -222,7 +222,7 @@ unfolding fits fitsLabel fitsRow fieldRow fieldRowIn fieldTable rowLabel hasLeng
 mark-fits Page437 p = refl
 mark-fits Page1252 p = refl
 
-mark-sound : (w : Code) → Sound (field 9206 (mark w))
+pub mark-sound : (w : Code) → Sound (field 9206 (mark w))
 mark-sound Page437 = omega arith
 mark-sound Page1252 = omega arith
 
