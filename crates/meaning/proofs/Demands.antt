@@ -52,7 +52,7 @@ refused-index s out r = go (index s (length out))
     go (refused q) e = (refl, refl)
     go (done es) e = let z : _≡_ {A = ℕ} 0 1 = cc in absurd (omega arith)
 
-nothing-made : (x : Reply (List ℕ)) (b : List ℕ) (r : Refusal) → made x ≡ Refused r → (madeCount (made x) ≡ 0) × (bytesLeft x b ≡ b)
+pub nothing-made : (x : Reply (List ℕ)) (b : List ℕ) (r : Refusal) → made x ≡ Refused r → (madeCount (made x) ≡ 0) × (bytesLeft x b ≡ b)
 nothing-made (refused q) b r e = (refl, refl)
 nothing-made (done bs) b r e = let z : _≡_ {A = ℕ} 0 1 = cc in absurd (omega arith)
 

@@ -4,3 +4,4 @@ pub mod InsertLaws
 pub mod KindLaws
 pub mod MapLaws
 pub mod StandLaws
+pub mod RecodeLaws
