@@ -169,7 +169,7 @@ after-one b fs n m c d st x y h k =
     ∙ ap (λ (gs : List Field). done (render gs [])) q
 
 -- what is left depends on the buffer's length alone
-left-by-length : (z b b′ : List ℕ) → length b ≡ length b′ → bytesLeft (done z) b ≡ bytesLeft (done z) b′
+pub left-by-length : (z b b′ : List ℕ) → length b ≡ length b′ → bytesLeft (done z) b ≡ bytesLeft (done z) b′
 left-by-length z b b′ e = rw e
 
 without-resum : (fs : List Field) → withoutSum (resum fs) ≡ withoutSum fs

@@ -5,3 +5,4 @@ pub mod KindLaws
 pub mod MapLaws
 pub mod StandLaws
 pub mod RecodeLaws
+pub mod CharsetLaws

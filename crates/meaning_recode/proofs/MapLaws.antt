@@ -213,7 +213,7 @@ module _ (w : Code) where
 pub mark-other : (w : Code) (f : Field) → (f .label ≡ 9206 → ⊥) → markField w f ≡ f
 mark-other w f n = rw (ne-eqb (f .label) 9206 n)
 
-one-byte : (w : Code) → length (mark w) ≡ 1
+pub one-byte : (w : Code) → length (mark w) ≡ 1
 one-byte Page437 = refl
 one-byte Page1252 = refl
 
@@ -227,7 +227,7 @@ mark-sound Page437 = omega arith
 mark-sound Page1252 = omega arith
 
 -- no set with this mark has seven bits
-mark-eight : (w : Code) → sameBytes (mark w) (digits 1 1) ≡ false
+pub mark-eight : (w : Code) → sameBytes (mark w) (digits 1 1) ≡ false
 unfolding sameBytes
 mark-eight Page437 = refl
 mark-eight Page1252 = refl

@@ -50,7 +50,7 @@ alone-gained w (f ∷ g ∷ fs) h = (h .0, (λ e. omega arith, h .1))
 added-few : (w : Code) (fs : List Field) → addedFaults w fs ≡ [] → inCode w fs ≡ false → hasCharset fs ≡ false → length fs + 1 ≤ maxLines
 added-few w fs e p q = leb-true (length fs + 1) maxLines (rw (p, q) at (ask-last (not (gains w fs) || leb (length fs + 1) maxLines) _ e))
 
-charset-kept : (w : Code) (fs : List Field) → hasCharset (map (recodeField w) fs) ≡ hasCharset fs
+pub charset-kept : (w : Code) (fs : List Field) → hasCharset (map (recodeField w) fs) ≡ hasCharset fs
 charset-kept w fs = ap (elem 9206) (map-labels (recodeField w) (alters-recode w) fs)
 
 -- ---- accepted
