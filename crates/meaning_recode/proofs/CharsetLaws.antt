@@ -65,7 +65,7 @@ has-none (f ∷ fs) e =
 abbrev pub AllHold : List ℕ → List Field → Type 0
 AllHold c fs = Every (λ f. f .label ≡ 9206 → f .content ≡ c) fs
 
-none-hold : (c : List ℕ) (fs : List Field) → NoCharset fs → AllHold c fs
+pub none-hold : (c : List ℕ) (fs : List Field) → NoCharset fs → AllHold c fs
 none-hold c [] h = tt
 none-hold c (f ∷ fs) h = (λ l. absurd (h .0 l), none-hold c fs (h .1))
 
@@ -123,10 +123,10 @@ not-in-code Page437 c fs e h q = rw (not-says Page437 c fs e h, q)
 not-in-code Page1252 c fs e h q = not-says Page1252 c fs e h
 
 -- no mark is that of the other code page, and that of seven bits is none
-pub marks-differ : (w : Code) → sameBytes (mark (other w)) (mark w) ≡ false
+pub marks-differ : (w : Code) → (sameBytes (mark w) (mark (other w)) ≡ false) × (sameBytes (mark (other w)) (mark w) ≡ false)
 unfolding sameBytes
-marks-differ Page437 = refl
-marks-differ Page1252 = refl
+marks-differ Page437 = (refl, refl)
+marks-differ Page1252 = (refl, refl)
 
 pub seven-no-mark : (w : Code) → sameBytes (digits 1 1) (mark w) ≡ false
 unfolding sameBytes

@@ -16,8 +16,9 @@ use Rattle.meaning.specs.Kinds.{point, minus, isAlnum, isNum, decimals, whole, 
 use Rattle.meaning.specs.Kinds.{isRule112, isRule116, isCharset, isVersion, sameBytes, is0210, ofKind}
 use Rattle.meaning.specs.FieldTable.{hasLength, fitsRow, fitsLabel}
 use Rattle.meaning.specs.Rules.{Profile, fits, current}
-use Rattle.meaning.proofs.Bools.{Every, and-left, and-right, and-no, not-true}
-use Rattle.meaning.proofs.FaultLaws.{ask-none, High}
+use Rattle.meaning.proofs.Bools.{Every, and-no, not-true}
+use Rattle.meaning.proofs.DigitLaws.{plain-digits}
+use Rattle.meaning.proofs.FaultLaws.{ask-none, High, Plain}
 use Rattle.meaning_recode.specs.declared.Code.{Code}
 use Rattle.meaning_recode.specs.Codes.{noByte, recoded}
 use Rattle.meaning_recode.specs.Recoding.{unknownBytes, recodeField}
@@ -175,9 +176,14 @@ module _ (w : Code) where
       go true e = omega (arith, sided b .1 e .1)
       go false e = omega (arith, sided b .0 e, h .0)
 
-  -- digits stay
+  -- bytes under 80h stay, so digits do
+  pub plain-stays : (c : List ℕ) → Plain c → into c ≡ c
+  plain-stays [] h = refl
+  plain-stays (b ∷ c) h = ap₂ (λ (x : ℕ) (y : List ℕ). x ∷ y) (low-stays w b (omega (arith, h .0))) (plain-stays c (h .1))
+
   pub digits-stay : (c : List ℕ) → allDigits c ≡ true → into c ≡ c
-  digits-stay [] e = refl
-  digits-stay (b ∷ c) e =
-      let most : b ≤ digitNine = leb-true b digitNine (and-right (leb digitZero b) _ (and-left (digit b) _ e)) in
-      ap₂ (λ (x : ℕ) (y : List ℕ). x ∷ y) (low-stays w b (omega arith)) (digits-stay c (and-right (digit b) _ e))
+  digits-stay c e = plain-stays c (plain-digits c e)
+
+  pub plain-told : (c : List ℕ) → Plain c → Told w c
+  plain-told [] h = tt
+  plain-told (b ∷ c) h = (λ e. omega (arith, low-stays w b (omega (arith, h .0)), h .0), plain-told c (h .1))

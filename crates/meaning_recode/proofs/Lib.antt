@@ -6,3 +6,5 @@ pub mod MapLaws
 pub mod StandLaws
 pub mod RecodeLaws
 pub mod CharsetLaws
+pub mod BackLaws
+pub mod BackCalls

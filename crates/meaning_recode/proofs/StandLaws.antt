@@ -134,7 +134,7 @@ says-marked w (f ∷ fs) e = go (eqb (f .label) 9206) refl (says-marked w fs)
     go true p later = rw (says-mark w)
     go false p later = or-right (saysCode w f) (later (sym (has-later f fs (eqb-false (f .label) 9206 p)) ∙ e))
 
-says-gained : (w : Code) (fs : List Field) → 2 ≤ length fs → says w (resum (withCharset w fs)) ≡ true
+pub says-gained : (w : Code) (fs : List Field) → 2 ≤ length fs → says w (resum (withCharset w fs)) ≡ true
 unfolding says
 says-gained w [] l = absurd (omega arith)
 says-gained w (f ∷ []) l = absurd (omega arith)
