@@ -30,7 +30,7 @@ use Rattle.meaning.proofs.Bools.{Every}
 
 module _ (P : ℕ → Type 0) where
   -- every fault's number is one of P
-  abbrev Given : List Fault → Type 0
+  abbrev pub Given : List Fault → Type 0
   Given xs = Every (λ x. P (x .no)) xs
 
   -- a reply that refuses does so with a number of P
@@ -40,7 +40,7 @@ module _ (P : ℕ → Type 0) where
 
   -- ---- how they are put together
 
-  given-append : (a b : List Fault) → Given a → Given b → Given (a ++ b)
+  pub given-append : (a b : List Fault) → Given a → Given b → Given (a ++ b)
   given-append [] b h k = k
   given-append (x ∷ a) b h k = (h .0, given-append a b (h .1) k)
 
@@ -48,7 +48,7 @@ module _ (P : ℕ → Type 0) where
   given-ask true x p = tt
   given-ask false x p = (p, tt)
 
-  given-cond : (t : Bool) (a b : List Fault) → Given a → Given b → Given (cond t a b)
+  pub given-cond : (t : Bool) (a b : List Fault) → Given a → Given b → Given (cond t a b)
   given-cond true a b h k = h
   given-cond false a b h k = k
 
@@ -56,11 +56,11 @@ module _ (P : ℕ → Type 0) where
   given-one [] h = tt
   given-one (x ∷ xs) h = (h .0, tt)
 
-  numbered-then : {A B : Type 0} (r : Reply A) (k : A → Reply B) → Numbered r → ((a : A) → Numbered (k a)) → Numbered (thenTo r k)
+  pub numbered-then : {A B : Type 0} (r : Reply A) (k : A → Reply B) → Numbered r → ((a : A) → Numbered (k a)) → Numbered (thenTo r k)
   numbered-then (refused r) k h f = h
   numbered-then (done a) k h f = f a
 
-  numbered-verdict : {A : Type 0} (place : ℕ → Spot → ℕ) (xs : List Fault) (a : A) → Given xs → Numbered (verdict place xs a)
+  pub numbered-verdict : {A : Type 0} (place : ℕ → Spot → ℕ) (xs : List Fault) (a : A) → Given xs → Numbered (verdict place xs a)
   numbered-verdict place [] a h = tt
   numbered-verdict place (x ∷ xs) a h = h .0
 
@@ -68,7 +68,7 @@ module _ (P : ℕ → Type 0) where
   numbered-room true need a h = tt
   numbered-room false need a h = h
 
-  numbered-cond : {A : Type 0} (t : Bool) (a b : Reply A) → Numbered a → Numbered b → Numbered (cond t a b)
+  pub numbered-cond : {A : Type 0} (t : Bool) (a b : Reply A) → Numbered a → Numbered b → Numbered (cond t a b)
   numbered-cond true a b h k = h
   numbered-cond false a b h k = k
 
@@ -88,7 +88,7 @@ module _ (P : ℕ → Type 0) where
       numbered-cond (F .over s) _ _ tt (numbered-piece F (F .faults s) at s (λ q t. pieces F n q t) (g s) (λ q t. numbered-pieces F p g n q t))
 
   -- a rule, and the rules after it
-  given-rule : (t : Bool) (x : Fault) (r : List Fault) → P (x .no) → Given r → Given (ask t x ++ r)
+  pub given-rule : (t : Bool) (x : Fault) (r : List Fault) → P (x .no) → Given r → Given (ask t x ++ r)
   given-rule true x r p h = h
   given-rule false x r p h = (p, h)
 
@@ -268,7 +268,7 @@ module _ (P : ℕ → Type 0) where
       numbered-then (read s) _ (h s)
       (λ d. numbered-room (leb (listSize (withoutSum (d .fields))) room) (listSize (withoutSum (d .fields))) (putAll entryForm (withoutSum (d .fields)) []) n22)
 
-  numbered-set : P noRoom → (fs : List Field) (room : ℕ) → Numbered (setWithRoom fs room)
+  pub numbered-set : P noRoom → (fs : List Field) (room : ℕ) → Numbered (setWithRoom fs room)
   numbered-set n22 fs room = numbered-room (leb (size fs) room && leb (size fs) maxSetBytes) (size fs) (render fs []) n22
 
   numbered-correct : ((s : List ℕ) → Numbered (read s)) → P badUse → ChangeNumbers → P noRoom → (b : List ℕ) (used n : ℕ) (c : List ℕ) → Numbered (correct b used n c)
@@ -341,7 +341,7 @@ writeNumbers = 1 ∷ 6 ∷ 7 ∷ 8 ∷ 9 ∷ 11 ∷ 12 ∷ 13 ∷ 14 ∷ 15 ∷ 
 
 -- judging: 1 to 17 and 24, and whatever else a call gives
 module _ (more : List ℕ) where
-  reads-so : (s : List ℕ) → Numbered (OneOf (readNumbers ++ more)) (read s)
+  pub reads-so : (s : List ℕ) → Numbered (OneOf (readNumbers ++ more)) (read s)
   unfolding elem
   reads-so = numbered-read (OneOf (readNumbers ++ more)) refl refl (record { n2 = refl; n3 = refl; n4 = refl; n5 = refl; n6 = refl }) refl
       (record { n8 = refl; n9 = refl; n11 = refl; n12 = refl; n13 = refl; n14 = refl; n15 = refl; n16 = refl; n24 = refl }) refl

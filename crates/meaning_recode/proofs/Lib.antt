@@ -8,3 +8,4 @@ pub mod RecodeLaws
 pub mod CharsetLaws
 pub mod BackLaws
 pub mod BackCalls
+pub mod RecodeNumbers
