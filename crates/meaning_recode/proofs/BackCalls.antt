@@ -24,9 +24,9 @@ use Rattle.meaning_recode.specs.declared.Code.the-variants.{Page437, Pag
 use Rattle.meaning_recode.specs.Recoding.{says, hasCharset, inCode, recodeFaults, markField, withCharset, recodeLines, recode}
 use Rattle.meaning_recode.specs.RecodeCalls.{recodeCall}
 use Rattle.meaning_recode.proofs.CodeLaws.{other}
-use Rattle.meaning_recode.proofs.StandLaws.{Inserts, says-has, recoded-stands, size-kept}
+use Rattle.meaning_recode.proofs.StandLaws.{says-has, recoded-stands, size-kept}
 use Rattle.meaning_recode.proofs.RecodeLaws.{recode-only, recode-makes}
-use Rattle.meaning_recode.proofs.BackLaws.{Becomes, stays, twice, there-and-back, from-seven, seven-and-back, line-and-back, line-size, named-gains-none}
+use Rattle.meaning_recode.proofs.BackLaws.{Becomes, stays, twice, there-and-back, from-seven, seven-and-back, line-and-back, gainedBytes, line-size, named-gains-none}
 
 -- ---- the bytes that a buffer holds
 
@@ -67,81 +67,80 @@ first-done b b′ used n w fs r p q =
       left = q ∙ (ap (λ (y : Reply (List ℕ)). bytesLeft y b) (x .is-done) ∙ ap (λ (y : List ℕ). bytesLeft (done y) b) is);
     }
 
-module _ (insert-charset : Inserts) where
-  -- a recoding that has no fault and gains no line is done, in any buffer
-  kept-done : (b : List ℕ) (used : ℕ) (w : Code) (fs ks : List Field) → Holds b used fs → Becomes w fs ks
-      → (recodeCall b used w .answer ≡ Done used) × (recodeCall b used w .buffer ≡ leaves ks b)
-  kept-done b used w fs ks h k =
-      let same : size (recodeLines w fs) ≡ used = size-kept w fs (holds-standing b used fs h) (k .without-gain) ∙ held-size b used fs h in
-      let is : recode b used w ≡ done (render ks []) =
-      recode-makes insert-charset b used w fs h (k .without-fault) (omega (arith, h .fits-in)) ∙ ap (λ (l : List Field). done (render l [])) (k .lines-so) in
-      let size-so : size ks ≡ used = ap size (sym (k .lines-so)) ∙ same in
-      (ap made is ∙ ap Done (length-render ks [] ∙ omega arith), ap (λ (y : Reply (List ℕ)). bytesLeft y b) is)
+-- a recoding that has no fault and gains no line is done, in any buffer
+kept-done : (b : List ℕ) (used : ℕ) (w : Code) (fs ks : List Field) → Holds b used fs → Becomes w fs ks
+    → (recodeCall b used w .answer ≡ Done used) × (recodeCall b used w .buffer ≡ leaves ks b)
+kept-done b used w fs ks h k =
+    let same : size (recodeLines w fs) ≡ used = size-kept w fs (holds-standing b used fs h) (k .without-gain) ∙ held-size b used fs h in
+    let is : recode b used w ≡ done (render ks []) =
+    recode-makes b used w fs h (k .without-fault) (omega (arith, h .fits-in)) ∙ ap (λ (l : List Field). done (render l [])) (k .lines-so) in
+    let size-so : size ks ≡ used = ap size (sym (k .lines-so)) ∙ same in
+    (ap made is ∙ ap Done (length-render ks [] ∙ omega arith), ap (λ (y : Reply (List ℕ)). bytesLeft y b) is)
 
-  -- and so is one of the buffer that another left
-  next-done : (b b′ : List ℕ) (used n : ℕ) (w v : Code) (fs ks : List Field) → FirstDone b b′ used n w fs → Becomes v (recodeLines w fs) ks
-      → (recodeCall b′ n v .answer ≡ Done n) × (recodeCall b′ n v .buffer ≡ leaves ks b)
-  next-done b b′ used n w v fs ks d k =
-      let hs : List Field = recodeLines w fs in
-      let st : Standing hs = recoded-stands insert-charset w fs (holds-standing b used fs (d .held)) (d .no-faults) in
-      let h : Holds b′ n hs =
-      subst (λ (y : List ℕ). Holds y n hs) (sym (d .left)) (subst (λ (j : ℕ). Holds (leaves hs b) j hs) (sym (d .count)) (holds-leaves hs b st (d .room))) in
-      let x = kept-done b′ n v hs ks h k in
-      (x .0, x .1 ∙ left-by-length (render ks []) b′ b (ap length (d .left) ∙ length-leaves hs b (d .room)))
+-- and so is one of the buffer that another left
+next-done : (b b′ : List ℕ) (used n : ℕ) (w v : Code) (fs ks : List Field) → FirstDone b b′ used n w fs → Becomes v (recodeLines w fs) ks
+    → (recodeCall b′ n v .answer ≡ Done n) × (recodeCall b′ n v .buffer ≡ leaves ks b)
+next-done b b′ used n w v fs ks d k =
+    let hs : List Field = recodeLines w fs in
+    let st : Standing hs = recoded-stands w fs (holds-standing b used fs (d .held)) (d .no-faults) in
+    let h : Holds b′ n hs =
+    subst (λ (y : List ℕ). Holds y n hs) (sym (d .left)) (subst (λ (j : ℕ). Holds (leaves hs b) j hs) (sym (d .count)) (holds-leaves hs b st (d .room))) in
+    let x = kept-done b′ n v hs ks h k in
+    (x .0, x .1 ∙ left-by-length (render ks []) b′ b (ap length (d .left) ∙ length-leaves hs b (d .room)))
 
-  -- ---- "A set already in the wanted code stays as it is."
+-- ---- "A set already in the wanted code stays as it is."
 
-  -- it is never refused, and the bytes after it become zero
-  pub stays-call : (b : List ℕ) (used : ℕ) (w : Code) (fs : List Field) → used ≤ length b → read (take used b) ≡ done (parsed fs []) → inCode w fs ≡ true
-      → (recodeCall b used w .answer ≡ Done used) × (recodeCall b used w .buffer ≡ take used b ++ replicate (length b - used) 0)
-  stays-call b used w fs l r i =
-      let h : Holds b used fs = record { fits-in = l; front = r } in
-      let x = kept-done b used w fs fs h (stays w fs i) in
-      (x .0, x .1 ∙ held-alone b used fs h)
+-- it is never refused, and the bytes after it become zero
+pub stays-call : (b : List ℕ) (used : ℕ) (w : Code) (fs : List Field) → used ≤ length b → read (take used b) ≡ done (parsed fs []) → inCode w fs ≡ true
+    → (recodeCall b used w .answer ≡ Done used) × (recodeCall b used w .buffer ≡ take used b ++ replicate (length b - used) 0)
+stays-call b used w fs l r i =
+    let h : Holds b used fs = record { fits-in = l; front = r } in
+    let x = kept-done b used w fs fs h (stays w fs i) in
+    (x .0, x .1 ∙ held-alone b used fs h)
 
-  -- recoding twice to the same code page is recoding once: the second call answers the same, and leaves the same buffer
-  pub twice-call : (b b′ : List ℕ) (used n : ℕ) (w : Code) → Done n ≡ recodeCall b used w .answer → b′ ≡ recodeCall b used w .buffer
-      → (recodeCall b′ n w .answer ≡ Done n) × (recodeCall b′ n w .buffer ≡ b′)
-  twice-call b b′ used n w p q =
-      let e = done-call (recode b used w) n p in
-      let m = recode-only b used w (e .bytes) (e .is-done) in
-      let d = first-done b b′ used n w (m .lines) (m .held .front) p q in
-      let st : Standing (m .lines) = holds-standing b used (m .lines) (m .held) in
-      let x = next-done b b′ used n w w (m .lines) (recodeLines w (m .lines)) d (twice w (m .lines) st) in
-      (x .0, x .1 ∙ sym (d .left))
+-- recoding twice to the same code page is recoding once: the second call answers the same, and leaves the same buffer
+pub twice-call : (b b′ : List ℕ) (used n : ℕ) (w : Code) → Done n ≡ recodeCall b used w .answer → b′ ≡ recodeCall b used w .buffer
+    → (recodeCall b′ n w .answer ≡ Done n) × (recodeCall b′ n w .buffer ≡ b′)
+twice-call b b′ used n w p q =
+    let e = done-call (recode b used w) n p in
+    let m = recode-only b used w (e .bytes) (e .is-done) in
+    let d = first-done b b′ used n w (m .lines) (m .held .front) p q in
+    let st : Standing (m .lines) = holds-standing b used (m .lines) (m .held) in
+    let x = next-done b b′ used n w w (m .lines) (recodeLines w (m .lines)) d (twice w (m .lines) st) in
+    (x .0, x .1 ∙ sym (d .left))
 
-  -- ---- "and back"
+-- ---- "and back"
 
-  -- a set that named the other code page: if it is recoded, it is recoded back, to the bytes that it had
-  pub back-call : (b b′ : List ℕ) (used n : ℕ) (w : Code) (fs : List Field) → read (take used b) ≡ done (parsed fs []) → says (other w) fs ≡ true
-      → Done n ≡ recodeCall b used w .answer → b′ ≡ recodeCall b used w .buffer
-      → (recodeCall b′ n (other w) .answer ≡ Done used) × (recodeCall b′ n (other w) .buffer ≡ take used b ++ replicate (length b - used) 0)
-  back-call b b′ used n w fs r s p q =
-      let d = first-done b b′ used n w fs r p q in
-      let st : Standing fs = holds-standing b used fs (d .held) in
-      let x = next-done b b′ used n w (other w) fs fs d (there-and-back w fs st s (d .no-faults)) in
-      let same : n ≡ used = d .count ∙ (size-kept w fs st (named-gains-none w fs (says-has (other w) fs s)) ∙ held-size b used fs (d .held)) in
-      (x .0 ∙ ap Done same, x .1 ∙ held-alone b used fs (d .held))
+-- a set that named the other code page: if it is recoded, it is recoded back, to the bytes that it had
+pub back-call : (b b′ : List ℕ) (used n : ℕ) (w : Code) (fs : List Field) → read (take used b) ≡ done (parsed fs []) → says (other w) fs ≡ true
+    → Done n ≡ recodeCall b used w .answer → b′ ≡ recodeCall b used w .buffer
+    → (recodeCall b′ n (other w) .answer ≡ Done used) × (recodeCall b′ n (other w) .buffer ≡ take used b ++ replicate (length b - used) 0)
+back-call b b′ used n w fs r s p q =
+    let d = first-done b b′ used n w fs r p q in
+    let st : Standing fs = holds-standing b used fs (d .held) in
+    let x = next-done b b′ used n w (other w) fs fs d (there-and-back w fs st s (d .no-faults)) in
+    let same : n ≡ used = d .count ∙ (size-kept w fs st (named-gains-none w fs (says-has (other w) fs s)) ∙ held-size b used fs (d .held)) in
+    (x .0 ∙ ap Done same, x .1 ∙ held-alone b used fs (d .held))
 
-  -- a set without 9206: if it is recoded to 1252, it is ten bytes longer, and recoded back it has `2` in the line that it gained
-  pub line-call : (b b′ : List ℕ) (used n : ℕ) (fs : List Field) → read (take used b) ≡ done (parsed fs []) → hasCharset fs ≡ false
-      → Done n ≡ recodeCall b used Page1252 .answer → b′ ≡ recodeCall b used Page1252 .buffer
-      → (n ≡ used + 10) × (recodeCall b′ n Page437 .answer ≡ Done n) × (recodeCall b′ n Page437 .buffer ≡ leaves (resum (withCharset Page437 fs)) b)
-  line-call b b′ used n fs r s p q =
-      let d = first-done b b′ used n Page1252 fs r p q in
-      let st : Standing fs = holds-standing b used fs (d .held) in
-      let x = next-done b b′ used n Page1252 Page437 fs (resum (withCharset Page437 fs)) d (line-and-back fs st s (d .no-faults)) in
-      (omega (arith, d .count, line-size fs st s, held-size b used fs (d .held)), x .0, x .1)
+-- a set without 9206: if it is recoded to 1252, it is ten bytes longer, and recoded back it has `2` in the line that it gained
+pub line-call : (b b′ : List ℕ) (used n : ℕ) (fs : List Field) → read (take used b) ≡ done (parsed fs []) → hasCharset fs ≡ false
+    → Done n ≡ recodeCall b used Page1252 .answer → b′ ≡ recodeCall b used Page1252 .buffer
+    → (n ≡ used + gainedBytes) × (recodeCall b′ n Page437 .answer ≡ Done n) × (recodeCall b′ n Page437 .buffer ≡ leaves (resum (withCharset Page437 fs)) b)
+line-call b b′ used n fs r s p q =
+    let d = first-done b b′ used n Page1252 fs r p q in
+    let st : Standing fs = holds-standing b used fs (d .held) in
+    let x = next-done b b′ used n Page1252 Page437 fs (resum (withCharset Page437 fs)) d (line-and-back fs st s (d .no-faults)) in
+    (omega (arith, d .count, line-size fs st s, held-size b used fs (d .held)), x .0, x .1)
 
-  -- a set that said seven bits: it is recoded, and back, without a refusal; then 9206 names the code page, and all else is as it was
-  pub seven-call : (b b′ : List ℕ) (used : ℕ) (w : Code) (fs : List Field) → used ≤ length b → read (take used b) ≡ done (parsed fs []) → sevenBit fs ≡ true
-      → b′ ≡ recodeCall b used w .buffer
-      → (recodeCall b used w .answer ≡ Done used) × (b′ ≡ leaves (map (markField w) fs) b)
-      × (recodeCall b′ used (other w) .answer ≡ Done used) × (recodeCall b′ used (other w) .buffer ≡ leaves (map (markField (other w)) fs) b)
-  seven-call b b′ used w fs l r s q =
-      let h : Holds b used fs = record { fits-in = l; front = r } in
-      let st : Standing fs = holds-standing b used fs h in
-      let y = kept-done b used w fs (map (markField w) fs) h (from-seven w fs st s) in
-      let d = first-done b b′ used used w fs r (sym (y .0)) q in
-      let x = next-done b b′ used used w (other w) fs (map (markField (other w)) fs) d (seven-and-back w fs st s) in
-      (y .0, q ∙ y .1, x .0, x .1)
+-- a set that said seven bits: it is recoded, and back, without a refusal; then 9206 names the code page, and all else is as it was
+pub seven-call : (b b′ : List ℕ) (used : ℕ) (w : Code) (fs : List Field) → used ≤ length b → read (take used b) ≡ done (parsed fs []) → sevenBit fs ≡ true
+    → b′ ≡ recodeCall b used w .buffer
+    → (recodeCall b used w .answer ≡ Done used) × (b′ ≡ leaves (map (markField w) fs) b)
+    × (recodeCall b′ used (other w) .answer ≡ Done used) × (recodeCall b′ used (other w) .buffer ≡ leaves (map (markField (other w)) fs) b)
+seven-call b b′ used w fs l r s q =
+    let h : Holds b used fs = record { fits-in = l; front = r } in
+    let st : Standing fs = holds-standing b used fs h in
+    let y = kept-done b used w fs (map (markField w) fs) h (from-seven w fs st s) in
+    let d = first-done b b′ used used w fs r (sym (y .0)) q in
+    let x = next-done b b′ used used w (other w) fs (map (markField (other w)) fs) d (seven-and-back w fs st s) in
+    (y .0, q ∙ y .1, x .0, x .1)

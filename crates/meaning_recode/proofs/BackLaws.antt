@@ -26,9 +26,10 @@ use Rattle.meaning_recode.specs.Recoding.{mark, says, hasCharset, inCode
 use Rattle.meaning_recode.specs.Recoding.{recodeField, markField, withCharset, recodeLines}
 use Rattle.meaning_recode.proofs.CodeLaws.{other, undone-by}
 use Rattle.meaning_recode.proofs.KindLaws.{Told, told-back, told-none, length-kept, plain-stays, plain-told, digits-stay}
+use Rattle.meaning_recode.proofs.InsertLaws.{NoCharset, no-charset}
 use Rattle.meaning_recode.proofs.MapLaws.{mark-other, one-byte, mark-eight, pick}
 use Rattle.meaning_recode.proofs.StandLaws.{says-has, seven-has, says-marked, says-gained, charset-kept, recoded-in-code}
-use Rattle.meaning_recode.proofs.CharsetLaws.{NoCharset, one-charset, has-none, AllHold, none-hold, says-hold, seven-hold, marked-hold, not-seven-bits, not-in-code, marks-differ, seven-no-mark}
+use Rattle.meaning_recode.proofs.CharsetLaws.{one-charset, AllHold, none-hold, says-hold, seven-hold, marked-hold, not-seven-bits, not-in-code, marks-differ, seven-no-mark}
 
 -- ---- no fault
 
@@ -282,14 +283,17 @@ line-and-back fs st q e =
     let told : AllTold w fs = told-of w fs e (without-1252 fs q) (without-seven fs q) in
     let long : 2 ≤ length fs = two fs (upright fs st) in
     becomes-from Page437 (recodeLines w fs) (resum (withCharset w gs)) (resum (withCharset Page437 fs)) (gained-lines fs q)
-    (back-is w (resum (withCharset w gs)) (resum (withCharset Page437 fs)) (gained-hold w gs (has-none gs (charset-kept w fs ∙ q)))
-    (says-gained w gs (rw (length-map fs (recodeField w)) long)) (gained-told w gs (over-lines w fs told)) (gained-back w fs long (has-none fs q) told))
+    (back-is w (resum (withCharset w gs)) (resum (withCharset Page437 fs)) (gained-hold w gs (no-charset gs (charset-kept w fs ∙ q)))
+    (says-gained w gs (rw (length-map fs (recodeField w)) long)) (gained-told w gs (over-lines w fs told)) (gained-back w fs long (no-charset fs q) told))
 
--- and the line is ten bytes more
-pub line-size : (fs : List Field) → Standing fs → hasCharset fs ≡ false → size (recodeLines Page1252 fs) ≡ size fs + 10
-line-size fs st q = ap size (gained-lines fs q) ∙ (go fs (two fs (upright fs st)) ∙ ap (λ (gs : List Field). size gs + 10) (sym (sum-back fs (st .right))))
+-- the line: `0109206`, `3`, 0Dh 0Ah
+abbrev pub gainedBytes : ℕ
+gainedBytes = 10
+
+pub line-size : (fs : List Field) → Standing fs → hasCharset fs ≡ false → size (recodeLines Page1252 fs) ≡ size fs + gainedBytes
+line-size fs st q = ap size (gained-lines fs q) ∙ (go fs (two fs (upright fs st)) ∙ ap (λ (gs : List Field). size gs + gainedBytes) (sym (sum-back fs (st .right))))
   where
-    go : (l : List Field) → 2 ≤ length l → size (resum (withCharset Page1252 (map (recodeField Page1252) l))) ≡ size (resum l) + 10
+    go : (l : List Field) → 2 ≤ length l → size (resum (withCharset Page1252 (map (recodeField Page1252) l))) ≡ size (resum l) + gainedBytes
     go [] h = absurd (omega arith)
     go (f ∷ []) h = absurd (omega arith)
     go (f ∷ g ∷ l) h = omega (arith, length-kept Page1252 (f .content), size-recoded Page1252 l)

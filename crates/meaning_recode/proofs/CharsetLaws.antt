@@ -23,13 +23,11 @@ use Rattle.meaning_recode.specs.declared.Code.{Code}
 use Rattle.meaning_recode.specs.declared.Code.the-variants.{Page437, Page1252}
 use Rattle.meaning_recode.specs.Recoding.{mark, saysCode, says, hasCharset, inCode, markField}
 use Rattle.meaning_recode.proofs.CodeLaws.{other}
+use Rattle.meaning_recode.proofs.InsertLaws.{NoCharset}
 use Rattle.meaning_recode.proofs.MapLaws.{pick}
-use Rattle.meaning_recode.proofs.StandLaws.{has-here, has-later, says-9206, says-has, seven-9206, seven-has}
+use Rattle.meaning_recode.proofs.StandLaws.{has-later, says-9206, says-has, seven-9206, seven-has}
 
 -- ---- at most one
-
-abbrev pub NoCharset : List Field → Type 0
-NoCharset fs = Every (λ f. f .label ≡ 9206 → ⊥) fs
 
 abbrev pub OneCharset : List Field → Type 0
 OneCharset [] = Unit
@@ -52,12 +50,6 @@ none-has : (fs : List Field) → NoCharset fs → hasCharset fs ≡ false
 unfolding elem
 none-has [] h = refl
 none-has (f ∷ fs) h = has-later f fs (h .0) ∙ none-has fs (h .1)
-
-pub has-none : (fs : List Field) → hasCharset fs ≡ false → NoCharset fs
-has-none [] e = tt
-has-none (f ∷ fs) e =
-    let n : f .label ≡ 9206 → ⊥ = λ l. true≢false (sym (has-here f fs l) ∙ e) in
-    (n, has-none fs (sym (has-later f fs n) ∙ e))
 
 -- ---- what it holds
 

@@ -179,7 +179,7 @@ content-rules-any (atSetLevel r) p k k′ f e = content-any p k k′ f e
 content-rules-any (member r) p k k′ f e = content-any p k k′ f e
 
 -- no line is 9206
-abbrev NoCharset : List Field → Type 0
+abbrev pub NoCharset : List Field → Type 0
 NoCharset fs = Every (λ f. f .label ≡ 9206 → ⊥) fs
 
 rules-near : (p : Profile) (st st′ : State) (k k′ : ℕ) (fs : List Field) → NoCharset fs → Near (rowsOf p) st st′
@@ -409,7 +409,7 @@ insert-high w f g fs h = high-none (f ∷ g ∷ newLine w ∷ fs) (λ b. absurd 
 
 -- ---- the whole set
 
-no-charset : (fs : List Field) → hasCharset fs ≡ false → NoCharset fs
+pub no-charset : (fs : List Field) → hasCharset fs ≡ false → NoCharset fs
 unfolding elem
 no-charset [] e = tt
 no-charset (f ∷ fs) e = go (no-charset fs) (eqb 9206 (f .label)) refl e

@@ -23,11 +23,8 @@ use Rattle.meaning.proofs.CorrectionLaws.{upright, two, standing-resum}
 use Rattle.meaning_recode.specs.declared.Code.{Code}
 use Rattle.meaning_recode.specs.declared.Code.the-variants.{Page437, Page1252}
 use Rattle.meaning_recode.specs.Recoding.{mark, saysCode, says, hasCharset, inCode, gains, addedFaults, recodeFaults, recodeField, markField, withCharset, recodeLines}
+use Rattle.meaning_recode.proofs.InsertLaws.{insert-charset}
 use Rattle.meaning_recode.proofs.MapLaws.{map-labels, size-map, alters-recode, recoded-standing, mark-sound, alters-mark, marked-standing}
-
--- that a gained line 9206 keeps the rules (InsertLaws)
-abbrev pub Inserts : Type 0
-Inserts = (w : Code) (fs : List Field) → hasCharset fs ≡ false → Ruled fs → Ruled (withCharset w fs)
 
 -- ---- a line gained
 
@@ -55,7 +52,7 @@ charset-kept w fs = ap (elem 9206) (map-labels (recodeField w) (alters-recode w)
 
 -- ---- accepted
 
-module _ (insert-charset : Inserts) (w : Code) where
+module _ (w : Code) where
   gained-standing : (fs : List Field) → Standing fs → hasCharset fs ≡ false → length fs + 1 ≤ maxLines → Standing (resum (withCharset w fs))
   gained-standing fs st q l = standing-resum (withCharset w fs) (record {
     sound = sound-gained w fs (st .sound);
