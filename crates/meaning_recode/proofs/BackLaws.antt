@@ -114,7 +114,7 @@ back-is w hs ks h s t e =
     let eight : sevenBit hs ≡ false = not-seven-bits (mark w) hs (mark-eight w) h in
     record { without-fault = no-faults (other w) hs gain (λ b. t); without-gain = gain; lines-so = rw (out, eight, has) e }
 
--- if what hs is is known
+-- the same of lines that are known to be hs
 becomes-from : (v : Code) (gs hs ks : List Field) → gs ≡ hs → Becomes v hs ks → Becomes v gs ks
 becomes-from v gs hs ks e b = subst (λ (l : List Field). Becomes v l ks) (sym e) b
 

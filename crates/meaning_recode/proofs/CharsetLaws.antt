@@ -61,7 +61,7 @@ pub none-hold : (c : List ℕ) (fs : List Field) → NoCharset fs → AllHold c 
 none-hold c [] h = tt
 none-hold c (f ∷ fs) h = (λ l. absurd (h .0 l), none-hold c fs (h .1))
 
--- a line after it is 9206, so it is not
+-- a line after f is 9206, so f is not
 not-here : (f : Field) (fs : List Field) → OneCharset (f ∷ fs) → hasCharset fs ≡ true → f .label ≡ 9206 → ⊥
 not-here f fs o e l = true≢false (sym e ∙ none-has fs (o .0 l))
 

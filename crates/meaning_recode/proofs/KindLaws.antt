@@ -46,7 +46,7 @@ module _ (w : Code) where
 
   -- ---- one byte
 
-  -- under 80h it stays; else it is no byte under 80h before or after
+  -- under 80h it stays; from 80h on it stays there
   abbrev Sided : ℕ → ℕ → Type 0
   Sided b x = (leb 128 b ≡ false → x ≡ b) × (leb 128 b ≡ true → (128 ≤ b) × (128 ≤ x))
 
@@ -153,7 +153,7 @@ module _ (w : Code) where
   unfolding fits fitsLabel fitsRow hasLength
   fits-kept p f = rw (length-kept (f .content), kind-kept _ (f .content))
 
-  -- bytes under 80h are those of the content exactly if they are those after it
+  -- whether a content is these bytes, all of them under 80h
   pub same-kept : (c d : List ℕ) → Every (λ x. x < 128) d → sameBytes (into c) d ≡ sameBytes c d
   unfolding sameBytes
   same-kept [] [] h = refl
