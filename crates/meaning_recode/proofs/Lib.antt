@@ -9,3 +9,4 @@ pub mod CharsetLaws
 pub mod BackLaws
 pub mod BackCalls
 pub mod RecodeNumbers
+pub mod RecodeDecided
