@@ -225,7 +225,7 @@ sum-back-line : (w : Code) (n m : ℕ) → n ≡ m → markField w (recodeField 
 sum-back-line w n m e = ap (field 8100) (digits-stay w (digits sumDigits n) (digits-all sumDigits n)) ∙ ap sumField e
 
 module _ (w : Code) where
-  gained-hold : (gs : List Field) → NoCharset gs → AllHold (mark w) (resum (withCharset w gs))
+  pub gained-hold : (gs : List Field) → NoCharset gs → AllHold (mark w) (resum (withCharset w gs))
   gained-hold [] h = tt
   gained-hold (f ∷ []) h = (λ l. absurd (h .0 l), (λ l. absurd (omega arith), tt))
   gained-hold (f ∷ g ∷ gs) h = (λ l. absurd (h .0 l), (λ l. absurd (omega arith), (λ l. refl, none-hold (mark w) gs (h .1 .1))))

@@ -8,5 +8,6 @@ pub mod RecodeLaws
 pub mod CharsetLaws
 pub mod BackLaws
 pub mod BackCalls
+pub mod OrderLaws
 pub mod RecodeNumbers
 pub mod RecodeDecided

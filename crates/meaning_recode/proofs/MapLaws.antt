@@ -61,7 +61,7 @@ module _ (g : Field → Field) (a : Alters g) where
   map-labels [] = refl
   map-labels (f ∷ fs) = ap₂ (λ (l : ℕ) (ls : List ℕ). l ∷ ls) (a .label-so f) (map-labels fs)
 
-  line-map : (fs : List Field) (k : ℕ) → getD (map g fs) k noField ≡ g (getD fs k noField)
+  pub line-map : (fs : List Field) (k : ℕ) → getD (map g fs) k noField ≡ g (getD fs k noField)
   line-map fs k = ap (λ (d : Field). getD (map g fs) k d) (sym (a .none-so)) ∙ List·getD-map g fs k noField
 
   pub content-map : (fs : List Field) (k : ℕ) → contentAtLine (map g fs) k ≡ g (getD fs k noField) .content
@@ -157,7 +157,7 @@ module _ (w : Code) where
       go true false e = refl
       go false t e = refl
 
-  profile-recoded : (fs : List Field) → profile (map (recodeField w) fs) ≡ profile fs
+  pub profile-recoded : (fs : List Field) → profile (map (recodeField w) fs) ≡ profile fs
   unfolding profile
   profile-recoded fs = rw (content-map (recodeField w) alters-recode fs 0, type-kept (contentAtLine fs 0)) refl
 
@@ -280,7 +280,7 @@ module _ (w : Code) where
   content-marked : (fs : List Field) (k : ℕ) → (labelAtLine fs k ≡ 9206 → ⊥) → contentAtLine (map (markField w) fs) k ≡ contentAtLine fs k
   content-marked fs k n = content-map (markField w) alters-mark fs k ∙ ap (λ (f : Field). f .content) (mark-other w (getD fs k noField) n)
 
-  profile-marked : (fs : List Field) → Ruled fs → profile (map (markField w) fs) ≡ profile fs
+  pub profile-marked : (fs : List Field) → Ruled fs → profile (map (markField w) fs) ≡ profile fs
   unfolding profile
   profile-marked fs r = rw (content-marked fs 0 (λ q. omega (arith, begins-of fs (r .begins) .first-label)))
 
