@@ -44,14 +44,14 @@ held-alone b used fs h =
 
 -- ---- a recoding that is done, of a buffer that holds the lines fs
 
-record FirstDone (b b′ : List ℕ) (used n : ℕ) (w : Code) (fs : List Field) : Type 0 where
-  held : Holds b used fs
-  no-faults : recodeFaults w fs ≡ []
-  room : size (recodeLines w fs) ≤ length b
-  count : n ≡ size (recodeLines w fs)
-  left : b′ ≡ leaves (recodeLines w fs) b
+pub record FirstDone (b b′ : List ℕ) (used n : ℕ) (w : Code) (fs : List Field) : Type 0 where
+  pub held : Holds b used fs
+  pub no-faults : recodeFaults w fs ≡ []
+  pub room : size (recodeLines w fs) ≤ length b
+  pub count : n ≡ size (recodeLines w fs)
+  pub left : b′ ≡ leaves (recodeLines w fs) b
 
-first-done : (b b′ : List ℕ) (used n : ℕ) (w : Code) (fs : List Field) → read (take used b) ≡ done (parsed fs [])
+pub first-done : (b b′ : List ℕ) (used n : ℕ) (w : Code) (fs : List Field) → read (take used b) ≡ done (parsed fs [])
     → Done n ≡ recodeCall b used w .answer → b′ ≡ recodeCall b used w .buffer → FirstDone b b′ used n w fs
 first-done b b′ used n w fs r p q =
     let x = done-call (recode b used w) n p in
@@ -66,6 +66,15 @@ first-done b b′ used n w fs r p q =
       count = omega (arith, x .so-many, ap length is, length-render (recodeLines w fs) []);
       left = q ∙ (ap (λ (y : Reply (List ℕ)). bytesLeft y b) (x .is-done) ∙ ap (λ (y : List ℕ). bytesLeft (done y) b) is);
     }
+
+-- the buffer that a call left with the lines hs, n bytes of them
+pub left-held : (b b′ : List ℕ) (n : ℕ) (hs : List Field) → Standing hs → size hs ≤ length b → n ≡ size hs → b′ ≡ leaves hs b → Holds b′ n hs
+left-held b b′ n hs st room count left =
+    subst (λ (y : List ℕ). Holds y n hs) (sym left) (subst (λ (j : ℕ). Holds (leaves hs b) j hs) (sym count) (holds-leaves hs b st room))
+
+-- it is as long as before
+pub left-length : (b b′ : List ℕ) (hs : List Field) → size hs ≤ length b → b′ ≡ leaves hs b → length b′ ≡ length b
+left-length b b′ hs room left = ap length left ∙ length-leaves hs b room
 
 -- a recoding that has no fault and gains no line is done, in any buffer
 kept-done : (b : List ℕ) (used : ℕ) (w : Code) (fs ks : List Field) → Holds b used fs → Becomes w fs ks
@@ -83,10 +92,9 @@ next-done : (b b′ : List ℕ) (used n : ℕ) (w v : Code) (fs ks : List Field)
 next-done b b′ used n w v fs ks d k =
     let hs : List Field = recodeLines w fs in
     let st : Standing hs = recoded-stands w fs (holds-standing b used fs (d .held)) (d .no-faults) in
-    let h : Holds b′ n hs =
-    subst (λ (y : List ℕ). Holds y n hs) (sym (d .left)) (subst (λ (j : ℕ). Holds (leaves hs b) j hs) (sym (d .count)) (holds-leaves hs b st (d .room))) in
+    let h : Holds b′ n hs = left-held b b′ n hs st (d .room) (d .count) (d .left) in
     let x = kept-done b′ n v hs ks h k in
-    (x .0, x .1 ∙ left-by-length (render ks []) b′ b (ap length (d .left) ∙ length-leaves hs b (d .room)))
+    (x .0, x .1 ∙ left-by-length (render ks []) b′ b (left-length b b′ hs (d .room) (d .left)))
 
 -- ---- "A set already in the wanted code stays as it is."
 

@@ -44,12 +44,12 @@ unknown-back w k (f ∷ fs) e =
     let a = append-none (unknownBytes w k 0 (f .content)) _ e in
     (told-back w k 0 (f .content) (a .0), unknown-back w (k + 1) fs (a .1))
 
-unknown-none : (w : Code) (k : ℕ) (fs : List Field) → AllTold w fs → unknownFrom w k fs ≡ []
+pub unknown-none : (w : Code) (k : ℕ) (fs : List Field) → AllTold w fs → unknownFrom w k fs ≡ []
 unfolding unknownFrom
 unknown-none w k [] h = refl
 unknown-none w k (f ∷ fs) h = none-both (unknownBytes w k 0 (f .content)) _ (told-none w k 0 (f .content) (h .0)) (unknown-none w (k + 1) fs (h .1))
 
-told-of : (w : Code) (fs : List Field) → recodeFaults w fs ≡ [] → inCode w fs ≡ false → sevenBit fs ≡ false → AllTold w fs
+pub told-of : (w : Code) (fs : List Field) → recodeFaults w fs ≡ [] → inCode w fs ≡ false → sevenBit fs ≡ false → AllTold w fs
 unfolding recodeFaults allRecoded
 told-of w fs e p q =
     unknown-back w 0 fs (if-back (allRecoded w fs) (unknownFrom w 0 fs) (append-none (addedFaults w fs) _ e .1) (rw (p, q)))
@@ -218,7 +218,7 @@ size-recoded : (w : Code) (fs : List Field) → size (map (recodeField w) fs) �
 size-recoded w [] = refl
 size-recoded w (f ∷ fs) = omega (arith, length-kept w (f .content), size-recoded w fs)
 
-sum-told : (w : Code) (n : ℕ) → Told w (sumField n .content)
+pub sum-told : (w : Code) (n : ℕ) → Told w (sumField n .content)
 sum-told w n = plain-told w (digits sumDigits n) (plain-digits (digits sumDigits n) (digits-all sumDigits n))
 
 sum-back-line : (w : Code) (n m : ℕ) → n ≡ m → markField w (recodeField w (sumField n)) ≡ sumField m

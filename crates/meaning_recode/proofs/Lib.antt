@@ -9,5 +9,6 @@ pub mod CharsetLaws
 pub mod BackLaws
 pub mod BackCalls
 pub mod OrderLaws
+pub mod OrderCalls
 pub mod RecodeNumbers
 pub mod RecodeDecided
