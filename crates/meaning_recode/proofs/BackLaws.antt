@@ -37,7 +37,7 @@ use Rattle.meaning_recode.proofs.CharsetLaws.{one-charset, AllHold, non
 abbrev pub AllTold : Code → List Field → Type 0
 AllTold w fs = Every (λ f. Told w (f .content)) fs
 
-unknown-back : (w : Code) (k : ℕ) (fs : List Field) → unknownFrom w k fs ≡ [] → AllTold w fs
+pub unknown-back : (w : Code) (k : ℕ) (fs : List Field) → unknownFrom w k fs ≡ [] → AllTold w fs
 unfolding unknownFrom
 unknown-back w k [] e = tt
 unknown-back w k (f ∷ fs) e =
@@ -49,7 +49,7 @@ unfolding unknownFrom
 unknown-none w k [] h = refl
 unknown-none w k (f ∷ fs) h = none-both (unknownBytes w k 0 (f .content)) _ (told-none w k 0 (f .content) (h .0)) (unknown-none w (k + 1) fs (h .1))
 
-pub told-of : (w : Code) (fs : List Field) → recodeFaults w fs ≡ [] → inCode w fs ≡ false → sevenBit fs ≡ false → AllTold w fs
+told-of : (w : Code) (fs : List Field) → recodeFaults w fs ≡ [] → inCode w fs ≡ false → sevenBit fs ≡ false → AllTold w fs
 unfolding recodeFaults allRecoded
 told-of w fs e p q =
     unknown-back w 0 fs (if-back (allRecoded w fs) (unknownFrom w 0 fs) (append-none (addedFaults w fs) _ e .1) (rw (p, q)))

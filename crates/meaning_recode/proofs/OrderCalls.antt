@@ -1,5 +1,5 @@
 -- A correction and a recoding may be made in either order, on the calls: the other order is done as well, answers the same length and leaves the same buffer.
-use mathlib.Core.Path.{_≡_, refl, sym, ap, ap₂, _∙_, subst}
+use mathlib.Core.Path.{_≡_, sym, ap, _∙_, subst}
 use mathlib.Core.Bool.{true}
 use mathlib.Core.List.{List, []}
 use Prim.Native.Nat.{ℕ, _≤_}
@@ -19,16 +19,15 @@ use Rattle.meaning.proofs.CorrectionLaws.{Change, still-standing, Holds, holds-
 use Rattle.meaning.proofs.Demands.{left-by-length}
 use Rattle.meaning.proofs.CallLaws.{done-call}
 use Rattle.meaning_recode.specs.declared.Code.{Code}
-use Rattle.meaning_recode.specs.Recoding.{allRecoded, recodeFaults, recodeLines, recode}
+use Rattle.meaning_recode.specs.Recoding.{allRecoded, recodeLines, recode}
 use Rattle.meaning_recode.specs.RecodeCalls.{recodeCall}
 use Rattle.meaning_recode.proofs.KindLaws.{Told}
 use Rattle.meaning_recode.proofs.StandLaws.{recoded-stands}
 use Rattle.meaning_recode.proofs.RecodeLaws.{recode-makes}
 use Rattle.meaning_recode.proofs.BackCalls.{FirstDone, first-done, left-held, left-length}
-use Rattle.meaning_recode.proofs.OrderLaws.{movedOn, contentInto, either-lines}
+use Rattle.meaning_recode.proofs.OrderLaws.{movedOn, contentInto, either-lines, recode-corrected}
 
--- ---- what a call of which the bytes are known answers and leaves
-
+-- what a call answers that made these lines
 render-count : (fs : List Field) → length (render fs []) ≡ size fs
 render-count fs = length-render fs [] ∙ omega arith
 
@@ -79,8 +78,8 @@ after-recoding b br used v n c w fs d ch room =
     correct-makes br v (movedOn w fs n) (contentInto w fs c) hs h (e .asked) fits ∙ ap (λ (l : List Field). done (render l [])) (e .lines-so) in
     (ap made is ∙ ap Done (render-count both), ap (λ (y : Reply (List ℕ)). bytesLeft y br) is ∙ left-by-length (render both []) br b long)
 
--- a correction is done, and a recoding after it, as the first recoding alone is: then the correction after the recoding is done, answers what the other order answers
--- and leaves the buffer that it leaves
+-- a correction is done, then a recoding of what it left; a recoding of the buffer b is done as well. Then the correction of what that one left is done, and the second order
+-- answers the same length and leaves the same buffer as the first
 pub other-order-call : (b bc bcr br : List ℕ) (used n u k v : ℕ) (c : List ℕ) (w : Code) (fs : List Field) → read (take used b) ≡ done (parsed fs [])
     → Done u ≡ correctCall b used n c .answer → bc ≡ correctCall b used n c .buffer
     → Done k ≡ recodeCall bc u w .answer → bcr ≡ recodeCall bc u w .buffer
@@ -92,3 +91,22 @@ other-order-call b bc bcr br used n u k v c w fs r pc qc pcr qcr pr qr =
     let both : List Field = recodeLines w (changed fs n c) in
     let y = after-recoding b br used v n c w fs (first-done b br used v w fs r pr qr) (x .asked) (rw (← x .same-length) (d .room)) in
     (y .0 ∙ ap Done (sym (d .count)), y .1 ∙ sym (d .left ∙ left-by-length (render both []) bc b (x .same-length)))
+
+-- each of the two is done in the buffer b, each byte of the new content has a character in the wanted code page if the contents are recoded, and there is room for the set
+-- with both. Then each is done after the other, and both orders answer the same length and leave the same buffer
+pub either-order-call : (b bc br : List ℕ) (used n u v : ℕ) (c : List ℕ) (w : Code) (fs : List Field) → read (take used b) ≡ done (parsed fs [])
+    → Done u ≡ correctCall b used n c .answer → bc ≡ correctCall b used n c .buffer
+    → Done v ≡ recodeCall b used w .answer → br ≡ recodeCall b used w .buffer
+    → (allRecoded w fs ≡ true → Told w c) → size (recodeLines w (changed fs n c)) ≤ length b
+    → (k : ℕ) × (recodeCall bc u w .answer ≡ Done k) × (correctCall br v (movedOn w fs n) (contentInto w fs c) .answer ≡ Done k)
+    × (recodeCall bc u w .buffer ≡ correctCall br v (movedOn w fs n) (contentInto w fs c) .buffer)
+either-order-call b bc br used n u v c w fs r pc qc pr qr t room =
+    let x = correct-done b bc used u n c fs r pc qc in
+    let d = first-done b br used v w fs r pr qr in
+    let st : Standing fs = holds-standing b used fs (x .held) in
+    let both : List Field = recodeLines w (changed fs n c) in
+    let y = after-recoding b br used v n c w fs d (x .asked) room in
+    let is : recode bc u w ≡ done (render both []) =
+    recode-makes bc u w (changed fs n c) (x .then-held) (recode-corrected w fs n c st (x .asked) t (d .no-faults)) (rw (x .same-length) room) in
+    let left : recodeCall bc u w .buffer ≡ leaves both b = ap (λ (z : Reply (List ℕ)). bytesLeft z bc) is ∙ left-by-length (render both []) bc b (x .same-length) in
+    (size both, ap made is ∙ ap Done (render-count both), y .0, left ∙ sym (y .1))

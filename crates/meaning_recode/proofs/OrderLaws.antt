@@ -11,21 +11,23 @@ use Rattle.meaning.specs.Field.{Field, field, labels, elem, labelAtLine}
 use Rattle.meaning.specs.Rules.{profile, fits, sevenBit}
 use Rattle.meaning.specs.Lists.{sumField}
 use Rattle.meaning.specs.Corrections.{recontent, resum, changed}
-use Rattle.meaning.proofs.FaultLaws.{High, Plain}
+use Rattle.meaning.proofs.Bools.{every-set}
+use Rattle.meaning.proofs.FaultLaws.{append-none, none-both, if-none, if-back, High, Plain}
 use Rattle.meaning.proofs.RuleLaws.{Ruled, ruled, begins-of}
 use Rattle.meaning.proofs.SetLaws.{Standing, sum-back}
 use Rattle.meaning.proofs.CorrectionLaws.{Change, upright, upright-recontent, alike-changed, still-standing}
 use Rattle.meaning_recode.specs.declared.Code.{Code}
 use Rattle.meaning_recode.specs.declared.Code.the-variants.{Page437, Page1252}
 use Rattle.meaning_recode.specs.Codes.{recoded}
-use Rattle.meaning_recode.specs.Recoding.{mark, saysCode, says, hasCharset, inCode, allRecoded, gains, recodeField, markField, withCharset, recodeLines}
-use Rattle.meaning_recode.proofs.KindLaws.{fits-kept, high-kept}
+use Rattle.meaning_recode.specs.Recoding.{mark, saysCode, says, hasCharset, inCode, allRecoded, gains, addedFaults, unknownFrom, recodeFaults}
+use Rattle.meaning_recode.specs.Recoding.{recodeField, markField, withCharset, recodeLines}
+use Rattle.meaning_recode.proofs.KindLaws.{Told, fits-kept, high-kept}
 use Rattle.meaning_recode.proofs.InsertLaws.{no-charset}
 use Rattle.meaning_recode.proofs.MapLaws.{Alters, line-map, alters-recode, profile-recoded, seven-kept, recoded-standing, mark-other, mark-eight, alters-mark}
 use Rattle.meaning_recode.proofs.MapLaws.{not-seven-marked, profile-marked, marked-standing}
 use Rattle.meaning_recode.proofs.StandLaws.{seven-has, charset-kept}
 use Rattle.meaning_recode.proofs.CharsetLaws.{not-seven-bits}
-use Rattle.meaning_recode.proofs.BackLaws.{gained-hold}
+use Rattle.meaning_recode.proofs.BackLaws.{AllTold, unknown-back, unknown-none, sum-told, gained-hold}
 
 -- ---- what a correction is after a recoding
 
@@ -197,3 +199,24 @@ module _ (w : Code) (fs : List Field) (n : ℕ) (c : List ℕ) (st : Standing fs
           let l : 3 ≤ n = from-third fs n c (ruled fs (st .right) .0) ch in
           let next : n + 1 ≡ suc n = omega arith in
           rw (le-leb 3 n l, next, ← all q .lines-so) (gained-corrects w (map (recodeField w) fs) n (map (recoded w) c) (charset-kept w fs ∙ r) l (all q .asked))
+
+-- ---- a new content of which every byte has a character adds no fault
+
+told-resum : (w : Code) (fs : List Field) → AllTold w fs → AllTold w (resum fs)
+told-resum w [] h = tt
+told-resum w (f ∷ []) h = (h .0, (sum-told w _, tt))
+told-resum w (f ∷ x ∷ fs) h = (h .0, (sum-told w _, h .1 .1))
+
+pub recode-corrected : (w : Code) (fs : List Field) (n : ℕ) (c : List ℕ) → Standing fs → Change fs n c → (allRecoded w fs ≡ true → Told w c) → recodeFaults w fs ≡ []
+    → recodeFaults w (changed fs n c) ≡ []
+unfolding recodeFaults allRecoded
+recode-corrected w fs n c st ch t e =
+    let hs : List Field = changed fs n c in
+    let like = alike-changed fs n c st ch in
+    let a = append-none (addedFaults w fs) _ e in
+    let same : allRecoded w hs ≡ allRecoded w fs = rw (code-changed w fs n c st ch, like .seven-so) in
+    none-both (addedFaults w hs) _ (rw (code-changed w fs n c st ch, charset-changed w fs n c st ch, like .length-so) (a .0))
+    (if-none (allRecoded w hs) (unknownFrom w 0 hs) (λ b.
+    let was : allRecoded w fs ≡ true = sym same ∙ b in
+    let told : AllTold w fs = unknown-back w 0 fs (if-back (allRecoded w fs) (unknownFrom w 0 fs) (a .1) was) in
+    unknown-none w 0 hs (told-resum w (recontent fs (pred n) c) (every-set (λ f. Told w (f .content)) fs (pred n) _ (t was) told))))
