@@ -7,3 +7,4 @@ pub mod FirstUnknown
 pub mod RecodeCases
 pub mod RecodeExact
 pub mod ShutOutRecode
+pub mod ShutOutBack

@@ -21,7 +21,7 @@ abbrev byteFrom : ℕ → List ℕ → ℕ → ℕ
 byteFrom k [] u = noByte
 byteFrom k (x ∷ xs) u = let rest = byteFrom (suc k) xs u in cond (eqb x u) k rest
 
-abbrev byteOf : List ℕ → ℕ → ℕ
+abbrev pub byteOf : List ℕ → ℕ → ℕ
 byteOf xs u = cond (eqb u unnamed) noByte (byteFrom 0 xs u)
 
 -- ---- computed, over all entries

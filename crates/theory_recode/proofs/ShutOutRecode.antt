@@ -26,28 +26,28 @@ use Rattle.theory_recode.proofs.RecodeExact.{recoded-exactly, recode-re
 -- ---- the inputs
 
 -- the paper's set P: 51 bytes without 9206, so in code page 437; and with the line that it gains
-p : List ℕ
+unfoldable pub p : List ℕ
 p = setOf (line 8000 "6300" ∷ line 9218 "02.10" ∷ line 3000 "0" ∷ [])
 
 pGained : List ℕ
 pGained = setOf (line 8000 "6300" ∷ line 9206 "3" ∷ line 9218 "02.10" ∷ line 3000 "0" ∷ [])
 
 -- 61 bytes that name their code page; the last content is one byte, at 58
-named : Field → ℕ → List ℕ
+unfoldable pub named : Field → ℕ → List ℕ
 named f b = setOf (line 8000 "6300" ∷ f ∷ line 9218 "02.10" ∷ field 3000 (b ∷ []) ∷ [])
 
 -- the same letter in both code pages
-in437 : List ℕ
+unfoldable pub in437 : List ℕ
 in437 = named (line 9206 "2") 0x81
 
-in1252 : List ℕ
+unfoldable pub in1252 : List ℕ
 in1252 = named (line 9206 "3") 0xFC
 
 -- a piece of a frame, which 1252 has not
 framed : List ℕ
 framed = named (line 9206 "2") 0xB0
 
-recode-p : recode p 51 Page437 ≡ done p
+pub recode-p : recode p 51 Page437 ≡ done p
 unfolding computes recodeComputes p
 recode-p = refl
 
@@ -59,7 +59,7 @@ recode-p-no-room : recode p 51 Page1252 ≡ refused (refusal 22 61 0)
 unfolding computes recodeComputes p
 recode-p-no-room = refl
 
-recode-letter : recode in437 61 Page1252 ≡ done in1252
+pub recode-letter : recode in437 61 Page1252 ≡ done in1252
 unfolding computes recodeComputes named in437 in1252
 recode-letter = refl
 
@@ -77,19 +77,19 @@ unfolding p named in1252
 other-length e = let z : _≡_ {A = ℕ} 51 61 = ap length (done-same e) in omega arith
 
 -- what each theorem is about
-abbrev Recoder : Type 0
+abbrev pub Recoder : Type 0
 Recoder = List ℕ → ℕ → Code → Reply (List ℕ)
 
 -- leaves every set as it is
-abbrev leaving : Recoder
+abbrev pub leaving : Recoder
 leaving b used w = done (take used b)
 
 -- puts this in the place of every line of a set
-abbrev eachLine : (Code → Field → Field) → Recoder
+abbrev pub eachLine : (Code → Field → Field) → Recoder
 eachLine g b used w = thenTo (read (take used b)) (λ d. done (render (map (g w) (d .fields)) []))
 
 -- refuses what is to be refused, and leaves every other set as it is
-abbrev idle : List ℕ → Reply (List ℕ) → Reply (List ℕ)
+abbrev pub idle : List ℕ → Reply (List ℕ) → Reply (List ℕ)
 idle b (refused r) = refused r
 idle b (done x) = done b
 
@@ -114,13 +114,13 @@ atZero (done x) = done x
 -- ---- recoded exactly
 
 -- recoded-exactly: nothing given
-abbrev SaysRecodedExactly : Recoder → Type 0
+abbrev pub SaysRecodedExactly : Recoder → Type 0
 SaysRecodedExactly recode = (b : List ℕ) (used : ℕ) (w : Code) (out : List ℕ) → (recode b used w ≡ done out) ↔ Recodes b used w out
 
 recoded-exactly-says : SaysRecodedExactly recode
 recoded-exactly-says = recoded-exactly
 
-recoded-exactly-at : (R : Recoder) → SaysRecodedExactly R → (b : List ℕ) (used : ℕ) (w : Code) (out : List ℕ) → (R b used w ≡ done out) ↔ (recode b used w ≡ done out)
+pub recoded-exactly-at : (R : Recoder) → SaysRecodedExactly R → (b : List ℕ) (used : ℕ) (w : Code) (out : List ℕ) → (R b used w ≡ done out) ↔ (recode b used w ≡ done out)
 recoded-exactly-at R h b used w out = (λ e. recoded-exactly b used w out .1 (h b used w out .0 e), λ e. h b used w out .1 (recoded-exactly b used w out .0 e))
 
 recoded-exactly-not-refusing : (r : List ℕ → ℕ → Code → Refusal) → SaysRecodedExactly (λ b used w. refused (r b used w)) → ⊥
