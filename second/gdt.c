@@ -1,10 +1,11 @@
-/* gdt.c: reading, writing and correcting GDT 2.1 sets, the index of a day file, and the serial cable, all functions of gdt.h.
+/* gdt.c: reading, writing, correcting and recoding GDT 2.1 sets, the index of a day file, and the serial cable, all functions of
+   gdt.h.
 
    Order of the file: limits and records; the rows; contents; the line syntax and the entries of a list; groups; the rules of a
    line; a whole set and a whole list; the public functions; the day file (request E1) with its public functions; the serial
-   cable (E3) with its own. Words in quotes are the rules paper's, for the day file, for seven bits (E2) and for the cable the
-   request's, and a bare number such as 14 is one of the numbered replies. "B12", "E1a" and the like are points of
-   docs/DECISIONS.md. */
+   cable (E3) with its own; code pages (E5) with theirs. Words in quotes are the rules paper's, for the day file, for seven bits
+   (E2), for the cable and for code pages the request's, and a bare number such as 14 is one of the numbered replies. "B12", "E1a"
+   and the like are points of docs/DECISIONS.md. */
 #include "gdt.h"
 
 #include <string.h>
@@ -1490,4 +1491,151 @@ struct gdt_received gdt_receive(struct gdt_receiver receiver, uint8_t *buffer, s
     received.receiver.open = label == LAST_BLOCK ? 0 : 1;
     received.receiver.used = new_used;
     return received;
+}
+
+/* ---- Code pages ------------------------------------------------------------------------------------------------------------ */
+
+/* What 9206 holds for each code. */
+static const uint8_t seven_bit = '1', page_437 = '2', page_1252 = '3';
+
+enum {
+    CHARSET_LINE = 10, /* the length of a line 9206 */
+    FIRST_HIGH = 0x80, /* below it a byte is the same in both code pages */
+    HIGH_BYTES = 0x80,
+    NONE = 0 /* the character is not in the other code page, or the byte is no character; no high byte is 00h there */
+};
+
+/* "A table .. for each direction, taken from the published Unicode mapping files for both code pages": CP437.TXT and CP1252.TXT.
+   Here are the bytes 80h to FFh of 437 in 1252. */
+static const uint8_t to_1252[HIGH_BYTES] = {
+    /* 80h */ 0xC7, 0xFC, 0xE9, 0xE2, 0xE4, 0xE0, 0xE5, 0xE7, 0xEA, 0xEB, 0xE8, 0xEF, 0xEE, 0xEC, 0xC4, 0xC5,
+    /* 90h */ 0xC9, 0xE6, 0xC6, 0xF4, 0xF6, 0xF2, 0xFB, 0xF9, 0xFF, 0xD6, 0xDC, 0xA2, 0xA3, 0xA5, NONE, 0x83,
+    /* A0h */ 0xE1, 0xED, 0xF3, 0xFA, 0xF1, 0xD1, 0xAA, 0xBA, 0xBF, NONE, 0xAC, 0xBD, 0xBC, 0xA1, 0xAB, 0xBB,
+    /* B0h */ NONE, NONE, NONE, NONE, NONE, NONE, NONE, NONE, NONE, NONE, NONE, NONE, NONE, NONE, NONE, NONE,
+    /* C0h */ NONE, NONE, NONE, NONE, NONE, NONE, NONE, NONE, NONE, NONE, NONE, NONE, NONE, NONE, NONE, NONE,
+    /* D0h */ NONE, NONE, NONE, NONE, NONE, NONE, NONE, NONE, NONE, NONE, NONE, NONE, NONE, NONE, NONE, NONE,
+    /* E0h */ NONE, 0xDF, NONE, NONE, NONE, NONE, 0xB5, NONE, NONE, NONE, NONE, NONE, NONE, NONE, NONE, NONE,
+    /* F0h */ NONE, 0xB1, NONE, NONE, NONE, NONE, 0xF7, NONE, 0xB0, NONE, 0xB7, NONE, NONE, 0xB2, NONE, 0xA0,
+};
+
+/* The bytes 80h to FFh of 1252 in 437. 81h, 8Dh, 8Fh, 90h and 9Dh are no characters. */
+static const uint8_t to_437[HIGH_BYTES] = {
+    /* 80h */ NONE, NONE, NONE, 0x9F, NONE, NONE, NONE, NONE, NONE, NONE, NONE, NONE, NONE, NONE, NONE, NONE,
+    /* 90h */ NONE, NONE, NONE, NONE, NONE, NONE, NONE, NONE, NONE, NONE, NONE, NONE, NONE, NONE, NONE, NONE,
+    /* A0h */ 0xFF, 0xAD, 0x9B, 0x9C, NONE, 0x9D, NONE, NONE, NONE, NONE, 0xA6, 0xAE, 0xAA, NONE, NONE, NONE,
+    /* B0h */ 0xF8, 0xF1, 0xFD, NONE, NONE, 0xE6, NONE, 0xFA, NONE, NONE, 0xA7, 0xAF, 0xAC, 0xAB, NONE, 0xA8,
+    /* C0h */ NONE, NONE, NONE, NONE, 0x8E, 0x8F, 0x92, 0x80, NONE, 0x90, NONE, NONE, NONE, NONE, NONE, NONE,
+    /* D0h */ NONE, 0xA5, NONE, NONE, NONE, NONE, 0x99, NONE, NONE, NONE, NONE, NONE, 0x9A, NONE, NONE, 0xE1,
+    /* E0h */ 0x85, 0xA0, 0x83, NONE, 0x84, 0x86, 0x91, 0x87, 0x8A, 0x82, 0x88, 0x89, 0x8D, 0xA1, 0x8C, 0x8B,
+    /* F0h */ NONE, 0xA4, 0x95, 0xA2, 0x93, NONE, 0x94, 0xF6, NONE, 0x97, 0xA3, 0x96, 0x81, NONE, NONE, 0x98,
+};
+
+/* The line 9206 of an accepted set, NULL if it has none. */
+static const struct line *charset_line(const struct lines *set)
+{
+    for (size_t i = 0; i < set->count; i++) {
+        if (set->of[i].row == R9206) {
+            return &set->of[i];
+        }
+    }
+    return NULL;
+}
+
+/* The place of the first byte that the table has not, n for none. */
+static size_t first_unknown(const uint8_t *p, size_t n, const uint8_t *table)
+{
+    size_t i = first_high_byte(p, n);
+    while (i < n && (p[i] < FIRST_HIGH || table[p[i] - FIRST_HIGH] != NONE)) {
+        i++;
+    }
+    return i;
+}
+
+/* "TooManyLines where the added line would be the 513th (place: set length); NoSuchCharacter (27), at the first such byte; NoRoom
+   last" (E5b). `more` is the length of the line that is added, 0 for none. */
+static struct refusal judge_recoding(const struct lines *set, const uint8_t *table, size_t more, size_t room)
+{
+    size_t need = set->length + more;
+    if (more > 0 && set->count == SET_LINES) {
+        return refuse(GDT_TOO_MANY_LINES, set->length, 0);
+    }
+    for (size_t i = 0; i < set->count; i++) {
+        const struct line *line = &set->of[i];
+        size_t unknown = first_unknown(content_of(set, line), line->length, table);
+        if (unknown < line->length) {
+            return refuse(GDT_NO_SUCH_CHARACTER, line->at + LINE_HEAD + unknown, 0);
+        }
+    }
+    return need > room ? refuse(GDT_NO_ROOM, need, 0) : none;
+}
+
+/* Each content byte becomes that of the same character. The table has them all. */
+static void recode_contents(uint8_t *buffer, const struct lines *set, const uint8_t *table)
+{
+    for (size_t i = 0; i < set->count; i++) {
+        const struct line *line = &set->of[i];
+        uint8_t *content = buffer + line->at + LINE_HEAD;
+        for (size_t at = first_high_byte(content, line->length); at < line->length; at++) {
+            if (content[at] >= FIRST_HIGH) {
+                content[at] = table[content[at] - FIRST_HIGH];
+            }
+        }
+    }
+}
+
+/* "Gains that line as line 3": the lines after line 2 move, and 8100 counts the new one (E5e). */
+static void add_charset_line(uint8_t *buffer, size_t used, uint8_t code)
+{
+    uint8_t *third = buffer + THIRD_LINE;
+    memmove(third + CHARSET_LINE, third, used - THIRD_LINE);
+    put_line(third, 9206, &code, 1);
+    put_digits(buffer + SUM_DIGITS, SUM_WIDTH, used + CHARSET_LINE);
+}
+
+/* Recoding: 18 (used length), the set's own refusals, 18 (second set), 7, 27, 22 (E5b). "A set without 9206 counts as code page
+   437"; "a set already in the wanted code stays as it is" (E5c); "sets with 9206 = 1 only change that content" (E5d); "bytes behind
+   the set become zero" in all of these. */
+static struct gdt_made recode(uint8_t *buffer, size_t room, size_t used, uint8_t wanted, const uint8_t *table)
+{
+    struct lines set;
+    const struct line *charset;
+    struct refusal refusal;
+    size_t more = 0;
+    uint8_t code = page_437;
+    if (room < used) {
+        return refused(refuse(GDT_BAD_USE, room, 0));
+    }
+    refusal = read_lone_set(&set, buffer, used);
+    if (refusal.no != 0) {
+        return refused(refusal);
+    }
+    charset = charset_line(&set);
+    if (charset != NULL) {
+        code = content_of(&set, charset)[0];
+    }
+    if (code != wanted && code != seven_bit) {
+        more = charset == NULL ? CHARSET_LINE : 0;
+        refusal = judge_recoding(&set, table, more, room);
+        if (refusal.no != 0) {
+            return refused(refusal);
+        }
+        recode_contents(buffer, &set, table);
+    }
+    if (charset != NULL) {
+        buffer[charset->at + LINE_HEAD] = wanted;
+    } else if (more > 0) {
+        add_charset_line(buffer, used, wanted);
+    }
+    memset(buffer + used + more, 0, room - used - more);
+    return made_of(used + more);
+}
+
+struct gdt_made gdt_to_437(uint8_t *buffer, size_t room, size_t used)
+{
+    return recode(buffer, room, used, page_437, to_437);
+}
+
+struct gdt_made gdt_to_1252(uint8_t *buffer, size_t room, size_t used)
+{
+    return recode(buffer, room, used, page_1252, to_1252);
 }

@@ -1,6 +1,7 @@
 /* test.c: tests of gdt.c: the ten examples of the rules paper, the index that its gdtlist example prints, the sample blocks of
-   appendix A, and cases from the points B1 to B44, E1a to E1i, E2a to E2d and E3a to E3o of docs/DECISIONS.md. Each checks the
-   reply and every byte of the lent buffers and records, which stand between guard bytes.
+   appendix A, every byte of the two code pages, and cases from the points B1 to B44, E1a to E1i, E2a to E2d, E3a to E3o and E5a
+   to E5g of docs/DECISIONS.md. Each checks the reply and every byte of the lent buffers and records, which stand between guard
+   bytes.
    Prints `ok - NAME` or `FAILED - NAME` for each, and answers 1 if any failed.
 
    Sets, lists and sheets are given as text: lines or entries parted by `|`, each four digits (label, or line number in a sheet)
@@ -391,6 +392,27 @@ static int receives(struct gdt_receiver from, const struct bytes *buffer, const 
         & (memcmp(&got.receiver, &to, sizeof to) == 0);
 }
 
+typedef struct gdt_made recoder(uint8_t *, size_t, size_t);
+
+/* Recoding in a buffer of `room` bytes with these bytes at its front and noise after them; `made` is the set wanted, zeros follow
+   it. */
+static int recodes(recoder *recode, const struct bytes *front, size_t room, size_t used, struct reply want,
+                   const struct bytes *made)
+{
+    struct gdt_made got;
+    struct reply have;
+    memcpy(scratch.of, noise(room), room);
+    memcpy(scratch.of, front->of, front->n < room ? front->n : room);
+    got = recode(lend(&lent_in, scratch.of, room), room, used);
+    if (want.no == 0) {
+        scratch.n = 0;
+        add(&scratch, made->of, made->n);
+        pad(&scratch, room);
+    }
+    have = (struct reply){got.no, got.place, got.label, got.count, 0, 0};
+    return holds(&lent_in, scratch.of) & equal(have, want);
+}
+
 /* ---- Sets ------------------------------------------------------------------------------------------------------------------ */
 
 /* A set that is refused is refused alike by every function that reads one. */
@@ -400,7 +422,8 @@ static int refused_by_all(const struct bytes *set, struct reply want)
     const struct gdt_link link = {GDT_DELIVERED, 3, 1, 2, 0, 8};
     return judges(set, want) & indexes(set, MANY, want, NULL) & makes(gdt_list, set, 9000, want, NULL)
         & corrects(set, set->n + 20, set->n, 1, "x", want, NULL) & views(set, &sheet, 1, want)
-        & sends(link, GDT_BEGIN, set->of, set->n, want, link) & blocks(set, 0, 0, want, NULL);
+        & sends(link, GDT_BEGIN, set->of, set->n, want, link) & blocks(set, 0, 0, want, NULL)
+        & recodes(gdt_to_437, set, set->n + 20, set->n, want, NULL) & recodes(gdt_to_1252, set, set->n, set->n, want, NULL);
 }
 
 /* The list of an accepted set is written as that set again. Bytes after the set are not part of it. */
@@ -2090,6 +2113,275 @@ static void test_transfer(void)
            passed & (ends[GDT_DELIVERED] > 1000) & (ends[GDT_GIVEN_UP] > 1000));
 }
 
+/* ---- Code pages ------------------------------------------------------------------------------------------------------------ */
+
+/* The Unicode numbers of the bytes 80h to FFh, from CP437.TXT and CP1252.TXT; 0 for a byte that is no character. */
+static const unsigned unicode_437[128] = {
+    /* 80h */ 0x00C7, 0x00FC, 0x00E9, 0x00E2, 0x00E4, 0x00E0, 0x00E5, 0x00E7, 0x00EA, 0x00EB, 0x00E8, 0x00EF, 0x00EE, 0x00EC, 0x00C4, 0x00C5,
+    /* 90h */ 0x00C9, 0x00E6, 0x00C6, 0x00F4, 0x00F6, 0x00F2, 0x00FB, 0x00F9, 0x00FF, 0x00D6, 0x00DC, 0x00A2, 0x00A3, 0x00A5, 0x20A7, 0x0192,
+    /* A0h */ 0x00E1, 0x00ED, 0x00F3, 0x00FA, 0x00F1, 0x00D1, 0x00AA, 0x00BA, 0x00BF, 0x2310, 0x00AC, 0x00BD, 0x00BC, 0x00A1, 0x00AB, 0x00BB,
+    /* B0h */ 0x2591, 0x2592, 0x2593, 0x2502, 0x2524, 0x2561, 0x2562, 0x2556, 0x2555, 0x2563, 0x2551, 0x2557, 0x255D, 0x255C, 0x255B, 0x2510,
+    /* C0h */ 0x2514, 0x2534, 0x252C, 0x251C, 0x2500, 0x253C, 0x255E, 0x255F, 0x255A, 0x2554, 0x2569, 0x2566, 0x2560, 0x2550, 0x256C, 0x2567,
+    /* D0h */ 0x2568, 0x2564, 0x2565, 0x2559, 0x2558, 0x2552, 0x2553, 0x256B, 0x256A, 0x2518, 0x250C, 0x2588, 0x2584, 0x258C, 0x2590, 0x2580,
+    /* E0h */ 0x03B1, 0x00DF, 0x0393, 0x03C0, 0x03A3, 0x03C3, 0x00B5, 0x03C4, 0x03A6, 0x0398, 0x03A9, 0x03B4, 0x221E, 0x03C6, 0x03B5, 0x2229,
+    /* F0h */ 0x2261, 0x00B1, 0x2265, 0x2264, 0x2320, 0x2321, 0x00F7, 0x2248, 0x00B0, 0x2219, 0x00B7, 0x221A, 0x207F, 0x00B2, 0x25A0, 0x00A0,
+};
+
+static const unsigned unicode_1252[128] = {
+    /* 80h */ 0x20AC,      0, 0x201A, 0x0192, 0x201E, 0x2026, 0x2020, 0x2021, 0x02C6, 0x2030, 0x0160, 0x2039, 0x0152,      0, 0x017D,      0,
+    /* 90h */      0, 0x2018, 0x2019, 0x201C, 0x201D, 0x2022, 0x2013, 0x2014, 0x02DC, 0x2122, 0x0161, 0x203A, 0x0153,      0, 0x017E, 0x0178,
+    /* A0h */ 0x00A0, 0x00A1, 0x00A2, 0x00A3, 0x00A4, 0x00A5, 0x00A6, 0x00A7, 0x00A8, 0x00A9, 0x00AA, 0x00AB, 0x00AC, 0x00AD, 0x00AE, 0x00AF,
+    /* B0h */ 0x00B0, 0x00B1, 0x00B2, 0x00B3, 0x00B4, 0x00B5, 0x00B6, 0x00B7, 0x00B8, 0x00B9, 0x00BA, 0x00BB, 0x00BC, 0x00BD, 0x00BE, 0x00BF,
+    /* C0h */ 0x00C0, 0x00C1, 0x00C2, 0x00C3, 0x00C4, 0x00C5, 0x00C6, 0x00C7, 0x00C8, 0x00C9, 0x00CA, 0x00CB, 0x00CC, 0x00CD, 0x00CE, 0x00CF,
+    /* D0h */ 0x00D0, 0x00D1, 0x00D2, 0x00D3, 0x00D4, 0x00D5, 0x00D6, 0x00D7, 0x00D8, 0x00D9, 0x00DA, 0x00DB, 0x00DC, 0x00DD, 0x00DE, 0x00DF,
+    /* E0h */ 0x00E0, 0x00E1, 0x00E2, 0x00E3, 0x00E4, 0x00E5, 0x00E6, 0x00E7, 0x00E8, 0x00E9, 0x00EA, 0x00EB, 0x00EC, 0x00ED, 0x00EE, 0x00EF,
+    /* F0h */ 0x00F0, 0x00F1, 0x00F2, 0x00F3, 0x00F4, 0x00F5, 0x00F6, 0x00F7, 0x00F8, 0x00F9, 0x00FA, 0x00FB, 0x00FC, 0x00FD, 0x00FE, 0x00FF,
+};
+
+/* The byte of the other code page that has the same character, 0 for none. */
+static unsigned same_character(const unsigned *from, const unsigned *to, unsigned byte)
+{
+    if (byte < 0x80) {
+        return byte;
+    }
+    for (unsigned other = 0; other < 128; other++) {
+        if (from[byte - 0x80] != 0 && to[other] == from[byte - 0x80]) {
+            return 0x80 + other;
+        }
+    }
+    return 0;
+}
+
+/* The contents of this set that may have any bytes: the first of all, an inner one, the last one; a byte of each. */
+enum { CONTENTS = 3 };
+
+/* Makes the set, with 9206 as line 3 if it has one, and these three bytes; answers the places of the three. */
+static const size_t *make_triple(struct bytes *set, const char *charset, const uint8_t *three)
+{
+    static size_t places[CONTENTS];
+    char lines[200];
+    snprintf(lines, sizeof lines, "80006310|8100?????|%s3000.|921802.10|8402EKG01|6228-.-|6220---.", charset);
+    make_set(set, lines);
+    for (size_t at = 0, found = 0; found < CONTENTS; at++) {
+        if (set->of[at] == '.' && set->of[at - 1] != '2') { /* the one of 02.10 is none of them */
+            set->of[at] = three[found];
+            places[found++] = at;
+        }
+    }
+    return places;
+}
+
+/* A byte of one code page in each of the three contents: it becomes that of the other, or is refused by 27 where it stands. */
+static int byte_recodes(recoder *recode, const char *charset, const char *named, unsigned byte, unsigned other)
+{
+    static struct bytes from, to;
+    int passed = 1;
+    for (size_t i = 0; i < CONTENTS; i++) {
+        uint8_t three[CONTENTS] = {'a', 'b', 'c'};
+        struct reply want = {0, 0, 0, 0, 0, 0};
+        three[i] = (uint8_t)other;
+        make_triple(&to, named, three);
+        three[i] = (uint8_t)byte;
+        if (other == 0) {
+            want.no = 27;
+            want.place = make_triple(&from, charset, three)[i];
+        } else {
+            make_triple(&from, charset, three);
+            want.a = to.n;
+        }
+        passed &= recodes(recode, &from, from.n + 20, from.n, want, &to);
+    }
+    return passed;
+}
+
+static void test_code_pages(void)
+{
+    static struct bytes from, to;
+    int into_1252 = 1, into_437 = 1, back = 1, stays = 1, undefined = 1;
+    size_t both = 0, in_437 = 0, in_1252 = 0;
+    for (unsigned byte = 0x20; byte <= 0xFF; byte++) {
+        unsigned ansi = same_character(unicode_437, unicode_1252, byte), dos = same_character(unicode_1252, unicode_437, byte);
+        into_1252 &= byte_recodes(gdt_to_1252, "", "92063|", byte, ansi) & byte_recodes(gdt_to_1252, "92062|", "92063|", byte, ansi);
+        into_437 &= byte_recodes(gdt_to_437, "92063|", "92062|", byte, dos);
+        back &= (ansi == 0 || same_character(unicode_1252, unicode_437, ansi) == byte)
+            && (dos == 0 || same_character(unicode_437, unicode_1252, dos) == byte);
+        for (int way = 0; way < 3; way++) {
+            const uint8_t three[CONTENTS] = {(uint8_t)byte, (uint8_t)byte, (uint8_t)byte};
+            make_triple(&from, way == 0 ? "" : way == 1 ? "92062|" : "92063|", three);
+            stays &= recodes(way < 2 ? gdt_to_437 : gdt_to_1252, &from, from.n + 9, from.n, (struct reply){0, 0, 0, from.n, 0, 0}, &from);
+        }
+        both += byte >= 0x80 && ansi != 0;
+        in_437 += byte >= 0x80 && unicode_437[byte - 0x80] != 0;
+        in_1252 += byte >= 0x80 && unicode_1252[byte - 0x80] != 0;
+    }
+    report("E5 every byte of 437 into 1252, with 9206 and without, in three lines", into_1252);
+    report("E5 every byte of 1252 into 437, in three lines", into_437);
+    report("E5 each undoes the other wherever both are defined", back & (both == 54) & (in_437 == 128) & (in_1252 == 123));
+    report("E5c every byte stays in a set that is in the wanted code", stays);
+    for (const char *byte = "\x81\x8D\x8F\x90\x9D"; *byte != 0; byte++) {
+        undefined &= byte_recodes(gdt_to_437, "92063|", "92062|", (unsigned char)*byte, 0);
+    }
+    report("E5 81h, 8Dh, 8Fh, 90h and 9Dh of 1252 are no characters", undefined);
+    make_set(&from, "80006310|8100?????|3000\x81|921802.10|8402\x84\xE1|6228\x8E\x99\x9A\x84\x94\x81\xE1\xE6\xF8\x9F");
+    make_set(&to, "80006310|8100?????|92063|3000\xFC|921802.10|8402\xE4\xDF|6228\xC4\xD6\xDC\xE4\xF6\xFC\xDF\xB5\xB0\x83");
+    report("E5 umlauts, sharp s, micro, degree and 9Fh into 1252",
+           recodes(gdt_to_1252, &from, from.n + 10, from.n, (struct reply){0, 0, 0, to.n, 0, 0}, &to));
+    make_set(&from, "80006310|8100?????|92062|3000\x81|921802.10|8402\x84\xE1|6228\x8E\x99\x9A\x84\x94\x81\xE1\xE6\xF8\x9F");
+    report("E5 and back; the line stays",
+           recodes(gdt_to_437, &to, to.n, to.n, (struct reply){0, 0, 0, from.n, 0, 0}, &from));
+}
+
+/* A set, what it becomes, and the refusal or 0; in a buffer with room for `spare` bytes more. */
+static const struct recode_case {
+    const char *name;
+    recoder *recode;
+    const char *from, *to;
+    size_t spare;
+    struct reply want;
+} recode_cases[] = {
+    {"no 9206, into 437", gdt_to_437, P, P, 0, {0, 0, 0, 51, 0, 0}},
+    {"no 9206, into 437, noise after it", gdt_to_437, P, P, 30, {0, 0, 0, 51, 0, 0}},
+    {"no 9206, into 437, characters that 1252 has not", gdt_to_437, "80006300|8100?????|921802.10|3000\xB0\xFB",
+     "80006300|8100?????|921802.10|3000\xB0\xFB", 30, {0, 0, 0, 52, 0, 0}},
+    {"no 9206, into 1252", gdt_to_1252, P, "80006300|8100?????|92063|921802.10|30000", 10, {0, 0, 0, 61, 0, 0}},
+    {"no 9206, into 1252, noise after it", gdt_to_1252, P, "80006300|8100?????|92063|921802.10|30000", 30, {0, 0, 0, 61, 0, 0}},
+    {"9206 = 1, into 437", gdt_to_437, P7, "80006300|8100?????|92062|921802.10|30000", 0, {0, 0, 0, 61, 0, 0}},
+    {"9206 = 1, into 437, noise after it", gdt_to_437, P7, "80006300|8100?????|92062|921802.10|30000", 30, {0, 0, 0, 61, 0, 0}},
+    {"9206 = 1, into 1252", gdt_to_1252, P7, "80006300|8100?????|92063|921802.10|30000", 0, {0, 0, 0, 61, 0, 0}},
+    {"9206 = 1, into 1252, noise after it", gdt_to_1252, P7, "80006300|8100?????|92063|921802.10|30000", 1, {0, 0, 0, 61, 0, 0}},
+    {"9206 = 2, into 437", gdt_to_437, "80006300|8100?????|921802.10|3000\xB0|92062",
+     "80006300|8100?????|921802.10|3000\xB0|92062", 7, {0, 0, 0, 61, 0, 0}},
+    {"9206 = 2, into 1252", gdt_to_1252, "80006300|8100?????|921802.10|3000\x84|92062",
+     "80006300|8100?????|921802.10|3000\xE4|92063", 7, {0, 0, 0, 61, 0, 0}},
+    {"9206 = 3, into 437", gdt_to_437, "80006300|8100?????|921802.10|3000\xE4|92063",
+     "80006300|8100?????|921802.10|3000\x84|92062", 7, {0, 0, 0, 61, 0, 0}},
+    {"9206 = 3, into 1252", gdt_to_1252, "80006300|8100?????|921802.10|3000\x81|92063",
+     "80006300|8100?????|921802.10|3000\x81|92063", 7, {0, 0, 0, 61, 0, 0}},
+    {"9206 = 2, no room is needed", gdt_to_1252, "80006300|8100?????|92062|921802.10|3000\x81",
+     "80006300|8100?????|92063|921802.10|3000\xFC", 0, {0, 0, 0, 61, 0, 0}},
+    {"a content that reads as 9206", gdt_to_1252, "80006300|8100?????|921802.10|300001092061",
+     "80006300|8100?????|92063|921802.10|300001092061", 10, {0, 0, 0, 68, 0, 0}},
+    {"9206 after such a content", gdt_to_437, "80006300|8100?????|921802.10|300001092062|92063",
+     "80006300|8100?????|921802.10|300001092062|92062", 10, {0, 0, 0, 68, 0, 0}},
+    {"22, the need is the new length", gdt_to_1252, P, "", 9, {22, 61, 0, 0, 0, 0}},
+    {"22 in a buffer that the set fills", gdt_to_1252, P, "", 0, {22, 61, 0, 0, 0, 0}},
+    {"27 before 22", gdt_to_1252, "80006300|8100?????|921802.10|3000a\xE3", "", 9, {27, 49, 0, 0, 0, 0}},
+    {"27 with room", gdt_to_1252, "80006300|8100?????|921802.10|3000a\xE3", "", 10, {27, 49, 0, 0, 0, 0}},
+    {"27 at the first of two, in the order of the buffer", gdt_to_1252, B "|6228a\xE0|6220\xB3", "", 20, {27, 73, 0, 0, 0, 0}},
+    {"27 at the second of two in a content", gdt_to_437, "80006300|8100?????|92063|921802.10|3000\xE4\x80", "", 0,
+     {27, 59, 0, 0, 0, 0}},
+    {"27 with 9206 after it", gdt_to_437, "80006300|8100?????|921802.10|3000\x90|92063", "", 9, {27, 48, 0, 0, 0, 0}},
+    {"24 before 27", gdt_to_1252, P7_FRONT "|3000\xE3", "", 20, {24, 58, 0, 0, 0, 0}},
+    {"17 before 27", gdt_to_1252, "80006300|810000053|921802.10|3000\xE3", "", 20, {17, 13, 0, 0, 0, 0}},
+};
+
+static void test_recoding(void)
+{
+    static struct bytes from, to;
+    for (size_t i = 0; i < sizeof recode_cases / sizeof *recode_cases; i++) {
+        const struct recode_case *c = &recode_cases[i];
+        char name[120];
+        snprintf(name, sizeof name, "E5 %s", c->name);
+        make_set(&from, c->from);
+        make_set(&to, c->to);
+        report(name, recodes(c->recode, &from, from.n + c->spare, from.n, c->want, &to));
+    }
+}
+
+/* "18 is not named; a set in its buffer with a used length is asked so by corrections" (E5b). */
+static void test_recoding_used(void)
+{
+    static struct bytes set, two;
+    const struct reply over = {18, 60, 0, 0, 0, 0}, follows = {18, 51, 0, 0, 0, 0}, empty = {1, 0, 0, 0, 0, 0};
+    int passed = 1;
+    make_set(&set, P);
+    for (size_t more = 1; more < 4; more++) {
+        passed &= recodes(gdt_to_437, &set, 60, 60 + more, over, NULL) & recodes(gdt_to_1252, &set, 60, 60 + more, over, NULL);
+    }
+    passed &= recodes(gdt_to_1252, &set, 60, (size_t)-1, over, NULL) & recodes(gdt_to_437, &set, 0, 1, (struct reply){18, 0, 0, 0, 0, 0}, NULL);
+    report("E5b 18 if the used length is over the buffer, at its length", passed);
+    add(&two, set.of, set.n);
+    add(&two, set.of, set.n);
+    report("E5b 18 if another set follows, at the length of the first",
+           recodes(gdt_to_437, &two, two.n, two.n, follows, NULL) & recodes(gdt_to_1252, &two, two.n, two.n, follows, NULL));
+    make_set(&two, "80006300|8100?????|921802.10|3000\xE3");
+    add_text(&two, "xyz8000");
+    report("E5b another set comes before 27 and 22", recodes(gdt_to_1252, &two, two.n, two.n, follows, NULL));
+    report("E5b no used bytes are an empty set", recodes(gdt_to_437, &set, 60, 0, empty, NULL) & recodes(gdt_to_1252, &set, 0, 0, empty, NULL));
+}
+
+/* A set of this many lines: 9206 with this content as its last line, if there is one, and one byte in its first content that can have
+   any. */
+static void make_many(struct bytes *set, size_t count, const char *charset, char byte)
+{
+    const char third[] = {'3', '0', '0', '0', byte};
+    set->n = 0;
+    add_all(set, "80006310|8100?????", add_line);
+    add_line(set, third, sizeof third);
+    add_all(set, "921802.10|8402EKG01", add_line);
+    for (size_t line = 5; line < count - (*charset != 0); line++) {
+        add_line(set, "6228\x7Fz", 6);
+    }
+    add_all(set, charset, add_line);
+    add_sum(set);
+}
+
+static void test_recoding_many(void)
+{
+    static struct bytes from, to;
+    int passed = 1;
+    make_many(&from, 512, "", 'a');
+    report("E5b 7 if the added line would be the 513th, at the length of the set",
+           recodes(gdt_to_1252, &from, from.n + 10, from.n, (struct reply){7, from.n, 0, 0, 0, 0}, NULL));
+    passed = recodes(gdt_to_437, &from, from.n + 3, from.n, (struct reply){0, 0, 0, from.n, 0, 0}, &from);
+    make_many(&from, 512, "", '\xE0');
+    report("E5b 7 before 27 and 22", recodes(gdt_to_1252, &from, from.n, from.n, (struct reply){7, from.n, 0, 0, 0, 0}, NULL));
+    make_many(&from, 512, "92062", '\x84');
+    make_many(&to, 512, "92063", '\xE4');
+    passed &= recodes(gdt_to_1252, &from, from.n, from.n, (struct reply){0, 0, 0, to.n, 0, 0}, &to)
+        & recodes(gdt_to_437, &to, from.n, from.n, (struct reply){0, 0, 0, to.n, 0, 0}, &from);
+    make_many(&to, 512, "92061", 'a');
+    make_many(&from, 512, "92062", 'a');
+    passed &= recodes(gdt_to_437, &to, from.n, from.n, (struct reply){0, 0, 0, to.n, 0, 0}, &from);
+    report("E5c, E5d 512 lines that gain none are not too many", passed);
+    make_many(&from, 511, "", '\x84');
+    to.n = 0;
+    add_all(&to, "80006310|8100?????|92063|3000\xE4", add_line);
+    add(&to, from.of + 37, from.n - 37);
+    add_sum(&to);
+    report("E5e 511 lines become 512", recodes(gdt_to_1252, &from, from.n + 10, from.n, (struct reply){0, 0, 0, to.n, 0, 0}, &to)
+        & judges(&to, (struct reply){0, 0, 0, to.n, 512, 6310}));
+}
+
+/* The sum of the longer set, for sets of many lengths: it is carried as it must be, and both sets are accepted. */
+static void test_recoding_sums(void)
+{
+    static struct bytes from, to;
+    char line[4 + 60];
+    int passed = 1;
+    memset(line, 'x', sizeof line);
+    memcpy(line, "6228", 4);
+    for (size_t length = 5; length <= sizeof line; length++) {
+        for (size_t count = 1; count <= 20; count++) {
+            from.n = to.n = 0;
+            add_all(&from, B, add_line);
+            add_all(&to, "80006310|8100?????|92063|921802.10|30007|8402EKG01", add_line);
+            for (size_t i = 0; i < count; i++) {
+                line[4] = '\x84';
+                add_line(&from, line, length);
+                line[4] = '\xE4';
+                add_line(&to, line, length);
+            }
+            add_sum(&from);
+            add_sum(&to);
+            passed &= recodes(gdt_to_1252, &from, to.n, from.n, (struct reply){0, 0, 0, to.n, 0, 0}, &to)
+                & judges(&from, (struct reply){0, 0, 0, from.n, 5 + count, 6310})
+                & judges(&to, (struct reply){0, 0, 0, to.n, 6 + count, 6310});
+        }
+    }
+    report("E5e the sum of sets of many lengths", passed);
+}
+
 int main(void)
 {
     test_sets();
@@ -2120,5 +2412,10 @@ int main(void)
     test_form();
     test_samples();
     test_transfer();
+    test_code_pages();
+    test_recoding();
+    test_recoding_used();
+    test_recoding_many();
+    test_recoding_sums();
     return failures != 0;
 }
