@@ -474,6 +474,17 @@ static void case_receive(void)
     take_back(&block);
 }
 
+static void case_recode(void)
+{
+    size_t wanted = take_number(), used = take_number();
+    struct lent buffer = lend_string();
+    if (wanted != 437 && wanted != 1252) {
+        stop("a wanted code page that is neither 437 nor 1252");
+    }
+    print_made((wanted == 437 ? gdt_to_437 : gdt_to_1252)(buffer.at, buffer.length, used), &buffer, &buffer);
+    take_back(&buffer);
+}
+
 int main(void)
 {
     read_stream();
@@ -493,6 +504,7 @@ int main(void)
         case 'b': case_block(); break;
         case 's': case_send(); break;
         case 't': case_receive(); break;
+        case 'r': case_recode(); break;
         default: stop("unknown case");
         }
         fflush(NULL); /* the lines before a case that ends the program are seen */

@@ -9,6 +9,7 @@ import sys
 from typing import Callable, NamedTuple
 
 import cables
+import codes
 import days
 import sets
 from rows import FIELDS, SET_TABLES, marked
@@ -20,6 +21,7 @@ ADDING = (2, 3, 11, 12, 13, 21, 24)  # faults that may add a line or an entry
 SHARED = (6, 14, 24)  # faults that the set or the new content can have
 BEFORE_24 = (6, 14, 18, 19, 20)  # faults that are found before a byte over 7Fh of a new content
 CONTENT_ORDER = {"c": (19, 20, 6, 14, 24, 22), "v": (21, 19, 20, 6, 14, 24)}  # in which a new content is asked: another order than that of a set
+CONTENT_ORDER["r"] = (18, 7, 27, 22, 7, 27)  # in which recoding is asked, after the set; then 7 beside 22, and beside 27 once more
 MANY_LINES = 400
 STORED_CASES, STORED_DAYS = 1200, 500  # of each call on sets, of each day call
 STORED_SEED = 21
@@ -30,6 +32,7 @@ ROWS = "rows"  # the stored stream that goes through the tables row by row
 LEAST_ACCEPTED, LEAST_NUMBER, LEAST_LONG, LEAST_FOUND = 30, 0.1, 1, 15
 LEAST_ROW, LEAST_MARK = 1, 0.3  # of a call of the cable: each row of its rule table, each mark
 LEAST_EDGE = 0.1  # of a call in FORMS: each of EDGE_MARKS
+LEAST_STATE, LEAST_CODE = 1, 0.1  # of recode: accepted cases of each 9206 and each code page that is wanted, each other mark
 LEAST_CORRECTED = {"that grow the set": 10, "that shrink the set": 10, "that fill the buffer to its last byte": 1}  # of the accepted corrections
 
 # ---- Sets and lists with given faults: those that leave the least standing are made last ----------------------------------------------
@@ -356,8 +359,44 @@ def receive_case(r, faults):
     return args
 
 
+# ---- A case of recoding that has given faults -------------------------------------------------------------------------------------------
+
+
+def state_for(r, faults):
+    """A 9206 and a wanted code page with which these faults can be made: only a set that gains a line has too many of them or no room."""
+    if 7 in faults or 22 in faults:
+        return None, 1252
+    return r.choice([state for state in codes.STATES if state[0] != b"1" and not codes.stays(*state)] if 27 in faults else codes.STATES)
+
+
+def recode_fields(r, charset, wanted, faults):
+    """The fields of an accepted set, of 512 lines for 7, for 27 with a character that the wanted code page has not."""
+    full = (7,) if 7 in faults else (24,)  # 24 leaves room for a line
+    fields = codes.recodable(r, fields_for(r, full)[1], charset, wanted)
+    if 27 in faults:
+        fields = codes.with_unknown(r, fields, wanted)
+    return codes.filled(fields) if 7 in faults else fields
+
+
+def recode_case(r, faults):
+    own = [no for no in faults if no in SET_FAULTS and (no != 7 or 27 not in faults and r.random() < 0.5)]
+    new = [no for no in faults if no not in own]
+    charset, wanted = state_for(r, new)
+    data = b"".join(set_with(r, own) if own else sets.lines_of(recode_fields(r, charset, wanted, new)))
+    spare = r.choice((0, 9, r.randrange(10))) if 22 in new else len(codes.ADDED) + r.choice((0, 0, 1, r.randrange(40)))
+    if (charset, wanted) != (None, 1252) and r.random() < 0.5:
+        spare = r.choice((0, 0, 1, 9))
+    used = len(data)
+    if 18 in new and r.random() < 0.5:
+        data += r.choice((b"xyz8000", b"".join(set_with(r, ()))))
+        used = len(data)
+    elif 18 in new:
+        used += spare + r.choice((1, 2, 10, 1000, 2**32, 2**64 - 1 - used - spare))
+    return {"wanted": wanted, "used": used, "buffer": data + bytes(r.choice(codes.NOISE) for _ in range(spare))}
+
+
 MAKERS = {"w": write_case, "c": correct_case, "v": view_case, "d": build_case, "a": append_case, "f": find_case}
-MAKERS.update({"b": block_case, "s": send_case, "t": receive_case})
+MAKERS.update({"b": block_case, "s": send_case, "t": receive_case, "r": recode_case})
 
 
 def case_with(r, call, faults):
@@ -385,7 +424,7 @@ AFTER_SET = (b"", b"x", b"013800", b"xyz8000", bytes(8), sets.line(6228, b"\x07"
 AFTER_LIST = (b"", b"\x00", sets.entry(10000, b"7"), sets.entry(3000, b"\x07"))
 IN_SET = Form(sets.lines_of, sets.line, sets.UNUSUAL, (1, 60, 61, sets.MOST_CONTENT), sets.too_many, AFTER_SET)
 IN_LIST = Form(sets.entries_of, sets.entry, sets.UNUSUAL_ENTRIES, (0, 1, 60, 61, sets.MOST_CONTENT + 1), sets.too_many_entries, AFTER_LIST)
-FORMS = {**dict.fromkeys("jilcvdabs", IN_SET), "w": IN_LIST}  # of each call that reads sets, and of the writer
+FORMS = {**dict.fromkeys("jilcvdabsr", IN_SET), "w": IN_LIST}  # of each call that reads sets, and of the writer
 EDGE_MARKS = ("11 for the label 0", "7 after an unusual last field")
 
 
@@ -394,7 +433,7 @@ def reading(call, data):
     before = days.small_set(b"7", False) if "file" in CALLS[call][1] else b""
     given = dict.fromkeys(CALLS[call][1], 0)
     given.update({"room": 3 * len(data), "used": len(data), "line": 4, "content": b"7", "sheet": sets.entry(4, b"7")})
-    given.update({"lent": 2 * DAY_ENTRY, "old": len(before), "count": 1, "index": [], "begin": 1})
+    given.update({"lent": 2 * DAY_ENTRY, "old": len(before), "count": 1, "index": [], "begin": 1, "wanted": 1252})
     given.update(dict.fromkeys(("set", "list", "buffer", "file", "bytes"), before + data))
     return Case(call, {name: given[name] for name in CALLS[call][1]})
 
@@ -427,7 +466,9 @@ def damage(r, case):
     """Changes one of the things that a call is given, blindly."""
     name = r.choice(CALLS[case.call][1])
     value = case.args[name]
-    if name in NUMBERS:
+    if name == "wanted":
+        case.args[name] = codes.OTHER[value]
+    elif name in NUMBERS:
         case.args[name] = min(max(0, value + r.choice((-20, -2, -1, 1, 2, 20))), days.MOST_NUMBER)
     else:
         case.args[name] = days.scrambled(r, value) if name in LISTS else sets.scrambled(r, value)
@@ -664,8 +705,8 @@ def corrected(case, total):
 
 def met(found, lines):
     """For each call how many cases had each answer (0: accepted, "long": over 400 lines or sets, "found": a lookup that found a set, "all"), of the corrections
-    how many have each name in LEAST_CORRECTED, of a call in FORMS how many have each of EDGE_MARKS, and of a call of the cable how many met each
-    row and each mark, by its name."""
+    how many have each name in LEAST_CORRECTED, of a call in FORMS how many have each of EDGE_MARKS, of a call of the cable how many met each
+    row and each mark, by its name, and of recode how many have each of the marks of codes.py."""
     counts = collections.defaultdict(collections.Counter)
     for case, line in zip(found, lines):
         words = line.split(" ", 2)
@@ -679,6 +720,8 @@ def met(found, lines):
             counts[case.call].update(edges_met(case, line))
         if case.call in cables.ROWS:
             counts[case.call].update(cables.rows_met(case, line)[0])
+        if case.call == "r":
+            counts[case.call].update(codes.marks_met(case, line))
     return counts
 
 
@@ -697,6 +740,9 @@ def shortfalls(counts):
         least.update({mark: ("with the mark '%s'" % mark, LEAST_MARK) for mark in marks})
         if call in FORMS:
             least.update({mark: ("with the mark '%s'" % mark, LEAST_EDGE) for mark in EDGE_MARKS})
+        if call == "r":
+            least.update({mark: ("accepted with '%s'" % mark, LEAST_STATE) for mark in codes.STATE_MARKS})
+            least.update({mark: ("with the mark '%s'" % mark, LEAST_CODE) for mark in codes.OTHER_MARKS})
         wanted = [(key, "cases " + what, count["all"], percent) for key, (what, percent) in least.items()]
         if call == "c":
             wanted += [(kind, "accepted cases " + kind, count[0], percent) for kind, percent in LEAST_CORRECTED.items()]
@@ -717,7 +763,7 @@ def histogram(counts):
         out.append("%7s" % name + "".join("%11s" % ("-" if no else cell) for no, cell in zip(none, cells)))
     for call in calls:
         rows, _, marks = cables.ROWS.get(call, cables.NO_ROWS)
-        names = (*rows, *marks, *(EDGE_MARKS if call in FORMS else ()))
+        names = (*rows, *marks, *(EDGE_MARKS if call in FORMS else ()), *((*codes.STATE_MARKS, *codes.OTHER_MARKS) if call == "r" else ()))
         out += ["%7.2f %10s  %s" % (100 * counts[call][name] / counts[call]["all"], CALLS[call][0], name) for name in names]
         if call == "c":
             accepted = max(counts[call][0], 1)
@@ -740,7 +786,7 @@ def check(found, aims):
             rows, right = cables.rows_met(case, line)
             if line != right:
                 wrong.append("case %d, %s, is told by the row '%s' as %s: %s" % (number, CALLS[case.call][0], rows[0], right[:60], line[:60]))
-    return wrong
+    return wrong + codes.untold(found, told.lines)
 
 
 def store():
@@ -753,7 +799,7 @@ def store():
     streams["day_append"] += append_edges()
     streams["day_find"] += find_edges()
     r = random.Random(STORED_SEED)
-    for case in [*seven_set_edges(), *seven_content_edges(), *cables.block_edges(r), *cables.send_edges(r), *cables.receive_edges(), *edge_cases()]:
+    for case in [*seven_set_edges(), *seven_content_edges(), *cables.block_edges(r), *cables.send_edges(r), *cables.receive_edges(), *edge_cases(), *codes.recode_edges()]:
         streams[CALLS[case.call][0]].append(case)
     streams[ROWS] = row_cases()
     for name, found in streams.items():

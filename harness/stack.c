@@ -154,6 +154,31 @@ static struct gdt_received stacked_receive(struct gdt_receiver receiver, uint8_t
     return gdt_receive(receiver, buffer, room, block, block_length);
 }
 
+/* Recoding changes its own input: it is measured on a copy. */
+static void measure_recoding(const char *call, void *function, const uint8_t *buffer, size_t room, size_t used)
+{
+    struct gdt_made reply;
+    uint8_t *copy = malloc(room + 1);
+    if (copy == NULL) {
+        exit(2);
+    }
+    memcpy(copy, buffer, room);
+    measure(call, function, WORDS(W(&reply), W(copy), room, used));
+    free(copy);
+}
+
+static struct gdt_made stacked_to_437(uint8_t *buffer, size_t room, size_t used)
+{
+    measure_recoding("to_437", (void *)gdt_to_437, buffer, room, used);
+    return gdt_to_437(buffer, room, used);
+}
+
+static struct gdt_made stacked_to_1252(uint8_t *buffer, size_t room, size_t used)
+{
+    measure_recoding("to_1252", (void *)gdt_to_1252, buffer, room, used);
+    return gdt_to_1252(buffer, room, used);
+}
+
 #define gdt_judge stacked_judge
 #define gdt_index stacked_index
 #define gdt_list stacked_list
@@ -167,4 +192,6 @@ static struct gdt_received stacked_receive(struct gdt_receiver receiver, uint8_t
 #define gdt_block stacked_block
 #define gdt_send stacked_send
 #define gdt_receive stacked_receive
+#define gdt_to_437 stacked_to_437
+#define gdt_to_1252 stacked_to_1252
 #include "cases.c"

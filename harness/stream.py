@@ -26,14 +26,15 @@ CALLS = {
     "b": ("block", ("number", "count", "set"), [*SET_FAULTS, 18]),
     "s": ("send", ("phase", "blocks", "attempt", "number", "errors", "count", "begin", "bytes"), [*SET_FAULTS, 18]),
     "t": ("receive", ("started", "last", "open", "used", "buffer", "block"), [25, 26, 22]),
+    "r": ("recode", ("wanted", "used", "buffer"), [*SET_FAULTS, 18, 27, 22]),
 }
 LAST_NUMBER = max(no for _, _, numbers in CALLS.values() for no in numbers)
 LINK = ("phase", "blocks", "attempt", "number", "errors", "count")  # of the sender's record; `number` is that of a block
 RECEIVER = ("started", "last", "open", "used")
-NUMBERS = ("room", "line", "lent", "old", "begin", *LINK, *RECEIVER)
+NUMBERS = ("room", "line", "lent", "old", "begin", "wanted", *LINK, *RECEIVER)
 LISTS = ("index",)  # of numbers; all others are bytes
 DAY_ENTRY = 4  # numbers that a set has in the index of a day file
-STORED = ("block", "correct", "day_append", "day_build", "day_find", "index", "judge", "list", "receive", "rows", "send", "view", "write")  # harness/streams/
+STORED = ("block", "correct", "day_append", "day_build", "day_find", "index", "judge", "list", "receive", "recode", "rows", "send", "view", "write")  # harness/streams/
 MOST_ROWS = 600  # of a set, a day file or its index that are shown
 NOTHING = b"j" + bytes(8)  # the shortest stream of one case: judge is given no bytes
 
