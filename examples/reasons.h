@@ -1,9 +1,10 @@
-/* reasons.h: why a call refused, in words, by the number: those that the calls of examples/day.c and examples/cable.c can give. */
+/* reasons.h: why a call refused, in words, by the number: those that the calls of examples/day.c, examples/cable.c and
+   examples/recode.c can give. */
 #ifndef REASONS_H
 #define REASONS_H
 #include "gdt.h"
 
-static const char *const reasons[GDT_BAD_CRC + 1] = {
+static const char *const reasons[GDT_NO_SUCH_CHARACTER + 1] = {
     [GDT_EMPTY] = "there is no set",
     [GDT_BAD_LENGTH] = "a line's length is not three digits, or under 010",
     [GDT_CUT_LINE] = "a line runs past the end of the bytes",
@@ -27,5 +28,6 @@ static const char *const reasons[GDT_BAD_CRC + 1] = {
     [GDT_HIGH_BYTE] = "a content byte is over 7Fh, and 9206 says that the set is in the 7-bit code",
     [GDT_BAD_BLOCK] = "no block, or not the next one",
     [GDT_BAD_CRC] = "the CRC is not the block's",
+    [GDT_NO_SUCH_CHARACTER] = "the wanted code page has not this character",
 };
 #endif
