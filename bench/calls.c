@@ -4,7 +4,7 @@
    that answers its number, `calls time LOAD` prints `CALL PROVED SECOND`, nanoseconds of the process, for each sample of the whole load.
    The loads varied and varied-refused read a stream of the harness from standard input (bench/varied.h).
    It ends with status 1 if the two answer differently or not the number that the input is made for. The calls on a day file are in
-   bench/days.c, those of the cable in bench/cables.c. */
+   bench/days.c, those of the cable in bench/cables.c, recoding in bench/recodes.c. */
 #include "x86.h"
 #include "icount.h"
 #include "gdt.h"

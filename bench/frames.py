@@ -44,7 +44,7 @@ Call = collections.namedtuple("Call", "height symbol to")  # height: what is in 
 def exported():
     """The functions that the header declares."""
     with open(HEADER) as file:
-        return re.findall(r"^\w.*[ *](gdt_[a-z_]+)\(", file.read(), re.M)
+        return re.findall(r"^\w.*[ *](gdt_[a-z0-9_]+)\(", file.read(), re.M)
 
 
 def is_branch(instruction):

@@ -1,4 +1,4 @@
-"""measure.py: measures the two programs: instructions and times by bench/calls.c, bench/days.c and bench/cables.c, stack by harness/stack.c over the stored streams of cases.
+"""measure.py: measures the two programs: instructions and times by bench/calls.c, bench/days.c, bench/cables.c and bench/recodes.c, stack by harness/stack.c over the stored streams of cases.
 Assumes the Rattle kit. Says on standard error what is done; if a program fails it ends with that program's message."""
 import collections
 import concurrent.futures
@@ -12,9 +12,12 @@ ROOT = os.path.dirname(os.path.dirname(os.path.abspath(__file__)))
 sys.path.insert(0, os.path.join(ROOT, "harness"))
 import stream
 
-SETS, DAYS, CABLES = PROGRAMS = "calls", "days", "cables"  # the programs of bench/: the calls on a set, those on a day file, those of the cable
+SETS, DAYS, CABLES, RECODES = PROGRAMS = "calls", "days", "cables", "recodes"  # the programs of bench/: the calls on a set, those on a day file, those of the cable, recoding
 FLOOR, MOVE = NO_PROGRAM = "byte_sum", "move"  # they stand among the calls on a set, and in the place of both programs
 EACH = "judge"  # it stands among the calls on a day file: each of its sets is judged by itself
+BOTH = "judge_both"  # it stands beside recoding: the set of each of the two calls is judged by itself, in their order
+INTO = "to_437", "to_1252"  # the calls of recoding
+JUDGED = "77x6", "512x40"  # the loads on which recoding is held to what judging takes
 STACK, JUDGING, LINEAR, MOVING, GROWTH, ENTRY = NO_LOADS = "stack", "judging", "linear", "moving", "growth", "entry"  # they stand among the loads of the bounds
 REFUSED = "refused"  # the load of each program that has each refusal number once
 LONGER, SHORTER = WAYS = "longer", "shorter"  # a correction makes a line so: the name of its load ends with it, after that of its set
@@ -112,6 +115,12 @@ def proved(inputs):
 def judging(days):
     """What building the index of the file of 64 sets takes over judging each of these sets by itself."""
     return proved(days["day64"]["day_build"]) / proved(days["day64"][EACH])
+
+
+def recoding(recodes, call):
+    """For each of the loads JUDGED what recoding takes over judging the same set."""
+    at = INTO.index(call)
+    return {load: proved(recodes[load][call]) / recodes[load][BOTH][at].proved for load in JUDGED}
 
 
 def linear(days):

@@ -12,8 +12,8 @@ import measure
 DOCUMENT = os.path.join(measure.ROOT, "docs", "BENCH.md")
 START, END = "<!-- the tables, by bench/run --write -->\n", "<!-- the end of the tables -->\n"
 NAMES = {"view_copy": "view, copied", measure.FLOOR: "byte sum", measure.MOVE: "move of the tail", "day_build": "day, build", "day_append": "day, append", "day_find": "day, find"}
-NAMES.update(send="cable, send", block="cable, block", receive="cable, receive")
-HEADS = ("The calls on a set:", "The calls on a day file:", "The calls of the serial cable:")
+NAMES.update(send="cable, send", block="cable, block", receive="cable, receive", to_437="recode into 437", to_1252="recode into 1252", judge_both="judge, both sets")
+HEADS = ("The calls on a set:", "The calls on a day file:", "The calls of the serial cable:", "Recoding:")
 MACHINE = platform.machine()
 EMULATED = MACHINE != "x86_64"
 NO_TIME = "-"
@@ -116,6 +116,15 @@ def day_lines(days, bounds):
     ]
 
 
+def recode_lines(recodes, bounds):
+    """What recoding is held to beside the second program's instructions."""
+    out = []
+    for call in measure.INTO:
+        each = " and ".join("%.2f on %s" % (ratio, load) for load, ratio in measure.recoding(recodes, call).items())
+        out.append("`gdt_%s` takes %s times the instructions of judging the same set (at most %.2f)." % (call, each, bounds[call][measure.JUDGING]))
+    return [*out, ""]
+
+
 def main(words):
     if words not in ([], ["--write"]):
         print(__doc__, file=sys.stderr)
@@ -129,7 +138,7 @@ def main(words):
         lines += ["Ratios for each refusal number by itself (at most %.2f for 1 and %.2f for the others):" % measure.number_bounds(), ""] + refused_table(counts[program][measure.REFUSED])
     sets, of_sets = counts[measure.SETS], bounds[measure.SETS]
     lines += growth_table(sets, of_sets) + entry_lines(sets, of_sets) + moving_table(sets, of_sets)
-    lines += day_lines(counts[measure.DAYS], bounds[measure.DAYS])
+    lines += day_lines(counts[measure.DAYS], bounds[measure.DAYS]) + recode_lines(counts[measure.RECODES], bounds[measure.RECODES])
     all_bounds = {call: bound for calls in bounds.values() for call, bound in calls.items()}
     lines += ["Stack over the stored streams of cases, and on the largest path through the code:", ""] + stack_table(stacks, frames.Library(measure.archives()), all_bounds)
     text = "".join(line + "\n" for line in lines)

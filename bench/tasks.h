@@ -1,5 +1,5 @@
 /* tasks.h: a call of gdt.h as words that either program can be given; its instructions are counted, its time is taken. bench/calls.c,
-   bench/days.c and bench/cables.c share it. It assumes x86-64 and how words are passed there, and that OUT names the bytes that a call writes
+   bench/days.c, bench/cables.c and bench/recodes.c share it. It assumes x86-64 and how words are passed there, and that OUT names the bytes that a call writes
    at most. */
 #ifndef TASKS_H
 #define TASKS_H
