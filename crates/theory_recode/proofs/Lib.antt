@@ -8,3 +8,4 @@ pub mod RecodeCases
 pub mod RecodeExact
 pub mod ShutOutRecode
 pub mod ShutOutBack
+pub mod ShutOutOrder

@@ -58,7 +58,7 @@ use Rattle.theory_recode.proofs.ShutOutRecode.{SaysRecodedExactly, reco
 -- ---- the inputs
 
 -- the lines of P, which is in code page 437 since it has no 9206
-pLines : List Field
+unfoldable pub pLines : List Field
 pLines = line 8000 "6300" ∷ line 8100 "00051" ∷ line 9218 "02.10" ∷ line 3000 "0" ∷ []
 
 -- another such set, of 55 bytes
@@ -69,7 +69,7 @@ qLines : List Field
 qLines = line 8000 "6300" ∷ line 8100 "00055" ∷ line 9218 "02.10" ∷ line 3000 "10027" ∷ []
 
 -- the lines of a set of 61 bytes that has 9206
-namedLines : Field → ℕ → List Field
+unfoldable pub namedLines : Field → ℕ → List Field
 namedLines f b = line 8000 "6300" ∷ line 8100 "00061" ∷ f ∷ line 9218 "02.10" ∷ field 3000 (b ∷ []) ∷ []
 
 -- one that says seven bits
@@ -93,7 +93,7 @@ front-q : read (take 55 q) ≡ done (parsed qLines [])
 unfolding computes q qLines
 front-q = refl
 
-front-437 : read (take 61 in437) ≡ done (parsed (namedLines (line 9206 "2") 0x81) [])
+pub front-437 : read (take 61 in437) ≡ done (parsed (namedLines (line 9206 "2") 0x81) [])
 unfolding computes named in437 namedLines
 front-437 = refl
 
@@ -154,10 +154,10 @@ Table = Code → ℕ → ℕ
 abbrev itself : Table
 itself w b = cond (leb b 255) b noByte
 
-abbrev Caller : Type 0
+abbrev pub Caller : Type 0
 Caller = List ℕ → ℕ → Code → Call ℕ
 
-abbrev call : Made → List ℕ → Call ℕ
+abbrev pub call : Made → List ℕ → Call ℕ
 call a b = record { answer = a; buffer = b }
 
 -- refuses all, and leaves the buffer as it was
@@ -165,7 +165,7 @@ abbrev refusing : (List ℕ → ℕ → Code → Refusal) → Caller
 refusing r b used w = call (Refused (r b used w)) b
 
 -- leaves the buffer as it was, and answers the used length
-abbrev still : Caller
+abbrev pub still : Caller
 still b used w = call (Done used) b
 
 -- the same, but the bytes behind the used length become zero
@@ -529,7 +529,7 @@ unfolding named seven
 seven-call-not-clearing h = let z : _≡_ {A = ℕ} 0x31 0x32 = seven-at clearing h Page437 .1 in omega arith
 
 -- One that names the wanted code page and recodes no content. Shut out by `recoded-exactly`.
-abbrev marking : Caller
+abbrev pub marking : Caller
 marking b used w = call (made (eachLine markField b used w)) (bytesLeft (eachLine markField b used w) b)
 
 marked-twice : (v w : Code) (fs : List Field) → map (markField v) (map (markField w) fs) ≡ map (markField v) fs
@@ -646,7 +646,7 @@ recode-wanted-says : SaysRecodeWanted recode
 recode-wanted-says = recode-wanted
 
 -- no set is in both code pages
-not-both : (x : List ℕ) (gs : List Field) → read x ≡ done (parsed gs []) → inCode Page1252 gs ≡ true → hasCharset gs ≡ true → inCode Page437 gs ≡ true → ⊥
+pub not-both : (x : List ℕ) (gs : List Field) → read x ≡ done (parsed gs []) → inCode Page1252 gs ≡ true → hasCharset gs ≡ true → inCode Page437 gs ≡ true → ⊥
 unfolding inCode
 not-both x gs r e c f =
     let st : Standing gs = accepted x (parsed gs []) r .standing in
@@ -787,7 +787,7 @@ SaysRecodedStands F = (w : Code) (fs : List Field) → Standing fs → recodeFau
 recoded-stands-says : SaysRecodedStands recodeLines
 recoded-stands-says = recoded-stands
 
-standing-p : Standing pLines
+pub standing-p : Standing pLines
 standing-p = accepted (take 51 p) (parsed pLines []) front-p .standing
 
 p-no-faults : recodeFaults Page437 pLines ≡ []
