@@ -16,7 +16,7 @@ const BLOCK: usize = 8;
 const WIDE_BLOCK: usize = 4 * BLOCK;
 
 // None of the k bytes at an offset is over 7Fh. The loop has no way out between them, so that a number of bytes that is fixed is tested at once.
-fn plain(s: &[u8], at: usize, k: usize) -> bool
+pub fn plain(s: &[u8], at: usize, k: usize) -> bool
     requires { ⌜ at + k ≤ length (now s) ⌝ }
     ensures { λ r. ⌜ (r ≡ true → firstHigh (now (s .entry)) at k ≡ at + k) ⌝ }
 {

@@ -1,16 +1,25 @@
 -- The walks of `first_without` and `map_bytes`, over the bytes of a set. What they are for the lines of a set is in proofs/BytesMeaning.
 use mathlib.Core.Path.{_≡_}
 use mathlib.Core.Bool.{Bool, not}
-use mathlib.Core.List.{List, _++_, map}
-use Prim.Native.Nat.{ℕ, _+_, _%_, _<_}
+use mathlib.Core.List.{List, map}
+use Prim.Native.Nat.{ℕ, _%_, _<_}
 use lib.Dec.{eqb}
-use lib.ListN.{getD, take, drop}
+use lib.ListN.{length, getD, take, drop}
 use Rattle.byte_low.specs.Seek.{firstNot}
+use Rattle.byte_put.specs.Places.{over}
 use Rattle.meaning_recode.specs.Codes.{noByte}
 
--- the table leaves bytes below 80h as they are
-abbrev pub LowStays : List ℕ → Type 0
-LowStays t = (b : ℕ) → b < 128 → getD t b noByte ≡ b
+-- this many bytes are tested at once; among many bytes more
+abbrev pub block : ℕ
+block = 8
+
+abbrev pub wideBlock : ℕ
+wideBlock = 32
+
+-- an entry for each byte, and bytes below 80h stay as they are
+pub record CodeTable (t : List ℕ) : Type 0 where
+  pub whole : length t ≡ 256
+  pub low-stays : (b : ℕ) → b < 128 → getD t b noByte ≡ b
 
 -- the byte has a character in the wanted code page
 abbrev pub hasCharacter : List ℕ → ℕ → Bool
@@ -29,4 +38,4 @@ mapped t s = map (entry t) s
 
 -- with the k bytes at an offset mapped
 unfoldable pub mappedAt : List ℕ → ℕ → ℕ → List ℕ → List ℕ
-mappedAt t at k s = take at s ++ (mapped t (take k (drop at s)) ++ drop (at + k) s)
+mappedAt t at k s = over at (mapped t (take k (drop at s))) s
