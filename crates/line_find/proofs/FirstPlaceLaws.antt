@@ -5,16 +5,18 @@ use mathlib.Core.List.{List, [], _∷_}
 use mathlib.Core.Logic.{_⊎_, inl, inr, _≢_}
 use Prim.Native.Nat.{ℕ, zero, suc, _+_, _-_, _≤_, _<_}
 use native.Mathlib.Omega.{arith}
-use native.Mathlib.Nat.{zero-add}
+use native.Mathlib.Nat.{add-zero, zero-add}
 use lib.Dec.{eqb}
-use lib.ListN.{length, drop, length-drop}
+use lib.ListN.{length, getD, drop, length-drop}
+use lib.Seq.{getD-drop, getD-take}
 use borrow.Author.Tests.{le-leb, lt-leb, eq-eqb, ne-eqb, eqb-true, eqb-false}
 use Rattle.meaning.specs.Limits.{maxLines}
-use Rattle.meaning.specs.Field.{Field, labelAtLine}
+use Rattle.meaning.specs.Field.{Field, noField, labelAtLine, contentAtLine}
 use Rattle.meaning.specs.Lines.{lineLead, lineEnd, lineSize, offset, render}
-use Rattle.meaning.proofs.Bools.{Every}
+use Rattle.meaning.proofs.Bools.{Every, every-at}
 use Rattle.meaning.proofs.LeftLaws.{one-more, none-left}
 use Rattle.meaning.proofs.LineLaws.{Sound}
+use Rattle.meaning.proofs.PlaceLaws.{content-at}
 use Rattle.line_read.specs.Told.{toldLength, toldLabel}
 use Rattle.line_read.proofs.LineMeaning.{read-line, read-back, reads-on}
 use Rattle.line_read.proofs.ToldLaws.{read-told}
@@ -127,3 +129,12 @@ place-is l fs t k h c x = place-from l (render fs t) fs t 0 maxLines k h refl c 
 -- and 0 if no line has it, and the set stands alone
 pub place-absent : (l : ℕ) (fs : List Field) → Every Sound fs → NoLine l fs → firstPlace (render fs []) l ≡ 0
 place-absent l fs h x = none-from l (render fs []) fs 0 maxLines h refl (omega arith) x
+
+-- the first byte of a line's content stands after its lead
+pub first-byte : (fs : List Field) (k : ℕ) → Every Sound fs → k < length fs → getD (render fs []) (offset fs k + lineLead) 0 ≡ getD (contentAtLine fs k) 0 0
+first-byte fs k h l =
+    let s : List ℕ = render fs [] in
+    let at : ℕ = offset fs k + lineLead in
+    let some : 0 < length (contentAtLine fs k) = every-at Sound fs k noField l h .some-byte in
+    ap (λ (n : ℕ). getD s n 0) (sym (add-zero at)) ∙ (sym (getD-drop at s 0 0)
+    ∙ (sym (getD-take (length (contentAtLine fs k)) (drop at s) 0 0 some) ∙ ap (λ (c : List ℕ). getD c 0 0) (content-at fs k [] l)))

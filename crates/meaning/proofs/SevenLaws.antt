@@ -68,7 +68,7 @@ or-no false = refl
 
 module _ (p : Profile) (s : Single 9206 (find (rowsOf p) 9206)) where
   -- after a line that is 9206 no other is
-  pub none-after : (st : State) (k : ℕ) (f : Field) (fs : List Field) → rulesFrom p st k (f ∷ fs) ≡ [] → f .label ≡ 9206 → Every (λ g. g .label ≡ 9206 → ⊥) fs
+  pub none-after : (st : State) (k : ℕ) (f : Field) (fs : List Field) → rulesFrom p st k (f ∷ fs) ≡ [] → f .label ≡ 9206 → (j : ℕ) → j < length fs → labelAtLine fs j ≡ 9206 → ⊥
   unfolding rulesFrom
   none-after st k f fs h e =
       let a = append-none (lineRules (roleIn p st f) p st k f) _ h in
@@ -82,13 +82,13 @@ module _ (p : Profile) (s : Single 9206 (find (rowsOf p) 9206)) where
       → sevenBit fs ≡ sameBytes (contentAtLine fs j) (digits 1 1)
   unfolding sevenBit rulesFrom
   seven-from st k [] h j l e = absurd (omega arith)
-  seven-from st k (f ∷ fs) h zero l e = rw (seven-none fs (only st k f fs h e), or-no) (says-by-content f e)
+  seven-from st k (f ∷ fs) h zero l e = rw (seven-none fs (none-after st k f fs h e), or-no) (says-by-content f e)
   seven-from st k (f ∷ fs) h (suc j) l e =
-      rw (not-seven f (λ q. only st k f fs h q j (omega arith) e))
+      rw (not-seven f (λ q. none-after st k f fs h q j (omega arith) e))
       (seven-from (next (roleIn p st f) st k (f .label)) (k + 1) fs (append-none (lineRules (roleIn p st f) p st k f) _ h .1) j (omega arith) e)
 
 -- without a table no line keeps 11
-no-table : (fs : List Field) → rulesFrom (record { setType = Nothing }) first 0 fs ≡ [] → (k : ℕ) → k < length fs → ⊥
+pub no-table : (fs : List Field) → rulesFrom (record { setType = Nothing }) first 0 fs ≡ [] → (k : ℕ) → k < length fs → ⊥
 unfolding rulesFrom lineRules labelFaults role roleOf find findIn
 no-table [] h k l = omega arith
 no-table (f ∷ fs) h k l = cons≢nil h
@@ -105,22 +105,22 @@ seven-once p fs = go (p .setType)
 
 -- ---- the content of 9206 is one byte
 
--- so its first byte decides
-charset-digit : (c : List ℕ) → fitsLabel 9206 c ≡ true → sameBytes c (digits 1 1) ≡ eqb (getD c 0 0) (digitZero + 1)
+-- so its first byte decides what it holds
+pub charset-digit : (c : List ℕ) (n : ℕ) → fitsLabel 9206 c ≡ true → sameBytes c (n ∷ []) ≡ eqb (getD c 0 0) n
 unfolding fitsLabel fitsRow fieldRow fieldRowIn fieldTable rowLabel hasLength sameBytes
-charset-digit [] e = absurd (true≢false (sym e))
-charset-digit (b ∷ []) e = go (eqb b (digitZero + 1))
+charset-digit [] n e = absurd (true≢false (sym e))
+charset-digit (b ∷ []) n e = go (eqb b n)
   where
     go : (x : Bool) → x && true ≡ x
     go true = refl
     go false = refl
-charset-digit (b ∷ d ∷ c) e =
+charset-digit (b ∷ d ∷ c) n e =
     let s : leb 1 (length (b ∷ d ∷ c)) && leb (length (b ∷ d ∷ c)) 1 ≡ true = and-left _ _ e in
     let hi : length (b ∷ d ∷ c) ≤ 1 = leb-true (length (b ∷ d ∷ c)) 1 (and-right (leb 1 (length (b ∷ d ∷ c))) _ s) in
     absurd (omega arith)
 
 -- a line of those that keep 14 fits
-line-fits-at : (p : Profile) (st : State) (k : ℕ) (fs : List Field) → rulesFrom p st k fs ≡ [] → (j : ℕ) → j < length fs → fitsLabel (labelAtLine fs j) (contentAtLine fs j) ≡ true
+pub line-fits-at : (p : Profile) (st : State) (k : ℕ) (fs : List Field) → rulesFrom p st k fs ≡ [] → (j : ℕ) → j < length fs → fitsLabel (labelAtLine fs j) (contentAtLine fs j) ≡ true
 unfolding rulesFrom fits
 line-fits-at p st k [] h j l = absurd (omega arith)
 line-fits-at p st k (f ∷ fs) h zero l = line-fits (roleIn p st f) p st k f (append-none (lineRules (roleIn p st f) p st k f) _ h .0)
@@ -132,7 +132,7 @@ pub seven-digit : (p : Profile) (fs : List Field) → rulesFrom p first 0 fs ≡
     → sevenBit fs ≡ eqb (getD (contentAtLine fs k) 0 0) (digitZero + 1)
 seven-digit p fs h k l e =
     seven-once p fs h k l e
-    ∙ charset-digit (contentAtLine fs k) (subst (λ (m : ℕ). fitsLabel m (contentAtLine fs k) ≡ true) e (line-fits-at p first 0 fs h k l))
+    ∙ charset-digit (contentAtLine fs k) (digitZero + 1) (subst (λ (m : ℕ). fitsLabel m (contentAtLine fs k) ≡ true) e (line-fits-at p first 0 fs h k l))
 
 -- ---- a set with seven bits has seen 9206 at set level
 
