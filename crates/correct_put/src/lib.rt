@@ -12,7 +12,7 @@ use meaning::LINE_FRAME;
 use meaning::LINE_LEAD;
 
 // Replaces the `old` bytes at an offset by others: the bytes after them move inside the buffer, and "every byte past the new used length becomes zero".
-fn replace_middle(buffer: &mut [u8], at: usize, old: usize, new: &[u8], used: usize)
+pub fn replace_middle(buffer: &mut [u8], at: usize, old: usize, new: &[u8], used: usize)
     requires { ⌜ (at + old ≤ used) × (used ≤ length (now buffer)) ⌝ }
     requires { ⌜ at + length (now new) + (used - (at + old)) ≤ length (now buffer) ⌝ }
     ensures { λ _. ⌜ now (buffer .exit) ≡ replaced at old (now (new .entry)) used (now (buffer .entry)) ⌝ }
