@@ -19,7 +19,7 @@ use Rattle.correct_plan.proofs.TotalLaws.{Headed, size-at, total-is}
 
 -- ---- the bytes in the middle of some others
 
-replaced-between : (a o r t c : List ℕ) (at old used : ℕ) → length a ≡ at → length o ≡ old → used ≡ at + old + length r
+pub replaced-between : (a o r t c : List ℕ) (at old used : ℕ) → length a ≡ at → length o ≡ old → used ≡ at + old + length r
     → replaced at old c used (a ++ (o ++ (r ++ t))) ≡ a ++ (c ++ (r ++ replicate (length (a ++ (o ++ (r ++ t))) - (at + length c + length r)) 0))
 unfolding replaced
 replaced-between a o r t c at old used la lo lu =
@@ -79,7 +79,7 @@ line-replaced p u t c f place used lp lu =
     ∙ over-after p (digits lengthDigits (length c + (lineLead + lineEnd))) (three ++ (four ++ (c ++ (r ++ z)))) place lp
 
 -- ---- the sum, after line 1 with its four digits
-sum-replaced : (f g : Field) (fs : List Field) (t : List ℕ) (n : ℕ) → length (f .content) ≡ 4 → length (g .content) ≡ sumDigits → g .label ≡ 8100
+pub sum-replaced : (f g : Field) (fs : List Field) (t : List ℕ) (n : ℕ) → length (f .content) ≡ 4 → length (g .content) ≡ sumDigits → g .label ≡ 8100
     → over sumPlace (digits sumDigits n) (render (f ∷ g ∷ fs) t) ≡ render (f ∷ sumField n ∷ fs) t
 sum-replaced f g fs t n lf lg e =
     let lead : List ℕ = digits lengthDigits (lineSize g) ++ digits 4 (g .label) in

@@ -16,7 +16,7 @@ use Rattle.byte_put.specs.Places.{over}
 use Rattle.byte_put.proofs.LendLaws.{length-over}
 use Rattle.byte_put.proofs.OverLaws.{over-none, over-then}
 use Rattle.meaning_recode.specs.Codes.{noByte}
-use Rattle.recode_bytes.specs.Entries.{CodeTable, hasCharacter, firstWithout, entry, mapped, mappedAt}
+use Rattle.recode_bytes.specs.Mapped.{CodeTable, hasCharacter, firstWithout, entry, mapped, mappedAt}
 
 -- ---- what a search that comes to the end says of all bytes
 
@@ -59,7 +59,7 @@ every-has : (t : List ℕ) → CodeTable t → (c : List ℕ) → Every (λ b. s
 every-has t h [] g = tt
 every-has t h (b ∷ c) g = (low-has t h b (g .0), every-has t h c (g .1))
 
-every-entry : (t : List ℕ) → CodeTable t → (c : List ℕ) → Every (λ b. sevenBits b ≡ true) c → mapped t c ≡ c
+pub every-entry : (t : List ℕ) → CodeTable t → (c : List ℕ) → Every (λ b. sevenBits b ≡ true) c → mapped t c ≡ c
 unfolding mapped
 every-entry t h [] g = refl
 every-entry t h (b ∷ c) g = ap₂ (λ (x : ℕ) (y : List ℕ). x ∷ y) (low-entry t h b (g .0)) (every-entry t h c (g .1))
@@ -87,12 +87,12 @@ module _ (t s : List ℕ) where
 
 -- ---- the mapping
 
-length-mapped : (t c : List ℕ) → length (mapped t c) ≡ length c
+pub length-mapped : (t c : List ℕ) → length (mapped t c) ≡ length c
 unfolding mapped
 length-mapped t [] = refl
 length-mapped t (b ∷ c) = ap suc (length-mapped t c)
 
-mapped-both : (t a c : List ℕ) → mapped t (a ++ c) ≡ mapped t a ++ mapped t c
+pub mapped-both : (t a c : List ℕ) → mapped t (a ++ c) ≡ mapped t a ++ mapped t c
 unfolding mapped
 mapped-both t [] c = refl
 mapped-both t (b ∷ a) c = ap (λ (y : List ℕ). entry t b ∷ y) (mapped-both t a c)

@@ -4,7 +4,7 @@
 ghost use mathlib.Core.Path.{_≡_};
 ghost use Prim.Native.Nat.{_+_, _≤_};
 ghost use lib.ListN.{length};
-ghost use Rattle.recode_bytes.specs.Entries.{block, wideBlock, CodeTable, firstWithout, mapped, mappedAt};
+ghost use Rattle.recode_bytes.specs.Mapped.{block, wideBlock, CodeTable, firstWithout, mapped, mappedAt};
 use recode_table::NO_BYTE;
 
 // This many bytes are tested at once; among many bytes more.

@@ -22,7 +22,7 @@ use Rattle.meaning_recode.specs.Codes.{noByte, to1252, to437, tableInto, recode
 use Rattle.meaning_recode.specs.Recoding.{mark, unknownBytes, unknownFrom, recodeField, markField, withCharset}
 use Rattle.meaning_recode.proofs.CodeLaws.{low-stays}
 use Rattle.byte_low.proofs.SeekLineLaws.{foundBefore, seek-set}
-use Rattle.recode_bytes.specs.Entries.{CodeTable, hasCharacter, firstWithout}
+use Rattle.recode_bytes.specs.Mapped.{CodeTable, hasCharacter, firstWithout}
 use Rattle.correct_plan.proofs.TotalLaws.{Headed}
 use Rattle.recode_plan.proofs.CharsetLaws.{charset-byte}
 

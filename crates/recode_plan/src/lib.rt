@@ -8,7 +8,7 @@ ghost use Rattle.meaning.specs.Refusals.{refusal};
 ghost use Rattle.meaning.specs.Reading.{judge};
 ghost use Rattle.meaning_recode.specs.Codes.{tableInto};
 ghost use Rattle.line_find.specs.FirstPlace.{firstPlace};
-ghost use Rattle.recode_plan.specs.Planned.{gainedBy, Alone, planned};
+ghost use Rattle.recode_plan.specs.RecodePlans.{gainedBy, Alone, planned};
 use meaning::Judged;
 use meaning::Refusal;
 use meaning::SetType;

@@ -16,7 +16,7 @@ use Rattle.meaning_recode.specs.Recoding.{mark}
 use Rattle.byte_put.specs.Places.{over}
 use Rattle.byte_put.proofs.LendLaws.{mid-tail, put-tail}
 use Rattle.correct_put.specs.Middle.{replaced}
-use Rattle.recode_bytes.specs.Entries.{mapped}
+use Rattle.recode_bytes.specs.Mapped.{mapped}
 use Rattle.recode_put.specs.Recoded.{lineThree, gainedBytes, zeroedAfter, mappedFront, withLine}
 
 -- the part after the set is lent to what makes zeros of it

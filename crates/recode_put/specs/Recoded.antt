@@ -11,7 +11,7 @@ use Rattle.meaning_recode.specs.declared.Code.{Code}
 use Rattle.meaning_recode.specs.Recoding.{mark}
 use Rattle.byte_put.specs.Places.{over}
 use Rattle.correct_put.specs.Middle.{replaced}
-use Rattle.recode_bytes.specs.Entries.{mapped}
+use Rattle.recode_bytes.specs.Mapped.{mapped}
 
 -- where line 3 stands: after line 1, whose content is the set's type, and the line of the sum
 abbrev pub lineThree : ℕ

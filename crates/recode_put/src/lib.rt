@@ -9,7 +9,7 @@ ghost use lib.ListN.{length, getD};
 ghost use Rattle.meaning.specs.Field.{field};
 ghost use Rattle.meaning.specs.Lines.{lineThen};
 ghost use Rattle.meaning_recode.specs.Recoding.{mark};
-ghost use Rattle.recode_bytes.specs.Entries.{CodeTable};
+ghost use Rattle.recode_bytes.specs.Mapped.{CodeTable};
 ghost use Rattle.recode_put.specs.Recoded.{lineThree, gainedBytes, zeroedAfter, remarked, mappedFront, withLine};
 use meaning_recode::Code;
 use recode_plan::GAINED;

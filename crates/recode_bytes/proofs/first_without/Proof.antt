@@ -4,7 +4,7 @@ use Prim.Native.Nat.{_-_, _≤_}
 use native.Mathlib.Omega.{arith}
 use lib.ListN.{length}
 use borrow.Author.Needs.{needs}
-use Rattle.recode_bytes.specs.Entries.{firstWithout}
+use Rattle.recode_bytes.specs.Mapped.{firstWithout}
 use Rattle.recode_bytes.proofs.BytesLaws.{block-stops, block-over}
 use Rattle.recode_bytes.proofs.first_without.Statement.{statement}
 use Rattle.recode_bytes.proofs.first_without.Tie as tie

@@ -4,7 +4,7 @@ use Prim.Native.Nat.{ℕ, _+_, _-_, _≤_}
 use native.Mathlib.Omega.{arith}
 use lib.ListN.{length}
 use borrow.Author.Needs.{needs}
-use Rattle.recode_bytes.specs.Entries.{mappedAt}
+use Rattle.recode_bytes.specs.Mapped.{mappedAt}
 use Rattle.recode_bytes.proofs.BytesLaws.{length-at, map-none, map-turn}
 use Rattle.recode_bytes.proofs.map_blocks.Statement.{statement}
 use Rattle.recode_bytes.proofs.map_blocks.Tie as tie

@@ -4,7 +4,7 @@ use Prim.Native.Nat.{ℕ, _-_, _%_, _≤_, _<_}
 use native.Mathlib.Omega.{arith}
 use borrow.Author.Needs.{needs}
 use lib.ListN.{length, getD, set, length-set}
-use Rattle.recode_bytes.specs.Entries.{mappedAt}
+use Rattle.recode_bytes.specs.Mapped.{mappedAt}
 use Rattle.recode_bytes.proofs.BytesLaws.{entry-there, map-none, map-one, map-turn}
 use Rattle.recode_bytes.proofs.map_each.Statement.{statement}
 use Rattle.recode_bytes.proofs.map_each.Tie as tie

@@ -3,7 +3,7 @@ use mathlib.Core.Path.{_≡_, ap, _∙_}
 use Prim.Native.Nat.{_+_, _-_, _≤_}
 use native.Mathlib.Omega.{arith}
 use borrow.Author.Needs.{needs}
-use Rattle.recode_bytes.specs.Entries.{firstWithout}
+use Rattle.recode_bytes.specs.Mapped.{firstWithout}
 use Rattle.recode_bytes.proofs.BytesLaws.{block-stops, block-over}
 use Rattle.recode_bytes.proofs.seek_blocks.Statement.{statement}
 use Rattle.recode_bytes.proofs.seek_blocks.Tie as tie

@@ -7,7 +7,7 @@ use lib.ListN.{getD}
 use borrow.Author.Needs.{needs}
 use borrow.Author.Tests.{eq-eqb, ne-eqb}
 use Rattle.byte_low.proofs.SeekLaws.{seek-here, seek-further, seek-end}
-use Rattle.recode_bytes.specs.Entries.{hasCharacter, firstWithout}
+use Rattle.recode_bytes.specs.Mapped.{hasCharacter, firstWithout}
 use Rattle.recode_bytes.proofs.BytesLaws.{entry-there}
 use Rattle.recode_bytes.proofs.seek_without.Statement.{statement}
 use Rattle.recode_bytes.proofs.seek_without.Tie as tie

@@ -1,8 +1,8 @@
--- `plan_gain` answers what was planned: a law of proofs/PlanLaws for each `return`.
+-- `plan_gain` answers what was planned: a law of proofs/RecodePlanLaws for each `return`.
 use mathlib.Core.Path.{sym, _∙_, subst}
 use borrow.Author.Needs.{needs}
-use Rattle.recode_bytes.specs.Entries.{CodeTable}
-use Rattle.recode_plan.proofs.PlanLaws.{plan-too-many, plan-gains}
+use Rattle.recode_bytes.specs.Mapped.{CodeTable}
+use Rattle.recode_plan.proofs.RecodePlanLaws.{plan-too-many, plan-gains}
 use Rattle.recode_plan.proofs.RecodedLaws.{table-codes}
 use Rattle.recode_plan.proofs.plan_gain.Statement.{statement}
 use Rattle.recode_plan.proofs.plan_gain.Tie as tie

@@ -1,7 +1,7 @@
 -- `plan_judged` answers what was planned: 18, then by whether a line is 9206.
 use mathlib.Core.Path.{sym, _∙_}
 use borrow.Author.Needs.{needs}
-use Rattle.recode_plan.proofs.PlanLaws.{plan-followed}
+use Rattle.recode_plan.proofs.RecodePlanLaws.{plan-followed}
 use Rattle.recode_plan.proofs.plan_judged.Statement.{statement}
 use Rattle.recode_plan.proofs.plan_judged.Tie as tie
 

@@ -2,8 +2,8 @@
 use mathlib.Core.Path.{sym, ap, _∙_, subst}
 use borrow.Author.Needs.{needs}
 use Rattle.meaning_recode.specs.declared.Code.{Code}
-use Rattle.recode_plan.specs.Planned.{Alone, planned}
-use Rattle.recode_plan.proofs.PlanLaws.{plan-437}
+use Rattle.recode_plan.specs.RecodePlans.{Alone, planned}
+use Rattle.recode_plan.proofs.RecodePlanLaws.{plan-437}
 use Rattle.recode_plan.proofs.plan_unmarked.Statement.{statement}
 use Rattle.recode_plan.proofs.plan_unmarked.Tie as tie
 

@@ -34,11 +34,11 @@ use Rattle.meaning_recode.specs.Codes.{tableInto}
 use Rattle.meaning_recode.specs.Recoding.{mark, hasCharset, inCode, allRecoded, recodeFaults, recodeField, markField, withCharset, recodeLines}
 use Rattle.line_find.specs.FirstPlace.{firstPlace}
 use Rattle.line_find.proofs.FirstPlaceLaws.{FirstLine, NoLine, first-or-none, place-is, place-absent, first-byte}
-use Rattle.recode_bytes.specs.Entries.{firstWithout}
+use Rattle.recode_bytes.specs.Mapped.{firstWithout}
 use Rattle.correct_plan.proofs.TotalLaws.{headed, size-at}
 use Rattle.recode_plan.specs.declared.Plan.{Plan}
 use Rattle.recode_plan.specs.declared.Plan.the-variants.{Refused, Stays, Marks, Recodes, Gains}
-use Rattle.recode_plan.specs.Planned.{charsetPlace, gainedBy, doing, unless, planned, Alone}
+use Rattle.recode_plan.specs.RecodePlans.{charsetPlace, gainedBy, doing, unless, planned, Alone}
 use Rattle.recode_plan.proofs.CharsetLaws.{has-none, has-one, says-digit, in-marked, in-437, in-1252}
 use Rattle.recode_plan.proofs.RecodedLaws.{size-recoded, size-marked, one-byte, one-byte-recoded, size-gained, unknown-none, unknown-some}
 
