@@ -29,7 +29,7 @@ use Rattle.correct_plan.proofs.TotalLaws.{Headed, headed, not-at, size-at, tota
 use Rattle.correct.proofs.LineChange.{lines-changed}
 
 -- the set's own refusals
-refused-read : (s : List ℕ) (r : Refusal) → judge s ≡ RefusedSet r → read s ≡ refused r
+pub refused-read : (s : List ℕ) (r : Refusal) → judge s ≡ RefusedSet r → read s ≡ refused r
 unfolding judge
 refused-read s r e = go (read s) refl e
   where
