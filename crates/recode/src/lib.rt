@@ -49,8 +49,9 @@ pub fn recode(buffer: &mut [u8], used: usize, wanted: Code) -> Made
             Made::Done(used)
         }
         Plan::Gains => {
+            let total = used + recode_plan::GAINED;
             recode_put::put_gained(buffer, used, wanted, &table);
-            Made::Done(used + recode_plan::GAINED)
+            Made::Done(total)
         }
     }
 }

@@ -86,6 +86,16 @@ put-recoded-requires c κs =
 enum-told-2 : tie.Need-enum-told-2
 enum-told-2 c = search needs
 
+add-total : tie.Need-add-total
+add-total c =
+    let at-plan-recode = c .before .before in
+    let at-plan-recode-arg = at-plan-recode .before .before in
+    let at-if1 = at-plan-recode-arg .before .before in
+    let at-start = at-if1 .before .before in
+    let a = at-start .args in
+    let q = sym (at-plan-recode .plan-recode .ensures) ∙ c .enum-told2 .given .1 in
+    omega (arith, gains-room (a .buffer .now) (a .used) (a .wanted) (at-if1 .if1 .left) q)
+
 put-gained-requires : tie.Need-put-gained-requires
 put-gained-requires c κs =
     let at-enum-told2 = c .before .before in
@@ -98,19 +108,6 @@ put-gained-requires c κs =
     let q = sym (at-plan-recode .plan-recode .ensures) ∙ at-enum-told2 .enum-told2 .given .1 in
     let t = subst CodeTable (sym (at-table-into .table-into .ensures)) (table-codes (at-start .args .wanted)) in
     (gains-after (a .buffer .now) (a .used) (a .wanted) (at-if1 .if1 .left) q, gains-room (a .buffer .now) (a .used) (a .wanted) (at-if1 .if1 .left) q, t)
-
-add-t31 : tie.Need-add-t31
-add-t31 c =
-    let at-put-gained = c .before .before in
-    let at-put-gained-arg = at-put-gained .before .before in
-    let at-enum-told2 = at-put-gained-arg .before in
-    let at-plan-recode = at-enum-told2 .before .before in
-    let at-plan-recode-arg = at-plan-recode .before .before in
-    let at-if1 = at-plan-recode-arg .before .before in
-    let at-start = at-if1 .before .before in
-    let a = at-start .args in
-    let q = sym (at-plan-recode .plan-recode .ensures) ∙ at-enum-told2 .enum-told2 .given .1 in
-    omega (arith, gains-room (a .buffer .now) (a .used) (a .wanted) (at-if1 .if1 .left) q)
 
 same-length : tie.Need-same-length
 same-length c = search needs
@@ -210,8 +207,8 @@ recode-spec =
     enum-known-place-2
     put-recoded-requires
     enum-told-2
+    add-total
     put-gained-requires
-    add-t31
     same-length
     returns-2
     same-length-2
