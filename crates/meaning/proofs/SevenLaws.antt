@@ -68,23 +68,23 @@ or-no false = refl
 
 module _ (p : Profile) (s : Single 9206 (find (rowsOf p) 9206)) where
   -- after a line that is 9206 no other is
-  pub none-after : (st : State) (k : ℕ) (f : Field) (fs : List Field) → rulesFrom p st k (f ∷ fs) ≡ [] → f .label ≡ 9206 → (j : ℕ) → j < length fs → labelAtLine fs j ≡ 9206 → ⊥
+  pub none-after : (st : State) (k : ℕ) (f : Field) (fs : List Field) → rulesFrom p st k (f ∷ fs) ≡ [] → f .label ≡ 9206 → Every (λ g. g .label ≡ 9206 → ⊥) fs
   unfolding rulesFrom
   none-after st k f fs h e =
       let a = append-none (lineRules (roleIn p st f) p st k f) _ h in
       let o = role-at-set-level (find (rowsOf p) (f .label)) (s .known) (st .header) (f .label) (ap (find (rowsOf p)) e ∙ s .is) (s .top-level) in
       once p (next (roleIn p st f) st k (f .label)) (k + 1) 9206 fs s (top-has (roleIn p st f) (s .known) st k 9206 (f .label) o (s .named-so)) (a .1)
 
-  only : (st : State) (k : ℕ) (f : Field) (fs : List Field) → rulesFrom p st k (f ∷ fs) ≡ [] → f .label ≡ 9206 → (j : ℕ) → j < length fs → labelAtLine fs j ≡ 9206 → ⊥
+  pub only : (st : State) (k : ℕ) (f : Field) (fs : List Field) → rulesFrom p st k (f ∷ fs) ≡ [] → f .label ≡ 9206 → (j : ℕ) → j < length fs → labelAtLine fs j ≡ 9206 → ⊥
   only st k f fs h e = every-none fs (none-after st k f fs h e)
 
   seven-from : (st : State) (k : ℕ) (fs : List Field) → rulesFrom p st k fs ≡ [] → (j : ℕ) → j < length fs → labelAtLine fs j ≡ 9206
       → sevenBit fs ≡ sameBytes (contentAtLine fs j) (digits 1 1)
   unfolding sevenBit rulesFrom
   seven-from st k [] h j l e = absurd (omega arith)
-  seven-from st k (f ∷ fs) h zero l e = rw (seven-none fs (none-after st k f fs h e), or-no) (says-by-content f e)
+  seven-from st k (f ∷ fs) h zero l e = rw (seven-none fs (only st k f fs h e), or-no) (says-by-content f e)
   seven-from st k (f ∷ fs) h (suc j) l e =
-      rw (not-seven f (λ q. none-after st k f fs h q j (omega arith) e))
+      rw (not-seven f (λ q. only st k f fs h q j (omega arith) e))
       (seven-from (next (roleIn p st f) st k (f .label)) (k + 1) fs (append-none (lineRules (roleIn p st f) p st k f) _ h .1) j (omega arith) e)
 
 -- without a table no line keeps 11

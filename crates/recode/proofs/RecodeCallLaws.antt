@@ -38,7 +38,7 @@ use Rattle.correct.proofs.CorrectLaws.{refused-read}
 use Rattle.recode_plan.specs.declared.Plan.{Plan}
 use Rattle.recode_plan.specs.declared.Plan.the-variants.{Refused, Stays, Marks, Recodes, Gains}
 use Rattle.recode_plan.specs.RecodePlans.{charsetPlace, doing, unless, plannedBy, planned}
-use Rattle.recode_plan.proofs.CharsetLaws.{has-none}
+use Rattle.recode_plan.proofs.CharsetPlaceLaws.{has-none}
 use Rattle.recode_plan.proofs.RecodedLaws.{one-byte, size-gained, size-recoded, size-marked, one-byte-recoded}
 use Rattle.recode_put.specs.Recoded.{lineThree, gainedBytes, zeroedAfter, remarked, mappedFront, withLine}
 use Rattle.recode.proofs.RecodedLines.{OnlyLine, only-line, leaves-same, leaves-marked, leaves-recoded, leaves-gained}

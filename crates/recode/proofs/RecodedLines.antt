@@ -26,7 +26,7 @@ use Rattle.meaning.proofs.DigitLaws.{plain-digits, digits-all}
 use Rattle.meaning.proofs.LineLaws.{length-render, render-split}
 use Rattle.meaning.proofs.CorrectionLaws.{leaves}
 use Rattle.meaning.proofs.WriterLaws.{Single}
-use Rattle.meaning.proofs.SevenLaws.{single-9206, none-after, no-table}
+use Rattle.meaning.proofs.SevenLaws.{single-9206, only, no-table}
 use Rattle.meaning_recode.specs.declared.Code.{Code}
 use Rattle.meaning_recode.specs.Codes.{noByte, tableInto, recoded}
 use Rattle.meaning_recode.specs.Recoding.{mark, unknownBytes, unknownFrom, recodeField, markField, withCharset}
@@ -38,7 +38,7 @@ use Rattle.correct_plan.proofs.TotalLaws.{Headed, size-at}
 use Rattle.correct.proofs.LineChange.{replaced-between, sum-replaced}
 use Rattle.recode_bytes.specs.Mapped.{entry, mapped}
 use Rattle.recode_bytes.proofs.BytesLaws.{mapped-both, every-entry}
-use Rattle.recode_plan.proofs.CharsetLaws.{mark-one, charset-byte}
+use Rattle.recode_plan.proofs.CharsetPlaceLaws.{mark-one, charset-byte}
 use Rattle.recode_plan.proofs.RecodedLaws.{OneByte, size-recoded, size-marked, one-byte-recoded, size-gained, table-codes}
 use Rattle.recode_put.specs.Recoded.{lineThree, gainedBytes, zeroedAfter, remarked, mappedFront, withLine}
 
@@ -187,8 +187,8 @@ only-from : (p : Profile) → Single 9206 (find (rowsOf p) 9206) → (st : State
 unfolding rulesFrom
 only-from p s st k [] h j l e i m g = absurd (omega arith)
 only-from p s st k (f ∷ fs) h zero l e zero m g = refl
-only-from p s st k (f ∷ fs) h zero l e (suc i) m g = absurd (none-after p s st k f fs h e i (omega arith) g)
-only-from p s st k (f ∷ fs) h (suc j) l e zero m g = absurd (none-after p s st k f fs h g j (omega arith) e)
+only-from p s st k (f ∷ fs) h zero l e (suc i) m g = absurd (only p s st k f fs h e i (omega arith) g)
+only-from p s st k (f ∷ fs) h (suc j) l e zero m g = absurd (only p s st k f fs h g j (omega arith) e)
 only-from p s st k (f ∷ fs) h (suc j) l e (suc i) m g =
     ap suc (only-from p s (next (roleIn p st f) st k (f .label)) (k + 1) fs (append-none (lineRules (roleIn p st f) p st k f) _ h .1) j (omega arith) e i (omega arith) g)
 

@@ -39,7 +39,7 @@ use Rattle.correct_plan.proofs.TotalLaws.{headed, size-at}
 use Rattle.recode_plan.specs.declared.Plan.{Plan}
 use Rattle.recode_plan.specs.declared.Plan.the-variants.{Refused, Stays, Marks, Recodes, Gains}
 use Rattle.recode_plan.specs.RecodePlans.{charsetPlace, gainedBy, doing, unless, planned, Alone}
-use Rattle.recode_plan.proofs.CharsetLaws.{has-none, has-one, says-digit, in-marked, in-437, in-1252}
+use Rattle.recode_plan.proofs.CharsetPlaceLaws.{has-none, has-one, says-digit, in-marked, in-437, in-1252}
 use Rattle.recode_plan.proofs.RecodedLaws.{size-recoded, size-marked, one-byte, one-byte-recoded, size-gained, unknown-none, unknown-some}
 
 -- ---- lines that stand, in a room that they fit in

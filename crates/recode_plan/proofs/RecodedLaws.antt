@@ -24,7 +24,7 @@ use Rattle.meaning_recode.proofs.CodeLaws.{low-stays}
 use Rattle.byte_low.proofs.SeekLineLaws.{foundBefore, seek-set}
 use Rattle.recode_bytes.specs.Mapped.{CodeTable, hasCharacter, firstWithout}
 use Rattle.correct_plan.proofs.TotalLaws.{Headed}
-use Rattle.recode_plan.proofs.CharsetLaws.{charset-byte}
+use Rattle.recode_plan.proofs.CharsetPlaceLaws.{charset-byte}
 
 -- ---- how many bytes
 

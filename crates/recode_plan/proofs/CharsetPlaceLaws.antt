@@ -18,7 +18,7 @@ use Rattle.meaning.specs.Rules.{Profile, rowsOf, roleIn, lineRules, rulesFrom}
 use Rattle.meaning.proofs.Bools.{and-left, and-right}
 use Rattle.meaning.proofs.FaultLaws.{append-none}
 use Rattle.meaning.proofs.WriterLaws.{Single}
-use Rattle.meaning.proofs.SevenLaws.{single-9206, none-after, no-table, charset-digit, line-fits-at}
+use Rattle.meaning.proofs.SevenLaws.{single-9206, only, no-table, charset-digit, line-fits-at}
 use Rattle.meaning_recode.specs.declared.Code.{Code}
 use Rattle.meaning_recode.specs.declared.Code.the-variants.{Page437, Page1252}
 use Rattle.meaning_recode.specs.Recoding.{mark, saysCode, says, hasCharset, inCode}
@@ -70,9 +70,9 @@ module _ (w : Code) where
       → (j : ℕ) → j < length fs → labelAtLine fs j ≡ 9206 → says w fs ≡ sameBytes (contentAtLine fs j) (mark w)
   unfolding says rulesFrom
   says-from p s st k [] h j l e = absurd (omega arith)
-  says-from p s st k (f ∷ fs) h zero l e = rw (says-none fs (none-after p s st k f fs h e), or-no) (says-by-content f e)
+  says-from p s st k (f ∷ fs) h zero l e = rw (says-none fs (only p s st k f fs h e), or-no) (says-by-content f e)
   says-from p s st k (f ∷ fs) h (suc j) l e =
-      rw (not-says f (λ q. none-after p s st k f fs h q j (omega arith) e))
+      rw (not-says f (λ q. only p s st k f fs h q j (omega arith) e))
       (says-from p s (next (roleIn p st f) st k (f .label)) (k + 1) fs (append-none (lineRules (roleIn p st f) p st k f) _ h .1) j (omega arith) e)
 
   -- of lines that keep 11 to 13 the line that is 9206 decides, since it is the only one
