@@ -3,7 +3,7 @@
 // `firstHigh` of specs/.
 ghost use mathlib.Core.Path.{_≡_};
 ghost use mathlib.Core.Bool.{true};
-ghost use Prim.Native.Nat.{_+_, _≤_};
+ghost use Prim.Native.Nat.{_+_, _-_, _≤_};
 ghost use lib.ListN.{length};
 ghost use Rattle.byte_high.specs.High.{firstHigh};
 
@@ -15,8 +15,10 @@ const BLOCK: usize = 8;
 
 const WIDE_BLOCK: usize = 4 * BLOCK;
 
+const LONG_BLOCK: usize = 2 * WIDE_BLOCK;
+
 // None of the k bytes at an offset is over 7Fh. The loop has no way out between them, so that a number of bytes that is fixed is tested at once.
-pub fn plain(s: &[u8], at: usize, k: usize) -> bool
+fn plain(s: &[u8], at: usize, k: usize) -> bool
     requires { ⌜ at + k ≤ length (now s) ⌝ }
     ensures { λ r. ⌜ (r ≡ true → firstHigh (now (s .entry)) at k ≡ at + k) ⌝ }
 {
@@ -92,4 +94,36 @@ pub fn all_plain(s: &[u8]) -> bool
         }
     }
     plain(s, s.len() - BLOCK, BLOCK)
+}
+
+// The offset after some blocks that have no byte over 7Fh, from an offset on.
+fn pass_blocks(s: &[u8], at: usize) -> usize
+    requires { ⌜ at ≤ length (now s) ⌝ }
+    ensures { λ r. ⌜ (at ≤ r) × (r ≤ length (now (s .entry))) × (firstHigh (now (s .entry)) at (r - at) ≡ r) ⌝ }
+{
+    let mut i = at;
+    while BLOCK <= s.len() - i {
+        if plain(s, i, BLOCK) {
+            i += BLOCK;
+        } else {
+            return i;
+        }
+    }
+    i
+}
+
+// The same, for what has to come to the bytes over 7Fh of a whole set: if these are few, most bytes are passed over in long blocks.
+pub fn pass_plain(s: &[u8], at: usize) -> usize
+    requires { ⌜ at ≤ length (now s) ⌝ }
+    ensures { λ r. ⌜ (at ≤ r) × (r ≤ length (now (s .entry))) × (firstHigh (now (s .entry)) at (r - at) ≡ r) ⌝ }
+{
+    let mut i = at;
+    while LONG_BLOCK <= s.len() - i {
+        if plain(s, i, LONG_BLOCK) {
+            i += LONG_BLOCK;
+        } else {
+            return pass_blocks(s, i);
+        }
+    }
+    pass_blocks(s, i)
 }

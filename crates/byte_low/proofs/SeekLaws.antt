@@ -81,6 +81,13 @@ module _ (ok : ℕ → Bool) where
         let n : e - i ≡ b + (e - (i + b)) = omega arith in
         rw n (seek-after b (e - (i + b)) i q)
 
+    -- two stretches, one after the other, that it passes over: it passes over both
+    pub seek-join : (at i e : ℕ) → at ≤ i → i ≤ e → firstNot ok s at (i - at) ≡ i → firstNot ok s i (e - i) ≡ e → firstNot ok s at (e - at) ≡ e
+    seek-join at i e h g p q =
+        let n : e - at ≡ i - at + (e - i) = omega arith in
+        let m : at + (i - at) ≡ i = omega arith in
+        ap (firstNot ok s at) n ∙ (seek-after (i - at) (e - i) at (p ∙ sym m) ∙ (ap (λ (x : ℕ). firstNot ok s x (e - i)) m ∙ q))
+
     -- the last block, which it passes over: it passes over the bytes in it
     pub seek-tail : (b i e : ℕ) → b ≤ e → e ≤ i + b → i ≤ e → firstNot ok s (e - b) b ≡ e - b + b → firstNot ok s i (e - i) ≡ e
     seek-tail b i e h g l q =

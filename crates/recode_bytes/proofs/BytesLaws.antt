@@ -4,9 +4,10 @@ use mathlib.Core.Bool.{Bool, true, false, cond}
 use mathlib.Core.List.{List, [], _∷_, _++_, append-assoc, append-nil}
 use Prim.Native.Nat.{ℕ, zero, suc, _+_, _-_, _%_, _≤_, _<_}
 use native.Mathlib.Omega.{arith}
+use lib.Dec.{leb}
 use lib.ListN.{length, getD, set, take, drop, length-drop, length-append, take-append-drop, drop-of-length-le}
 use lib.Seq.{take-add, take-length, drop-drop, drop-cons, drop-at, set-split, length-take-le}
-use borrow.Author.Tests.{leb-true, ne-eqb}
+use borrow.Author.Tests.{leb-true, leb-false, ne-eqb}
 use Rattle.meaning.specs.Lines.{mostSevenBits}
 use Rattle.meaning.proofs.Bools.{Every, byte-then}
 use Rattle.byte_low.specs.Seek.{firstNot}
@@ -32,6 +33,15 @@ seek-every ok s (suc k) at h e =
         → (ok (getD s at 0) ≡ true) × Every (λ b. ok b ≡ true) (take k (drop (at + 1) s))
     go true q g rest = (q, rest g)
     go false q g rest = absurd (omega arith)
+
+-- ---- a turn comes further
+
+pub part-more : (i from end n : ℕ) → i < n → i ≤ from → from ≤ end → (from < n → from < end) → i < end
+part-more i from end n l h m f = go (leb n from) refl
+  where
+    go : (x : Bool) → leb n from ≡ x → i < end
+    go true q = omega (arith, leb-true n from q)
+    go false q = omega (arith, f (leb-false n from q))
 
 -- ---- an entry that is there, as code reads it
 
@@ -68,7 +78,7 @@ every-entry t h (b ∷ c) g = ap₂ (λ (x : ℕ) (y : List ℕ). x ∷ y) (low-
 
 module _ (t s : List ℕ) where
   -- a block without a byte over 7Fh
-  pub plain-without : CodeTable t → (at k : ℕ) → at + k ≤ length s → firstHigh s at k ≡ at + k → at + k ≡ firstWithout t s at k
+  plain-without : CodeTable t → (at k : ℕ) → at + k ≤ length s → firstHigh s at k ≡ at + k → at + k ≡ firstWithout t s at k
   plain-without h at k l e =
       let c : List ℕ = take k (drop at s) in
       let n : length c ≡ k = length-take-le k (drop at s) (omega (arith, length-drop at s)) in
@@ -77,13 +87,30 @@ module _ (t s : List ℕ) where
       ∙ ap (λ (m : ℕ). at + m) n))
 
   -- the search stops in a block, or goes on after it
-  pub block-stops : (b i e found : ℕ) → i + b ≤ e → found ≡ firstWithout t s i b → found < i + b → found ≡ firstWithout t s i (e - i)
+  block-stops : (b i e found : ℕ) → i + b ≤ e → found ≡ firstWithout t s i b → found < i + b → found ≡ firstWithout t s i (e - i)
   block-stops b i e found h q l =
       let n : e - i ≡ b + (e - (i + b)) = omega arith in
       q ∙ (sym (seek-stops (hasCharacter t) s b (e - (i + b)) i (omega (arith, q))) ∙ ap (firstWithout t s i) (sym n))
 
-  pub block-over : (b i e found : ℕ) → i + b ≤ e → found ≡ firstWithout t s i b → i + b ≤ found → firstWithout t s (i + b) (e - (i + b)) ≡ firstWithout t s i (e - i)
+  block-over : (b i e found : ℕ) → i + b ≤ e → found ≡ firstWithout t s i b → i + b ≤ found → firstWithout t s (i + b) (e - (i + b)) ≡ firstWithout t s i (e - i)
   block-over b i e found h q l = sym (seek-on (hasCharacter t) s b i e h (omega (arith, q, seek-most (hasCharacter t) s b i)))
+
+  -- bytes without one over 7Fh are passed over from i on, then those up to the end are asked one by one
+  module _ (h : CodeTable t) (i from end found : ℕ) (l : i ≤ from) (m : from ≤ end) (n : end ≤ length s) (p : firstHigh s i (from - i) ≡ from)
+      (f : found ≡ firstWithout t s from (end - from)) where
+    passed : firstWithout t s from (length s - from) ≡ firstWithout t s i (length s - i)
+    passed =
+        let a : i + (from - i) ≡ from = omega arith in
+        let q : from ≡ firstWithout t s i (from - i) = sym a ∙ plain-without h i (from - i) (omega arith) (p ∙ sym a) in
+        ap (λ (x : ℕ). firstWithout t s x (length s - x)) (sym a) ∙ block-over (from - i) i (length s) from (omega arith) q (omega arith)
+
+    pub part-stops : found < end → found ≡ firstWithout t s i (length s - i)
+    part-stops g = block-stops (end - from) from (length s) found (omega arith) f (omega arith) ∙ passed
+
+    pub part-over : end ≤ found → firstWithout t s end (length s - end) ≡ firstWithout t s i (length s - i)
+    part-over g =
+        let a : from + (end - from) ≡ end = omega arith in
+        ap (λ (x : ℕ). firstWithout t s x (length s - x)) (sym a) ∙ (block-over (end - from) from (length s) found (omega arith) f (omega arith) ∙ passed)
 
 -- ---- the mapping
 
@@ -148,7 +175,7 @@ module _ (t : List ℕ) where
       rw (drop-cons s at 0 h, n) (set-split s at (entry t (getD s at 0)) h)
 
   -- a block without a byte over 7Fh stays as it is
-  pub plain-maps : CodeTable t → (s : List ℕ) (at k : ℕ) → at + k ≤ length s → firstHigh s at k ≡ at + k → s ≡ mappedAt t at k s
+  plain-maps : CodeTable t → (s : List ℕ) (at k : ℕ) → at + k ≤ length s → firstHigh s at k ≡ at + k → s ≡ mappedAt t at k s
   unfolding mappedAt
   plain-maps g s at k h e = rw (every-entry t g (take k (drop at s)) (seek-every sevenBits s k at h e)) (sym (over-same s at k h))
 
@@ -164,3 +191,13 @@ module _ (t : List ℕ) where
       let n : at + (i - at) ≡ i = omega arith in
       let m : i - at + k ≡ i + k - at = omega arith in
       q ∙ (ap₂ (λ (j : ℕ) (u : List ℕ). mappedAt t j k u) (sym n) e ∙ (map-then s₀ at (i - at) k (omega arith) ∙ ap (λ (j : ℕ). mappedAt t at j s₀) m))
+
+  -- bytes without one over 7Fh are passed over from i on, then those up to the end are mapped
+  pub map-part : CodeTable t → (s₀ s s′ : List ℕ) (i from end : ℕ) → i ≤ from → from ≤ end → end ≤ length s₀ → length s ≡ length s₀ → s ≡ mappedAt t 0 i s₀
+      → firstHigh s i (from - i) ≡ from → s′ ≡ mappedAt t from (end - from) s → s′ ≡ mappedAt t 0 end s₀
+  map-part h s₀ s s′ i from end l m n k e p q =
+      let a : i + (from - i) ≡ from = omega arith in
+      let stays : s ≡ mappedAt t i (from - i) s = plain-maps h s i (from - i) (omega arith) (p ∙ sym a) in
+      let by : (j k : ℕ) → j ≡ k → mappedAt t 0 j s₀ ≡ mappedAt t 0 k s₀ = λ j k x. ap (λ (n : ℕ). mappedAt t 0 n s₀) x in
+      let first : s ≡ mappedAt t 0 from s₀ = map-turn s₀ s s 0 i (from - i) (omega arith) (omega arith) (e ∙ by i (i - 0) (omega arith)) stays ∙ by (i + (from - i) - 0) from (omega arith) in
+      map-turn s₀ s s′ 0 from (end - from) (omega arith) (omega arith) (first ∙ by from (from - 0) (omega arith)) q ∙ by (from + (end - from) - 0) end (omega arith)

@@ -9,13 +9,6 @@ use Rattle.byte_low.specs.Seek.{firstNot}
 use Rattle.byte_put.specs.Places.{over}
 use Rattle.meaning_recode.specs.Codes.{noByte}
 
--- this many bytes are tested at once; among many bytes more
-abbrev pub block : ℕ
-block = 8
-
-abbrev pub wideBlock : ℕ
-wideBlock = 32
-
 -- an entry for each byte, and bytes below 80h stay as they are
 pub record CodeTable (t : List ℕ) : Type 0 where
   pub whole : length t ≡ 256

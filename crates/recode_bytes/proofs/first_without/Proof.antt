@@ -1,11 +1,12 @@
--- `first_without`: the search stops in a block, or goes on after it.
-use mathlib.Core.Path.{_≡_, ap, _∙_}
+-- `first_without`: the search stops in a part, or goes on after it.
+use mathlib.Core.Path.{_≡_, sym, ap, _∙_}
 use Prim.Native.Nat.{_-_, _≤_}
 use native.Mathlib.Omega.{arith}
 use lib.ListN.{length}
 use borrow.Author.Needs.{needs}
-use Rattle.recode_bytes.specs.Mapped.{firstWithout}
-use Rattle.recode_bytes.proofs.BytesLaws.{block-stops, block-over}
+use Rattle.byte_low.proofs.SeekLaws.{seek-end}
+use Rattle.recode_bytes.specs.Mapped.{hasCharacter, firstWithout}
+use Rattle.recode_bytes.proofs.BytesLaws.{part-more, part-stops, part-over}
 use Rattle.recode_bytes.proofs.first_without.Statement.{statement}
 use Rattle.recode_bytes.proofs.first_without.Tie as tie
 
@@ -20,47 +21,63 @@ loop-holds c =
     let a = c .before .args in
     (omega arith, ap (firstWithout (a .table .now) (a .s .now) 0) (omega arith))
 
-sub-loop : tie.Need-sub-loop Inv-loop μ-loop
-sub-loop c = search needs
+pass-plain-requires : tie.Need-pass-plain-requires Inv-loop μ-loop
+pass-plain-requires c κs = search needs
 
-seek-wide-requires : tie.Need-seek-wide-requires Inv-loop μ-loop
-seek-wide-requires c κs = search needs
+part-end-requires : tie.Need-part-end-requires Inv-loop μ-loop
+part-end-requires c κs = search needs
 
-add-if1 : tie.Need-add-if1 Inv-loop μ-loop
-add-if1 c = search needs
+sub-seek-without : tie.Need-sub-seek-without Inv-loop μ-loop
+sub-seek-without c = search needs
+
+seek-without-requires : tie.Need-seek-without-requires Inv-loop μ-loop
+seek-without-requires c κs = search needs
 
 returns : tie.Need-returns Inv-loop μ-loop
 returns c =
-    let at-seek-wide = c .before in
-    let at-loop = at-seek-wide .before .before in
+    let at-seek-without = c .before in
+    let at-part-end = at-seek-without .before in
+    let at-pass-plain = at-part-end .before in
+    let at-loop = at-pass-plain .before .before in
     let at-start = at-loop .before .before in
     let a = at-start .args in
     let l = at-loop .loop in
-    block-stops (a .table .now) (a .s .now) 32 (l .i) (length (a .s .now)) _ (omega arith) (at-seek-wide .seek-wide .ensures) (c .if1 .taken) ∙ l .inv .1
-
-add-i : tie.Need-add-i Inv-loop μ-loop
-add-i c = search needs
+    let p = at-pass-plain .pass-plain .ensures in
+    let q = at-part-end .part-end .ensures in
+    part-stops (a .table .now) (a .s .now) (at-start .pre) (l .i) _ _ _ (p .0) (q .0) (q .1) (p .2) (at-seek-without .seek-without .ensures) (c .if1 .taken) ∙ l .inv .1
 
 loop-less : tie.Need-loop-less Inv-loop μ-loop
-loop-less c = search needs
+loop-less c =
+    let at-part-end = c .before .before in
+    let at-pass-plain = at-part-end .before in
+    let at-loop-test = at-pass-plain .before in
+    let at-loop = at-loop-test .before in
+    let at-start = at-loop .before .before in
+    let a = at-start .args in
+    let l = at-loop .loop in
+    let p = at-pass-plain .pass-plain .ensures in
+    let q = at-part-end .part-end .ensures in
+    omega (arith, q .1, part-more (l .i) _ _ _ (at-loop-test .loop-test .taken) (p .0) (q .0) (q .2))
 
 loop-again : tie.Need-loop-again Inv-loop μ-loop
 loop-again c =
-    let at-seek-wide = c .before in
-    let at-loop = at-seek-wide .before .before in
+    let at-seek-without = c .before in
+    let at-part-end = at-seek-without .before in
+    let at-pass-plain = at-part-end .before in
+    let at-loop = at-pass-plain .before .before in
     let at-start = at-loop .before .before in
     let a = at-start .args in
     let l = at-loop .loop in
-    (omega arith, block-over (a .table .now) (a .s .now) 32 (l .i) (length (a .s .now)) _ (omega arith) (at-seek-wide .seek-wide .ensures) (c .if1 .left) ∙ l .inv .1)
-
-sub-seek-blocks : tie.Need-sub-seek-blocks Inv-loop μ-loop
-sub-seek-blocks c = search needs
-
-seek-blocks-requires : tie.Need-seek-blocks-requires Inv-loop μ-loop
-seek-blocks-requires c κs = search needs
+    let p = at-pass-plain .pass-plain .ensures in
+    let q = at-part-end .part-end .ensures in
+    (q .1, part-over (a .table .now) (a .s .now) (at-start .pre) (l .i) _ _ _ (p .0) (q .0) (q .1) (p .2) (at-seek-without .seek-without .ensures) (c .if1 .left) ∙ l .inv .1)
 
 returns-2 : tie.Need-returns-2 Inv-loop μ-loop
-returns-2 c = c .seek-blocks .ensures ∙ c .before .before .loop .inv .1
+returns-2 c =
+    let at-loop = c .before in
+    let at-start = at-loop .before .before in
+    let a = at-start .args in
+    sym (seek-end (hasCharacter (a .table .now)) (a .s .now) _ _ (c .loop-test .left)) ∙ at-loop .loop .inv .1
 
 pub first-without-spec : {M : Type 1} → statement M
 first-without-spec =
@@ -69,13 +86,11 @@ first-without-spec =
     Inv-loop
     μ-loop
     loop-holds
-    sub-loop
-    seek-wide-requires
-    add-if1
+    pass-plain-requires
+    part-end-requires
+    sub-seek-without
+    seek-without-requires
     returns
-    add-i
     loop-less
     loop-again
-    sub-seek-blocks
-    seek-blocks-requires
     returns-2)

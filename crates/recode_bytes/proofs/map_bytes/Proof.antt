@@ -5,12 +5,12 @@ use native.Mathlib.Omega.{arith}
 use lib.ListN.{length}
 use borrow.Author.Needs.{needs}
 use Rattle.recode_bytes.specs.Mapped.{mappedAt}
-use Rattle.recode_bytes.proofs.BytesLaws.{length-at, map-none, map-all, map-turn}
+use Rattle.recode_bytes.proofs.BytesLaws.{part-more, length-at, map-none, map-all, map-part}
 use Rattle.recode_bytes.proofs.map_bytes.Statement.{statement}
 use Rattle.recode_bytes.proofs.map_bytes.Tie as tie
 
 abbrev Inv-loop : tie.InvT-loop
-Inv-loop s₀ table i₀ s i = (0 ≤ i) × ((i ≤ length s₀) × ((s ≡ mappedAt table 0 (i - 0) s₀) × (length s ≡ length s₀)))
+Inv-loop s₀ table i₀ s i = (i ≤ length s₀) × ((s ≡ mappedAt table 0 i s₀) × (length s ≡ length s₀))
 
 abbrev μ-loop : tie.MeasureT-loop
 μ-loop s₀ table i₀ s i = length s₀ - i
@@ -18,53 +18,62 @@ abbrev μ-loop : tie.MeasureT-loop
 loop-holds : tie.Need-loop-holds Inv-loop μ-loop
 loop-holds c =
     let a = c .before .args in
-    (omega arith, (omega arith, (map-none (a .table .now) (a .s .now) 0 ∙ ap (λ (j : ℕ). mappedAt (a .table .now) 0 j (a .s .now)) (omega arith), refl)))
+    (omega arith, (map-none (a .table .now) (a .s .now) 0, refl))
 
-sub-loop : tie.Need-sub-loop Inv-loop μ-loop
-sub-loop c = search needs
+pass-plain-requires : tie.Need-pass-plain-requires Inv-loop μ-loop
+pass-plain-requires c κs = search needs
 
-map-wide-requires : tie.Need-map-wide-requires Inv-loop μ-loop
-map-wide-requires c κs = search needs
+part-end-requires : tie.Need-part-end-requires Inv-loop μ-loop
+part-end-requires c κs = search needs
 
-add-i : tie.Need-add-i Inv-loop μ-loop
-add-i c = search needs
+sub-map-each : tie.Need-sub-map-each Inv-loop μ-loop
+sub-map-each c = search needs
+
+map-each-requires : tie.Need-map-each-requires Inv-loop μ-loop
+map-each-requires c κs = search needs
 
 loop-less : tie.Need-loop-less Inv-loop μ-loop
-loop-less c = search needs
-
-loop-again : tie.Need-loop-again Inv-loop μ-loop
-loop-again c =
-    let at-map-wide = c .before .before in
-    let at-loop-test = at-map-wide .before .before in
+loop-less c =
+    let at-map-each = c .before .before in
+    let at-part-end = at-map-each .before .before in
+    let at-pass-plain = at-part-end .before in
+    let at-loop-test = at-pass-plain .before .before in
     let at-loop = at-loop-test .before in
     let at-start = at-loop .before .before in
     let a = at-start .args in
     let l = at-loop .loop in
     let inv = l .inv in
-    let e = at-map-wide .map-wide .ensures in
-    let n = ap length e ∙ length-at (a .table .now) (l .s) (l .i) 32 (omega arith) in
-    (omega arith, (omega arith, (map-turn (a .table .now) (a .s .now) (l .s) _ 0 (l .i) 32 (inv .0) (omega arith) (inv .1 .1 .0) e, n ∙ inv .1 .1 .1)))
+    let p = at-pass-plain .pass-plain .ensures in
+    let q = at-part-end .part-end .ensures in
+    omega (arith, q .1, inv .1 .1, part-more (l .i) _ _ _ (at-loop-test .loop-test .taken) (p .0) (q .0) (q .2))
 
-sub-left : tie.Need-sub-left Inv-loop μ-loop
-sub-left c = search needs
-
-map-blocks-requires : tie.Need-map-blocks-requires Inv-loop μ-loop
-map-blocks-requires c κs = search needs
+loop-again : tie.Need-loop-again Inv-loop μ-loop
+loop-again c =
+    let at-map-each = c .before .before in
+    let at-part-end = at-map-each .before .before in
+    let at-pass-plain = at-part-end .before in
+    let at-loop-test = at-pass-plain .before .before in
+    let at-loop = at-loop-test .before in
+    let at-start = at-loop .before .before in
+    let a = at-start .args in
+    let l = at-loop .loop in
+    let inv = l .inv in
+    let p = at-pass-plain .pass-plain .ensures in
+    let q = at-part-end .part-end .ensures in
+    let e = at-map-each .map-each .ensures in
+    let n = ap length e ∙ length-at (a .table .now) (l .s) _ _ (omega (arith, p .1, q .0, q .1)) in
+    (omega (arith, q .1, inv .1 .1), (map-part (a .table .now) (at-start .pre) (a .s .now) (l .s) _ (l .i) _ _ (p .0) (q .0) (omega (arith, q .1, inv .1 .1)) (inv .1 .1) (inv .1 .0) (p .2) e, n ∙ inv .1 .1))
 
 same-length : tie.Need-same-length Inv-loop μ-loop
 same-length c = search needs
 
 returns : tie.Need-returns Inv-loop μ-loop
 returns c =
-    let at-map-blocks = c .before .before in
-    let at-loop-test = at-map-blocks .before .before in
-    let at-loop = at-loop-test .before in
+    let at-loop = c .before in
     let at-start = at-loop .before .before in
     let a = at-start .args in
     let l = at-loop .loop in
-    let inv = l .inv in
-    map-turn (a .table .now) (a .s .now) (l .s) _ 0 (l .i) (length (l .s) - l .i) (inv .0) (omega arith) (inv .1 .1 .0) (at-map-blocks .map-blocks .ensures)
-    ∙ (ap (λ (j : ℕ). mappedAt (a .table .now) 0 j (a .s .now)) (omega arith) ∙ map-all (a .table .now) (a .s .now))
+    l .inv .1 .0 ∙ (ap (λ (j : ℕ). mappedAt (a .table .now) 0 j (a .s .now)) (omega arith) ∙ map-all (a .table .now) (a .s .now))
 
 pub map-bytes-spec : {M : Type 1} → statement M
 map-bytes-spec =
@@ -73,12 +82,11 @@ map-bytes-spec =
     Inv-loop
     μ-loop
     loop-holds
-    sub-loop
-    map-wide-requires
-    add-i
+    pass-plain-requires
+    part-end-requires
+    sub-map-each
+    map-each-requires
     loop-less
     loop-again
-    sub-left
-    map-blocks-requires
     same-length
     returns)
