@@ -270,7 +270,8 @@ module _ (s : List ℕ) (x : Shape) (room : ℕ) (w : Code) (t : List ℕ) (a : 
 pub plan-437 : (s : List ℕ) (x : Shape) (room : ℕ) (w : Code) (t : List ℕ) → Alone s x room w t → w ≡ Page437 → firstPlace s 9206 ≡ 0 → planned s room w ≡ Stays
 plan-437 s x room w t a e z =
     its-plan s x room w t a
-    ∙ stays (its s x room w t a) (its-stand s x room w t a) room w (its-fit s x room w t a) (ap (λ (v : Code). inCode v (its s x room w t a)) e ∙ in-437 (its s x room w t a) (no-line s x room w t a z))
+    ∙ stays (its s x room w t a) (its-stand s x room w t a) room w (its-fit s x room w t a) (ap (λ (v : Code). inCode v (its s x room w t a)) e
+    ∙ in-437 (its s x room w t a) (no-line s x room w t a z))
 
 module _ (s : List ℕ) (x : Shape) (room : ℕ) (t : List ℕ) (a : Alone s x room Page1252 t) (z : firstPlace s 9206 ≡ 0) where
   abbrev all : List Field
