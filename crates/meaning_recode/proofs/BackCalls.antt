@@ -21,7 +21,7 @@ use Rattle.meaning.proofs.Demands.{left-by-length}
 use Rattle.meaning.proofs.CallLaws.{done-call}
 use Rattle.meaning_recode.specs.declared.Code.{Code}
 use Rattle.meaning_recode.specs.declared.Code.the-variants.{Page437, Page1252}
-use Rattle.meaning_recode.specs.Recoding.{says, hasCharset, inCode, recodeFaults, markField, withCharset, recodeLines, recode}
+use Rattle.meaning_recode.specs.Recoding.{namesCode, hasCharset, inCode, recodeFaults, charsetField, withCharset, recodeLines, recode}
 use Rattle.meaning_recode.specs.RecodeCalls.{recodeCall}
 use Rattle.meaning_recode.proofs.CodeLaws.{other}
 use Rattle.meaning_recode.proofs.StandLaws.{says-has, recoded-stands, size-kept}
@@ -120,7 +120,7 @@ twice-call b b′ used n w p q =
 -- ---- "and back"
 
 -- a set that named the other code page: if it is recoded, it is recoded back, to the bytes that it had
-pub back-call : (b b′ : List ℕ) (used n : ℕ) (w : Code) (fs : List Field) → read (take used b) ≡ done (parsed fs []) → says (other w) fs ≡ true
+pub back-call : (b b′ : List ℕ) (used n : ℕ) (w : Code) (fs : List Field) → read (take used b) ≡ done (parsed fs []) → namesCode (other w) fs ≡ true
     → Done n ≡ recodeCall b used w .answer → b′ ≡ recodeCall b used w .buffer
     → (recodeCall b′ n (other w) .answer ≡ Done used) × (recodeCall b′ n (other w) .buffer ≡ take used b ++ replicate (length b - used) 0)
 back-call b b′ used n w fs r s p q =
@@ -143,12 +143,12 @@ line-call b b′ used n fs r s p q =
 -- a set that said seven bits: it is recoded, and back, without a refusal; then 9206 names the code page, and all else is as it was
 pub seven-call : (b b′ : List ℕ) (used : ℕ) (w : Code) (fs : List Field) → used ≤ length b → read (take used b) ≡ done (parsed fs []) → sevenBit fs ≡ true
     → b′ ≡ recodeCall b used w .buffer
-    → (recodeCall b used w .answer ≡ Done used) × (b′ ≡ leaves (map (markField w) fs) b)
-    × (recodeCall b′ used (other w) .answer ≡ Done used) × (recodeCall b′ used (other w) .buffer ≡ leaves (map (markField (other w)) fs) b)
+    → (recodeCall b used w .answer ≡ Done used) × (b′ ≡ leaves (map (charsetField w) fs) b)
+    × (recodeCall b′ used (other w) .answer ≡ Done used) × (recodeCall b′ used (other w) .buffer ≡ leaves (map (charsetField (other w)) fs) b)
 seven-call b b′ used w fs l r s q =
     let h : Holds b used fs = record { fits-in = l; front = r } in
     let st : Standing fs = holds-standing b used fs h in
-    let y = kept-done b used w fs (map (markField w) fs) h (from-seven w fs st s) in
+    let y = kept-done b used w fs (map (charsetField w) fs) h (from-seven w fs st s) in
     let d = first-done b b′ used used w fs r (sym (y .0)) q in
-    let x = next-done b b′ used used w (other w) fs (map (markField (other w)) fs) d (seven-and-back w fs st s) in
+    let x = next-done b b′ used used w (other w) fs (map (charsetField (other w)) fs) d (seven-and-back w fs st s) in
     (y .0, q ∙ y .1, x .0, x .1)

@@ -22,8 +22,8 @@ use Rattle.meaning.proofs.CorrectionLaws.{upright, two}
 use Rattle.meaning_recode.specs.declared.Code.{Code}
 use Rattle.meaning_recode.specs.declared.Code.the-variants.{Page437, Page1252}
 use Rattle.meaning_recode.specs.Codes.{noByte, to1252, to437, tableInto, recoded}
-use Rattle.meaning_recode.specs.Recoding.{mark, says, hasCharset, inCode, allRecoded, gains, addedFaults, unknownBytes, unknownFrom, recodeFaults}
-use Rattle.meaning_recode.specs.Recoding.{recodeField, markField, withCharset, recodeLines}
+use Rattle.meaning_recode.specs.Recoding.{charsetOf, namesCode, hasCharset, inCode, allRecoded, gains, addedFaults, noCharacterBytes, noCharacterFrom, recodeFaults}
+use Rattle.meaning_recode.specs.Recoding.{recodeField, charsetField, withCharset, recodeLines}
 use Rattle.meaning_recode.proofs.CodeLaws.{other, undone-by}
 use Rattle.meaning_recode.proofs.KindLaws.{Told, told-back, told-none, length-kept, plain-stays, plain-told, digits-stay}
 use Rattle.meaning_recode.proofs.InsertLaws.{NoCharset, no-charset}
@@ -37,26 +37,26 @@ use Rattle.meaning_recode.proofs.CharsetLaws.{one-charset, AllHold, non
 abbrev pub AllTold : Code → List Field → Type 0
 AllTold w fs = Every (λ f. Told w (f .content)) fs
 
-pub unknown-back : (w : Code) (k : ℕ) (fs : List Field) → unknownFrom w k fs ≡ [] → AllTold w fs
-unfolding unknownFrom
+pub unknown-back : (w : Code) (k : ℕ) (fs : List Field) → noCharacterFrom w k fs ≡ [] → AllTold w fs
+unfolding noCharacterFrom
 unknown-back w k [] e = tt
 unknown-back w k (f ∷ fs) e =
-    let a = append-none (unknownBytes w k 0 (f .content)) _ e in
+    let a = append-none (noCharacterBytes w k 0 (f .content)) _ e in
     (told-back w k 0 (f .content) (a .0), unknown-back w (k + 1) fs (a .1))
 
-pub unknown-none : (w : Code) (k : ℕ) (fs : List Field) → AllTold w fs → unknownFrom w k fs ≡ []
-unfolding unknownFrom
+pub unknown-none : (w : Code) (k : ℕ) (fs : List Field) → AllTold w fs → noCharacterFrom w k fs ≡ []
+unfolding noCharacterFrom
 unknown-none w k [] h = refl
-unknown-none w k (f ∷ fs) h = none-both (unknownBytes w k 0 (f .content)) _ (told-none w k 0 (f .content) (h .0)) (unknown-none w (k + 1) fs (h .1))
+unknown-none w k (f ∷ fs) h = none-both (noCharacterBytes w k 0 (f .content)) _ (told-none w k 0 (f .content) (h .0)) (unknown-none w (k + 1) fs (h .1))
 
 told-of : (w : Code) (fs : List Field) → recodeFaults w fs ≡ [] → inCode w fs ≡ false → sevenBit fs ≡ false → AllTold w fs
 unfolding recodeFaults allRecoded
 told-of w fs e p q =
-    unknown-back w 0 fs (if-back (allRecoded w fs) (unknownFrom w 0 fs) (append-none (addedFaults w fs) _ e .1) (rw (p, q)))
+    unknown-back w 0 fs (if-back (allRecoded w fs) (noCharacterFrom w 0 fs) (append-none (addedFaults w fs) _ e .1) (rw (p, q)))
 
 no-faults : (w : Code) (fs : List Field) → gains w fs ≡ false → (allRecoded w fs ≡ true → AllTold w fs) → recodeFaults w fs ≡ []
 unfolding recodeFaults
-no-faults w fs g h = rw g (if-none (allRecoded w fs) (unknownFrom w 0 fs) (λ b. unknown-none w 0 fs (h b)))
+no-faults w fs g h = rw g (if-none (allRecoded w fs) (noCharacterFrom w 0 fs) (λ b. unknown-none w 0 fs (h b)))
 
 -- a set that names something gains no line
 pub named-gains-none : (w : Code) (fs : List Field) → hasCharset fs ≡ true → gains w fs ≡ false
@@ -97,21 +97,21 @@ undone-all : (w : Code) (c : List ℕ) → Told w c → map (recoded (other w)) 
 undone-all w [] h = refl
 undone-all w (b ∷ c) h = ap₂ (λ (x : ℕ) (y : List ℕ). x ∷ y) (undone-by w b (h .0)) (undone-all w c (h .1))
 
-mark-plain : (w : Code) → Plain (mark w)
+mark-plain : (w : Code) → Plain (charsetOf w)
 mark-plain Page437 = plain-digits (digits 1 2) (digits-all 1 2)
 mark-plain Page1252 = plain-digits (digits 1 3) (digits-all 1 3)
 
 -- ---- lines there and back
 
 -- a set that names a code page, into the other
-back-is : (w : Code) (hs ks : List Field) → AllHold (mark w) hs → says w hs ≡ true → AllTold (other w) hs → map (markField (other w)) (map (recodeField (other w)) hs) ≡ ks
+back-is : (w : Code) (hs ks : List Field) → AllHold (charsetOf w) hs → namesCode w hs ≡ true → AllTold (other w) hs → map (charsetField (other w)) (map (recodeField (other w)) hs) ≡ ks
     → Becomes (other w) hs ks
 unfolding recodeLines
 back-is w hs ks h s t e =
     let has : hasCharset hs ≡ true = says-has w hs s in
     let gain : gains (other w) hs ≡ false = named-gains-none (other w) hs has in
-    let out : inCode (other w) hs ≡ false = not-in-code (other w) (mark w) hs (marks-differ w .0) h has in
-    let eight : sevenBit hs ≡ false = not-seven-bits (mark w) hs (mark-eight w) h in
+    let out : inCode (other w) hs ≡ false = not-in-code (other w) (charsetOf w) hs (marks-differ w .0) h has in
+    let eight : sevenBit hs ≡ false = not-seven-bits (charsetOf w) hs (mark-eight w) h in
     record { without-fault = no-faults (other w) hs gain (λ b. t); without-gain = gain; lines-so = rw (out, eight, has) e }
 
 -- the same of lines that are known to be hs
@@ -120,46 +120,46 @@ becomes-from v gs hs ks e b = subst (λ (l : List Field). Becomes v l ks) (sym e
 
 module _ (w : Code) where
   -- a line that is not 9206
-  bare-line : (f : Field) → (f .label ≡ 9206 → ⊥) → Told w (f .content) → markField (other w) (recodeField (other w) (recodeField w f)) ≡ f
+  bare-line : (f : Field) → (f .label ≡ 9206 → ⊥) → Told w (f .content) → charsetField (other w) (recodeField (other w) (recodeField w f)) ≡ f
   bare-line f n t = mark-other (other w) (recodeField (other w) (recodeField w f)) n ∙ ap (field (f .label)) (undone-all w (f .content) t)
 
   -- a line that named the other code page if it is 9206
-  back-line : (f : Field) → (f .label ≡ 9206 → f .content ≡ mark (other w)) → Told w (f .content)
-      → markField (other w) (recodeField (other w) (markField w (recodeField w f))) ≡ f
+  back-line : (f : Field) → (f .label ≡ 9206 → f .content ≡ charsetOf (other w)) → Told w (f .content)
+      → charsetField (other w) (recodeField (other w) (charsetField w (recodeField w f))) ≡ f
   back-line f h t = go (eqb (f .label) 9206) refl
     where
-      go : (t : Bool) → eqb (f .label) 9206 ≡ t → markField (other w) (recodeField (other w) (cond t (field 9206 (mark w)) (recodeField w f))) ≡ f
+      go : (t : Bool) → eqb (f .label) 9206 ≡ t → charsetField (other w) (recodeField (other w) (cond t (field 9206 (charsetOf w)) (recodeField w f))) ≡ f
       go true p = let l = eqb-true (f .label) 9206 p in λ i. record { label = sym l i; content = sym (h l) i }
       go false p = bare-line f (eqb-false (f .label) 9206 p) t
 
-  told-line : (f : Field) → Told w (f .content) → Told (other w) (markField w (recodeField w f) .content)
+  told-line : (f : Field) → Told w (f .content) → Told (other w) (charsetField w (recodeField w f) .content)
   told-line f t =
-      pick w (λ (x : Field). Told (other w) (x .content)) (recodeField w f) (λ e. plain-told (other w) (mark w) (mark-plain w)) (λ n. told-over w (f .content) t)
+      pick w (λ (x : Field). Told (other w) (x .content)) (recodeField w f) (λ e. plain-told (other w) (charsetOf w) (mark-plain w)) (λ n. told-over w (f .content) t)
 
-  back-lines : (fs : List Field) → AllHold (mark (other w)) fs → AllTold w fs
-      → map (markField (other w)) (map (recodeField (other w)) (map (markField w) (map (recodeField w) fs))) ≡ fs
+  back-lines : (fs : List Field) → AllHold (charsetOf (other w)) fs → AllTold w fs
+      → map (charsetField (other w)) (map (recodeField (other w)) (map (charsetField w) (map (recodeField w) fs))) ≡ fs
   back-lines [] h t = refl
   back-lines (f ∷ fs) h t = ap₂ (λ (x : Field) (y : List Field). x ∷ y) (back-line f (h .0) (t .0)) (back-lines fs (h .1) (t .1))
 
-  told-lines : (fs : List Field) → AllTold w fs → AllTold (other w) (map (markField w) (map (recodeField w) fs))
+  told-lines : (fs : List Field) → AllTold w fs → AllTold (other w) (map (charsetField w) (map (recodeField w) fs))
   told-lines [] t = tt
   told-lines (f ∷ fs) t = (told-line f (t .0), told-lines fs (t .1))
 
-  named-lines : (fs : List Field) → inCode w fs ≡ false → sevenBit fs ≡ false → hasCharset fs ≡ true → recodeLines w fs ≡ map (markField w) (map (recodeField w) fs)
+  named-lines : (fs : List Field) → inCode w fs ≡ false → sevenBit fs ≡ false → hasCharset fs ≡ true → recodeLines w fs ≡ map (charsetField w) (map (recodeField w) fs)
   unfolding recodeLines
   named-lines fs p q r = rw (p, q, r)
 
   -- a set that named the other code page is what it was
-  pub there-and-back : (fs : List Field) → Standing fs → says (other w) fs ≡ true → recodeFaults w fs ≡ [] → Becomes (other w) (recodeLines w fs) fs
+  pub there-and-back : (fs : List Field) → Standing fs → namesCode (other w) fs ≡ true → recodeFaults w fs ≡ [] → Becomes (other w) (recodeLines w fs) fs
   there-and-back fs st s e =
-      let hold : AllHold (mark (other w)) fs = says-hold (other w) fs (one-charset fs (ruled fs (st .right) .0)) s in
+      let hold : AllHold (charsetOf (other w)) fs = says-hold (other w) fs (one-charset fs (ruled fs (st .right) .0)) s in
       let has : hasCharset fs ≡ true = says-has (other w) fs s in
-      let out : inCode w fs ≡ false = not-in-code w (mark (other w)) fs (marks-differ w .1) hold has in
-      let eight : sevenBit fs ≡ false = not-seven-bits (mark (other w)) fs (mark-eight (other w)) hold in
+      let out : inCode w fs ≡ false = not-in-code w (charsetOf (other w)) fs (marks-differ w .1) hold has in
+      let eight : sevenBit fs ≡ false = not-seven-bits (charsetOf (other w)) fs (mark-eight (other w)) hold in
       let told : AllTold w fs = told-of w fs e out eight in
       let gs : List Field = map (recodeField w) fs in
-      becomes-from (other w) (recodeLines w fs) (map (markField w) gs) fs (named-lines fs out eight has)
-      (back-is w (map (markField w) gs) fs (marked-hold w gs) (says-marked w gs (charset-kept w fs ∙ has)) (told-lines fs told) (back-lines fs hold told))
+      becomes-from (other w) (recodeLines w fs) (map (charsetField w) gs) fs (named-lines fs out eight has)
+      (back-is w (map (charsetField w) gs) fs (marked-hold w gs) (says-marked w gs (charset-kept w fs ∙ has)) (told-lines fs told) (back-lines fs hold told))
 
 -- ---- a set that said seven bits
 
@@ -175,27 +175,27 @@ all-plain k (f ∷ fs) e =
     (highs-back k 0 (f .content) (a .0), all-plain (k + 1) fs (a .1))
 
 module _ (w : Code) where
-  plain-line : (f : Field) → Plain (f .content) → markField (other w) (recodeField (other w) (markField w f)) ≡ markField (other w) f
+  plain-line : (f : Field) → Plain (f .content) → charsetField (other w) (recodeField (other w) (charsetField w f)) ≡ charsetField (other w) f
   plain-line f h = go (eqb (f .label) 9206) refl
     where
       go : (t : Bool) → eqb (f .label) 9206 ≡ t
-          → markField (other w) (recodeField (other w) (cond t (field 9206 (mark w)) f)) ≡ cond t (field 9206 (mark (other w))) f
+          → charsetField (other w) (recodeField (other w) (cond t (field 9206 (charsetOf w)) f)) ≡ cond t (field 9206 (charsetOf (other w))) f
       go true p = refl
       go false p = mark-other (other w) (recodeField (other w) f) (eqb-false (f .label) 9206 p) ∙ ap (field (f .label)) (plain-stays (other w) (f .content) h)
 
-  plain-lines : (fs : List Field) → AllPlain fs → map (markField (other w)) (map (recodeField (other w)) (map (markField w) fs)) ≡ map (markField (other w)) fs
+  plain-lines : (fs : List Field) → AllPlain fs → map (charsetField (other w)) (map (recodeField (other w)) (map (charsetField w) fs)) ≡ map (charsetField (other w)) fs
   plain-lines [] h = refl
   plain-lines (f ∷ fs) h = ap₂ (λ (x : Field) (y : List Field). x ∷ y) (plain-line f (h .0)) (plain-lines fs (h .1))
 
-  plain-lines-told : (fs : List Field) → AllPlain fs → AllTold (other w) (map (markField w) fs)
+  plain-lines-told : (fs : List Field) → AllPlain fs → AllTold (other w) (map (charsetField w) fs)
   plain-lines-told [] h = tt
   plain-lines-told (f ∷ fs) h = (
-    pick w (λ (x : Field). Told (other w) (x .content)) f (λ e. plain-told (other w) (mark w) (mark-plain w)) (λ n. plain-told (other w) (f .content) (h .0)),
+    pick w (λ (x : Field). Told (other w) (x .content)) f (λ e. plain-told (other w) (charsetOf w) (mark-plain w)) (λ n. plain-told (other w) (f .content) (h .0)),
     plain-lines-told fs (h .1),
   )
 
   -- "Sets with 9206 = 1 only change that content": without a fault, and without a gained line
-  pub from-seven : (fs : List Field) → Standing fs → sevenBit fs ≡ true → Becomes w fs (map (markField w) fs)
+  pub from-seven : (fs : List Field) → Standing fs → sevenBit fs ≡ true → Becomes w fs (map (charsetField w) fs)
   unfolding recodeLines allRecoded
   from-seven fs st s =
       let has : hasCharset fs ≡ true = seven-has fs s in
@@ -206,11 +206,11 @@ module _ (w : Code) where
       record { without-fault = no-faults w fs gain (λ b. absurd (true≢false (sym b ∙ all))); without-gain = gain; lines-so = rw (out, s) }
 
   -- it is then in the other code page, as if it had been recoded there at once
-  pub seven-and-back : (fs : List Field) → Standing fs → sevenBit fs ≡ true → Becomes (other w) (recodeLines w fs) (map (markField (other w)) fs)
+  pub seven-and-back : (fs : List Field) → Standing fs → sevenBit fs ≡ true → Becomes (other w) (recodeLines w fs) (map (charsetField (other w)) fs)
   seven-and-back fs st s =
       let plain : AllPlain fs = all-plain 0 fs (high-back fs (ruled fs (st .right) .0 .none-high) s) in
-      becomes-from (other w) (recodeLines w fs) (map (markField w) fs) (map (markField (other w)) fs) (from-seven fs st s .lines-so)
-      (back-is w (map (markField w) fs) (map (markField (other w)) fs) (marked-hold w fs) (says-marked w fs (seven-has fs s)) (plain-lines-told fs plain) (plain-lines fs plain))
+      becomes-from (other w) (recodeLines w fs) (map (charsetField w) fs) (map (charsetField (other w)) fs) (from-seven fs st s .lines-so)
+      (back-is w (map (charsetField w) fs) (map (charsetField (other w)) fs) (marked-hold w fs) (says-marked w fs (seven-has fs s)) (plain-lines-told fs plain) (plain-lines fs plain))
 
 -- ---- a set without 9206
 
@@ -221,14 +221,14 @@ size-recoded w (f ∷ fs) = omega (arith, length-kept w (f .content), size-recod
 pub sum-told : (w : Code) (n : ℕ) → Told w (sumField n .content)
 sum-told w n = plain-told w (digits sumDigits n) (plain-digits (digits sumDigits n) (digits-all sumDigits n))
 
-sum-back-line : (w : Code) (n m : ℕ) → n ≡ m → markField w (recodeField w (sumField n)) ≡ sumField m
+sum-back-line : (w : Code) (n m : ℕ) → n ≡ m → charsetField w (recodeField w (sumField n)) ≡ sumField m
 sum-back-line w n m e = ap (field 8100) (digits-stay w (digits sumDigits n) (digits-all sumDigits n)) ∙ ap sumField e
 
 module _ (w : Code) where
-  pub gained-hold : (gs : List Field) → NoCharset gs → AllHold (mark w) (resum (withCharset w gs))
+  pub gained-hold : (gs : List Field) → NoCharset gs → AllHold (charsetOf w) (resum (withCharset w gs))
   gained-hold [] h = tt
   gained-hold (f ∷ []) h = (λ l. absurd (h .0 l), (λ l. absurd (omega arith), tt))
-  gained-hold (f ∷ g ∷ gs) h = (λ l. absurd (h .0 l), (λ l. absurd (omega arith), (λ l. refl, none-hold (mark w) gs (h .1 .1))))
+  gained-hold (f ∷ g ∷ gs) h = (λ l. absurd (h .0 l), (λ l. absurd (omega arith), (λ l. refl, none-hold (charsetOf w) gs (h .1 .1))))
 
   over-lines : (fs : List Field) → AllTold w fs → AllTold (other w) (map (recodeField w) fs)
   over-lines [] t = tt
@@ -237,29 +237,29 @@ module _ (w : Code) where
   gained-told : (gs : List Field) → AllTold (other w) gs → AllTold (other w) (resum (withCharset w gs))
   gained-told [] t = tt
   gained-told (f ∷ []) t = (t .0, (sum-told (other w) _, tt))
-  gained-told (f ∷ g ∷ gs) t = (t .0, (sum-told (other w) _, (plain-told (other w) (mark w) (mark-plain w), t .1 .1)))
+  gained-told (f ∷ g ∷ gs) t = (t .0, (sum-told (other w) _, (plain-told (other w) (charsetOf w) (mark-plain w), t .1 .1)))
 
-  bare-lines : (fs : List Field) → NoCharset fs → AllTold w fs → map (markField (other w)) (map (recodeField (other w)) (map (recodeField w) fs)) ≡ fs
+  bare-lines : (fs : List Field) → NoCharset fs → AllTold w fs → map (charsetField (other w)) (map (recodeField (other w)) (map (recodeField w) fs)) ≡ fs
   bare-lines [] h t = refl
   bare-lines (f ∷ fs) h t = ap₂ (λ (x : Field) (y : List Field). x ∷ y) (bare-line w f (h .0) (t .0)) (bare-lines fs (h .1) (t .1))
 
   gained-back : (fs : List Field) → 2 ≤ length fs → NoCharset fs → AllTold w fs
-      → map (markField (other w)) (map (recodeField (other w)) (resum (withCharset w (map (recodeField w) fs)))) ≡ resum (withCharset (other w) fs)
+      → map (charsetField (other w)) (map (recodeField (other w)) (resum (withCharset w (map (recodeField w) fs)))) ≡ resum (withCharset (other w) fs)
   gained-back [] l h t = refl
   gained-back (f ∷ []) l h t = absurd (omega arith)
   gained-back (f ∷ g ∷ fs) l h t =
-      let before : ℕ = lineSize (recodeField w f) + (sumLine + size (field 9206 (mark w) ∷ map (recodeField w) fs)) in
-      let then : ℕ = lineSize f + (sumLine + size (field 9206 (mark (other w)) ∷ fs)) in
+      let before : ℕ = lineSize (recodeField w f) + (sumLine + size (field 9206 (charsetOf w) ∷ map (recodeField w) fs)) in
+      let then : ℕ = lineSize f + (sumLine + size (field 9206 (charsetOf (other w)) ∷ fs)) in
       let sums : before ≡ then = omega (arith, length-kept w (f .content), one-byte w, one-byte (other w), size-recoded w fs) in
       ap₂ (λ (x : Field) (y : List Field). x ∷ y) (bare-line w f (h .0) (t .0))
-      (ap₂ (λ (x : Field) (y : List Field). x ∷ field 9206 (mark (other w)) ∷ y) (sum-back-line (other w) before then sums) (bare-lines fs (h .1 .1) (t .1 .1)))
+      (ap₂ (λ (x : Field) (y : List Field). x ∷ field 9206 (charsetOf (other w)) ∷ y) (sum-back-line (other w) before then sums) (bare-lines fs (h .1 .1) (t .1 .1)))
 
 -- such a set is not in code page 1252
 without-1252 : (fs : List Field) → hasCharset fs ≡ false → inCode Page1252 fs ≡ false
 unfolding inCode
-without-1252 fs q = go (says Page1252 fs) refl
+without-1252 fs q = go (namesCode Page1252 fs) refl
   where
-    go : (t : Bool) → says Page1252 fs ≡ t → says Page1252 fs ≡ false
+    go : (t : Bool) → namesCode Page1252 fs ≡ t → namesCode Page1252 fs ≡ false
     go true p = absurd (true≢false (sym (says-has Page1252 fs p) ∙ q))
     go false p = p
 

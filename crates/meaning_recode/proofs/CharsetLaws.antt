@@ -21,7 +21,7 @@ use Rattle.meaning.proofs.WriterLaws.{Single}
 use Rattle.meaning.proofs.SevenLaws.{single-9206, none-after}
 use Rattle.meaning_recode.specs.declared.Code.{Code}
 use Rattle.meaning_recode.specs.declared.Code.the-variants.{Page437, Page1252}
-use Rattle.meaning_recode.specs.Recoding.{mark, saysCode, says, hasCharset, inCode, markField}
+use Rattle.meaning_recode.specs.Recoding.{charsetOf, lineNamesCode, namesCode, hasCharset, inCode, charsetField}
 use Rattle.meaning_recode.proofs.CodeLaws.{other}
 use Rattle.meaning_recode.proofs.InsertLaws.{NoCharset}
 use Rattle.meaning_recode.proofs.MapLaws.{pick}
@@ -65,14 +65,14 @@ none-hold c (f ∷ fs) h = (λ l. absurd (h .0 l), none-hold c fs (h .1))
 not-here : (f : Field) (fs : List Field) → OneCharset (f ∷ fs) → hasCharset fs ≡ true → f .label ≡ 9206 → ⊥
 not-here f fs o e l = true≢false (sym e ∙ none-has fs (o .0 l))
 
-pub says-hold : (w : Code) (fs : List Field) → OneCharset fs → says w fs ≡ true → AllHold (mark w) fs
-unfolding says saysCode
+pub says-hold : (w : Code) (fs : List Field) → OneCharset fs → namesCode w fs ≡ true → AllHold (charsetOf w) fs
+unfolding namesCode lineNamesCode
 says-hold w [] o e = tt
-says-hold w (f ∷ fs) o e = go (saysCode w f) refl e (says-hold w fs (o .1))
+says-hold w (f ∷ fs) o e = go (lineNamesCode w f) refl e (says-hold w fs (o .1))
   where
-    go : (t : Bool) → saysCode w f ≡ t → t || says w fs ≡ true → (says w fs ≡ true → AllHold (mark w) fs) → AllHold (mark w) (f ∷ fs)
+    go : (t : Bool) → lineNamesCode w f ≡ t → t || namesCode w fs ≡ true → (namesCode w fs ≡ true → AllHold (charsetOf w) fs) → AllHold (charsetOf w) (f ∷ fs)
     go true p q later =
-        (λ l. same-bytes (f .content) (mark w) (and-right (eqb (f .label) 9206) _ p), none-hold (mark w) fs (o .0 (says-9206 w f p)))
+        (λ l. same-bytes (f .content) (charsetOf w) (and-right (eqb (f .label) 9206) _ p), none-hold (charsetOf w) fs (o .0 (says-9206 w f p)))
     go false p q later = (λ l. absurd (not-here f fs o (says-has w fs q) l), later q)
 
 pub seven-hold : (fs : List Field) → OneCharset fs → sevenBit fs ≡ true → AllHold (digits 1 1) fs
@@ -85,9 +85,9 @@ seven-hold (f ∷ fs) o e = go (saysSevenBit f) refl e (seven-hold fs (o .1))
         (λ l. same-bytes (f .content) (digits 1 1) (and-right (eqb (f .label) 9206) _ p), none-hold (digits 1 1) fs (o .0 (seven-9206 f p)))
     go false p q later = (λ l. absurd (not-here f fs o (seven-has fs q) l), later q)
 
-pub marked-hold : (w : Code) (fs : List Field) → AllHold (mark w) (map (markField w) fs)
+pub marked-hold : (w : Code) (fs : List Field) → AllHold (charsetOf w) (map (charsetField w) fs)
 marked-hold w [] = tt
-marked-hold w (f ∷ fs) = (pick w (λ (x : Field). x .label ≡ 9206 → x .content ≡ mark w) f (λ e l. refl) (λ n l. absurd (n l)), marked-hold w fs)
+marked-hold w (f ∷ fs) = (pick w (λ (x : Field). x .label ≡ 9206 → x .content ≡ charsetOf w) f (λ e l. refl) (λ n l. absurd (n l)), marked-hold w fs)
 
 -- ---- so it names nothing else
 
@@ -99,28 +99,28 @@ not-content f c d h e = go (eqb (f .label) 9206) refl
     go true p = rw (h (eqb-true (f .label) 9206 p)) e
     go false p = refl
 
-not-says : (w : Code) (c : List ℕ) (fs : List Field) → sameBytes c (mark w) ≡ false → AllHold c fs → says w fs ≡ false
-unfolding says saysCode
+not-says : (w : Code) (c : List ℕ) (fs : List Field) → sameBytes c (charsetOf w) ≡ false → AllHold c fs → namesCode w fs ≡ false
+unfolding namesCode lineNamesCode
 not-says w c [] e h = refl
-not-says w c (f ∷ fs) e h = rw (not-content f c (mark w) (h .0) e, not-says w c fs e (h .1))
+not-says w c (f ∷ fs) e h = rw (not-content f c (charsetOf w) (h .0) e, not-says w c fs e (h .1))
 
 pub not-seven-bits : (c : List ℕ) (fs : List Field) → sameBytes c (digits 1 1) ≡ false → AllHold c fs → sevenBit fs ≡ false
 unfolding sevenBit saysSevenBit
 not-seven-bits c [] e h = refl
 not-seven-bits c (f ∷ fs) e h = rw (not-content f c (digits 1 1) (h .0) e, not-seven-bits c fs e (h .1))
 
-pub not-in-code : (w : Code) (c : List ℕ) (fs : List Field) → sameBytes c (mark w) ≡ false → AllHold c fs → hasCharset fs ≡ true → inCode w fs ≡ false
+pub not-in-code : (w : Code) (c : List ℕ) (fs : List Field) → sameBytes c (charsetOf w) ≡ false → AllHold c fs → hasCharset fs ≡ true → inCode w fs ≡ false
 unfolding inCode
 not-in-code Page437 c fs e h q = rw (not-says Page437 c fs e h, q)
 not-in-code Page1252 c fs e h q = not-says Page1252 c fs e h
 
 -- no mark is that of the other code page, and that of seven bits is none
-pub marks-differ : (w : Code) → (sameBytes (mark w) (mark (other w)) ≡ false) × (sameBytes (mark (other w)) (mark w) ≡ false)
+pub marks-differ : (w : Code) → (sameBytes (charsetOf w) (charsetOf (other w)) ≡ false) × (sameBytes (charsetOf (other w)) (charsetOf w) ≡ false)
 unfolding sameBytes
 marks-differ Page437 = (refl, refl)
 marks-differ Page1252 = (refl, refl)
 
-pub seven-no-mark : (w : Code) → sameBytes (digits 1 1) (mark w) ≡ false
+pub seven-no-mark : (w : Code) → sameBytes (digits 1 1) (charsetOf w) ≡ false
 unfolding sameBytes
 seven-no-mark Page437 = refl
 seven-no-mark Page1252 = refl

@@ -30,7 +30,7 @@ use Rattle.meaning.proofs.WriterLaws.{Single, role-at-set-level}
 use Rattle.meaning.proofs.SevenLaws.{seven-none, every-none, single-9206}
 use Rattle.meaning_recode.specs.declared.Code.{Code}
 use Rattle.meaning_recode.specs.declared.Code.the-variants.{Page437, Page1252}
-use Rattle.meaning_recode.specs.Recoding.{mark, hasCharset, withCharset}
+use Rattle.meaning_recode.specs.Recoding.{charsetOf, hasCharset, withCharset}
 
 -- ---- labels that nothing stands under
 
@@ -318,7 +318,7 @@ charset-table t = record { sum-row = single-8100 t; charset-row = single-9206 t;
 -- ---- the new line
 
 abbrev newLine : Code → Field
-newLine w = field 9206 (mark w)
+newLine w = field 9206 (charsetOf w)
 
 new-content : (w : Code) (r : Row) (p : Profile) (k : ℕ) → contentRules (atSetLevel r) p k (newLine w) ≡ []
 unfolding computes

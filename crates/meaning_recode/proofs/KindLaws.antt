@@ -21,7 +21,7 @@ use Rattle.meaning.proofs.DigitLaws.{plain-digits}
 use Rattle.meaning.proofs.FaultLaws.{ask-none, High, Plain}
 use Rattle.meaning_recode.specs.declared.Code.{Code}
 use Rattle.meaning_recode.specs.Codes.{noByte, recoded}
-use Rattle.meaning_recode.specs.Recoding.{unknownBytes, recodeField}
+use Rattle.meaning_recode.specs.Recoding.{noCharacterBytes, recodeField}
 use Rattle.meaning_recode.proofs.CodeLaws.{low-stays, high-stays}
 
 -- ---- every byte has a character in the wanted code page
@@ -29,13 +29,13 @@ use Rattle.meaning_recode.proofs.CodeLaws.{low-stays, high-stays}
 abbrev pub Told : Code → List ℕ → Type 0
 Told w c = Every (λ b. recoded w b ≡ noByte → ⊥) c
 
-pub told-back : (w : Code) (k i : ℕ) (c : List ℕ) → unknownBytes w k i c ≡ [] → Told w c
+pub told-back : (w : Code) (k i : ℕ) (c : List ℕ) → noCharacterBytes w k i c ≡ [] → Told w c
 told-back w k i [] e = tt
 told-back w k i (b ∷ bs) e =
-    let a = ask-none (not (eqb (recoded w b) noByte)) (atByte noSuchCharacter k i) (unknownBytes w k (suc i) bs) e in
+    let a = ask-none (not (eqb (recoded w b) noByte)) (atByte noSuchCharacter k i) (noCharacterBytes w k (suc i) bs) e in
     (eqb-false (recoded w b) noByte (not-true _ (a .0)), told-back w k (suc i) bs (a .1))
 
-pub told-none : (w : Code) (k i : ℕ) (c : List ℕ) → Told w c → unknownBytes w k i c ≡ []
+pub told-none : (w : Code) (k i : ℕ) (c : List ℕ) → Told w c → noCharacterBytes w k i c ≡ []
 told-none w k i [] h = refl
 told-none w k i (b ∷ bs) h = rw (ne-eqb (recoded w b) noByte (h .0)) (told-none w k (suc i) bs (h .1))
 

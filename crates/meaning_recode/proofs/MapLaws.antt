@@ -28,7 +28,7 @@ use Rattle.meaning.proofs.SetLaws.{Standing, second-fits}
 use Rattle.meaning_recode.specs.declared.Code.{Code}
 use Rattle.meaning_recode.specs.declared.Code.the-variants.{Page437, Page1252}
 use Rattle.meaning_recode.specs.Codes.{recoded}
-use Rattle.meaning_recode.specs.Recoding.{mark, recodeField, markField}
+use Rattle.meaning_recode.specs.Recoding.{charsetOf, recodeField, charsetField}
 use Rattle.meaning_recode.proofs.CodeLaws.{low-stays, high-stays}
 use Rattle.meaning_recode.proofs.KindLaws.{all-digits-kept, digits-stay, length-kept, fits-kept, same-kept, current-kept, high-kept}
 
@@ -210,24 +210,24 @@ module _ (w : Code) where
 -- ---- 9206 with another mark
 
 -- a line that is not 9206 stays
-pub mark-other : (w : Code) (f : Field) → (f .label ≡ 9206 → ⊥) → markField w f ≡ f
+pub mark-other : (w : Code) (f : Field) → (f .label ≡ 9206 → ⊥) → charsetField w f ≡ f
 mark-other w f n = rw (ne-eqb (f .label) 9206 n)
 
-pub one-byte : (w : Code) → length (mark w) ≡ 1
+pub one-byte : (w : Code) → length (charsetOf w) ≡ 1
 one-byte Page437 = refl
 one-byte Page1252 = refl
 
-mark-fits : (w : Code) (p : Profile) → fits p (field 9206 (mark w)) ≡ true
+mark-fits : (w : Code) (p : Profile) → fits p (field 9206 (charsetOf w)) ≡ true
 unfolding fits fitsLabel fitsRow fieldRow fieldRowIn fieldTable rowLabel hasLength ofKind isCharset firstIsIn elem
 mark-fits Page437 p = refl
 mark-fits Page1252 p = refl
 
-pub mark-sound : (w : Code) → Sound (field 9206 (mark w))
+pub mark-sound : (w : Code) → Sound (field 9206 (charsetOf w))
 mark-sound Page437 = omega arith
 mark-sound Page1252 = omega arith
 
 -- no set with this mark has seven bits
-pub mark-eight : (w : Code) → sameBytes (mark w) (digits 1 1) ≡ false
+pub mark-eight : (w : Code) → sameBytes (charsetOf w) (digits 1 1) ≡ false
 unfolding sameBytes
 mark-eight Page437 = refl
 mark-eight Page1252 = refl
@@ -243,52 +243,52 @@ charset-one p c e =
 
 module _ (w : Code) where
   -- what holds of a line that is 9206 with the mark, and of the line as it was, holds of the line after
-  pub pick : (P : Field → Type 0) (f : Field) → (f .label ≡ 9206 → P (field 9206 (mark w))) → ((f .label ≡ 9206 → ⊥) → P f) → P (markField w f)
+  pub pick : (P : Field → Type 0) (f : Field) → (f .label ≡ 9206 → P (field 9206 (charsetOf w))) → ((f .label ≡ 9206 → ⊥) → P f) → P (charsetField w f)
   pick P f marked as-it-was = go (eqb (f .label) 9206) refl
     where
-      go : (t : Bool) → eqb (f .label) 9206 ≡ t → P (cond t (field 9206 (mark w)) f)
+      go : (t : Bool) → eqb (f .label) 9206 ≡ t → P (cond t (field 9206 (charsetOf w)) f)
       go true e = marked (eqb-true (f .label) 9206 e)
       go false e = as-it-was (eqb-false (f .label) 9206 e)
 
-  mark-size : (p : Profile) (f : Field) → fits p f ≡ true → f .label ≡ 9206 → length (mark w) ≡ length (f .content)
+  mark-size : (p : Profile) (f : Field) → fits p f ≡ true → f .label ≡ 9206 → length (charsetOf w) ≡ length (f .content)
   mark-size p f h e = one-byte w ∙ sym (charset-one p (f .content) (subst (λ (l : ℕ). fits p (field l (f .content)) ≡ true) e h))
 
-  pub alters-mark : Alters (markField w)
+  pub alters-mark : Alters (charsetField w)
   alters-mark = record {
     label-so = λ f. pick (λ (x : Field). x .label ≡ f .label) f (λ e. sym e) (λ n. refl);
     fit-so = λ p f h.
-        pick (Fit p) f (λ e. record { right = mark-fits w p; version-right = not-version p (field 9206 (mark w)) (λ q. omega arith) }) (λ n. h);
+        pick (Fit p) f (λ e. record { right = mark-fits w p; version-right = not-version p (field 9206 (charsetOf w)) (λ q. omega arith) }) (λ n. h);
     size-so = λ p f h. pick (λ (x : Field). length (x .content) ≡ length (f .content)) f (mark-size p f h) (λ n. refl);
     sound-so = λ f h. pick Sound f (λ e. mark-sound w) (λ n. h);
     none-so = refl;
   }
 
-  says-not : (f : Field) → saysSevenBit (markField w f) ≡ false
+  says-not : (f : Field) → saysSevenBit (charsetField w f) ≡ false
   unfolding saysSevenBit
   says-not f = pick (λ (x : Field). saysSevenBit x ≡ false) f (λ e. mark-eight w) (λ n. not-seven f n)
 
-  pub not-seven-marked : (fs : List Field) → sevenBit (map (markField w) fs) ≡ false
+  pub not-seven-marked : (fs : List Field) → sevenBit (map (charsetField w) fs) ≡ false
   unfolding sevenBit
   not-seven-marked [] = refl
   not-seven-marked (f ∷ fs) = rw (says-not f, not-seven-marked fs)
 
-  high-marked : (fs : List Field) → highFaults (map (markField w) fs) ≡ []
+  high-marked : (fs : List Field) → highFaults (map (charsetField w) fs) ≡ []
   unfolding highFaults
   high-marked fs = rw (not-seven-marked fs)
 
   -- a line that is not 9206 keeps its content
-  content-marked : (fs : List Field) (k : ℕ) → (labelAtLine fs k ≡ 9206 → ⊥) → contentAtLine (map (markField w) fs) k ≡ contentAtLine fs k
-  content-marked fs k n = content-map (markField w) alters-mark fs k ∙ ap (λ (f : Field). f .content) (mark-other w (getD fs k noField) n)
+  content-marked : (fs : List Field) (k : ℕ) → (labelAtLine fs k ≡ 9206 → ⊥) → contentAtLine (map (charsetField w) fs) k ≡ contentAtLine fs k
+  content-marked fs k n = content-map (charsetField w) alters-mark fs k ∙ ap (λ (f : Field). f .content) (mark-other w (getD fs k noField) n)
 
-  pub profile-marked : (fs : List Field) → Ruled fs → profile (map (markField w) fs) ≡ profile fs
+  pub profile-marked : (fs : List Field) → Ruled fs → profile (map (charsetField w) fs) ≡ profile fs
   unfolding profile
   profile-marked fs r = rw (content-marked fs 0 (λ q. omega (arith, begins-of fs (r .begins) .first-label)))
 
-  pub ruled-marked : (fs : List Field) → Ruled fs → Ruled (map (markField w) fs)
-  ruled-marked fs r = ruled-map (markField w) alters-mark fs (profile-marked fs r) (high-marked fs) r
+  pub ruled-marked : (fs : List Field) → Ruled fs → Ruled (map (charsetField w) fs)
+  ruled-marked fs r = ruled-map (charsetField w) alters-mark fs (profile-marked fs r) (high-marked fs) r
 
-  pub marked-standing : (fs : List Field) → Standing fs → Standing (map (markField w) fs)
+  pub marked-standing : (fs : List Field) → Standing fs → Standing (map (charsetField w) fs)
   marked-standing fs st =
       let r : Ruled fs = ruled fs (st .right) .0 in
       let second = content-marked fs 1 (λ q. omega (arith, begins-of fs (r .begins) .second-label)) in
-      standing-map (markField w) alters-mark fs (profile-marked fs r) second (high-marked fs) st
+      standing-map (charsetField w) alters-mark fs (profile-marked fs r) second (high-marked fs) st

@@ -19,8 +19,8 @@ use Rattle.meaning.proofs.CorrectionLaws.{Change, upright, upright-recontent, a
 use Rattle.meaning_recode.specs.declared.Code.{Code}
 use Rattle.meaning_recode.specs.declared.Code.the-variants.{Page437, Page1252}
 use Rattle.meaning_recode.specs.Codes.{recoded}
-use Rattle.meaning_recode.specs.Recoding.{mark, saysCode, says, hasCharset, inCode, allRecoded, gains, addedFaults, unknownFrom, recodeFaults}
-use Rattle.meaning_recode.specs.Recoding.{recodeField, markField, withCharset, recodeLines}
+use Rattle.meaning_recode.specs.Recoding.{charsetOf, lineNamesCode, namesCode, hasCharset, inCode, allRecoded, gains, addedFaults, noCharacterFrom, recodeFaults}
+use Rattle.meaning_recode.specs.Recoding.{recodeField, charsetField, withCharset, recodeLines}
 use Rattle.meaning_recode.proofs.KindLaws.{Told, fits-kept, high-kept}
 use Rattle.meaning_recode.proofs.InsertLaws.{no-charset}
 use Rattle.meaning_recode.proofs.MapLaws.{Alters, line-map, alters-recode, profile-recoded, seven-kept, recoded-standing, mark-other, mark-eight, alters-mark}
@@ -41,26 +41,26 @@ contentInto w fs c = cond (allRecoded w fs) (map (recoded w) c) c
 
 -- ---- a corrected line is not 9206, so the set stays in its code page
 
-not-code : (w : Code) (f : Field) → (f .label ≡ 9206 → ⊥) → saysCode w f ≡ false
-unfolding saysCode
+not-code : (w : Code) (f : Field) → (f .label ≡ 9206 → ⊥) → lineNamesCode w f ≡ false
+unfolding lineNamesCode
 not-code w f h = rw (ne-eqb (f .label) 9206 h)
 
-sum-no-code : (w : Code) (m : ℕ) → saysCode w (sumField m) ≡ false
+sum-no-code : (w : Code) (m : ℕ) → lineNamesCode w (sumField m) ≡ false
 sum-no-code w m = not-code w (sumField m) (λ q. omega arith)
 
-says-keep : (w : Code) (fs : List Field) (i : ℕ) (g : Field) → g .label ≡ labelAtLine fs i → (g .label ≡ 9206 → ⊥) → says w (set fs i g) ≡ says w fs
-unfolding says
+says-keep : (w : Code) (fs : List Field) (i : ℕ) (g : Field) → g .label ≡ labelAtLine fs i → (g .label ≡ 9206 → ⊥) → namesCode w (set fs i g) ≡ namesCode w fs
+unfolding namesCode
 says-keep w [] i g e h = refl
 says-keep w (f ∷ fs) zero g e h = rw (not-code w g h, not-code w f (λ q. h (e ∙ q)))
-says-keep w (f ∷ fs) (suc i) g e h = ap (λ (b : Bool). saysCode w f || b) (says-keep w fs i g e h)
+says-keep w (f ∷ fs) (suc i) g e h = ap (λ (b : Bool). lineNamesCode w f || b) (says-keep w fs i g e h)
 
-says-resum : (w : Code) (fs : List Field) → labelAtLine fs 1 ≡ 8100 → says w (resum fs) ≡ says w fs
-unfolding says
+says-resum : (w : Code) (fs : List Field) → labelAtLine fs 1 ≡ 8100 → namesCode w (resum fs) ≡ namesCode w fs
+unfolding namesCode
 says-resum w [] e = refl
 says-resum w (f ∷ []) e = absurd (omega arith)
-says-resum w (f ∷ x ∷ fs) e = rw (not-code w x (λ q. omega arith)) (ap (λ (b : Bool). saysCode w f || (b || says w fs)) (sum-no-code w _))
+says-resum w (f ∷ x ∷ fs) e = rw (not-code w x (λ q. omega arith)) (ap (λ (b : Bool). lineNamesCode w f || (b || namesCode w fs)) (sum-no-code w _))
 
-same-code : (w : Code) (fs gs : List Field) → labels gs ≡ labels fs → says w gs ≡ says w fs → inCode w gs ≡ inCode w fs
+same-code : (w : Code) (fs gs : List Field) → labels gs ≡ labels fs → namesCode w gs ≡ namesCode w fs → inCode w gs ≡ inCode w fs
 unfolding inCode
 same-code Page437 fs gs l s = rw (s, l)
 same-code Page1252 fs gs l s = s
@@ -128,11 +128,11 @@ module _ (w : Code) where
   }
 
   -- 9206 given another mark
-  marked-corrects : (fs : List Field) (n : ℕ) (c : List ℕ) → Standing fs → Change fs n c → Corrects (map (markField w) fs) n c (map (markField w) (changed fs n c))
+  marked-corrects : (fs : List Field) (n : ℕ) (c : List ℕ) → Standing fs → Change fs n c → Corrects (map (charsetField w) fs) n c (map (charsetField w) (changed fs n c))
   marked-corrects fs n c st ch = record {
-    asked = change-map (markField w) (alters-mark w) fs n c c ch (profile-marked w fs (ruled fs (st .right) .0)) (ch .high) (ch .right)
+    asked = change-map (charsetField w) (alters-mark w) fs n c c ch (profile-marked w fs (ruled fs (st .right) .0)) (ch .high) (ch .right)
         (λ b. absurd (true≢false (sym b ∙ not-seven-marked w fs)));
-    lines-so = changed-map (markField w) (alters-mark w) fs n c c ch (mark-other w (field (labelAtLine fs (pred n)) c) (not-charset fs n c ch))
+    lines-so = changed-map (charsetField w) (alters-mark w) fs n c c ch (mark-other w (field (labelAtLine fs (pred n)) c) (not-charset fs n c ch))
         (marked-standing w (changed fs n c) (still-standing fs n c st ch));
   }
 
@@ -147,7 +147,7 @@ module _ (w : Code) where
   gained-corrects (f ∷ x ∷ fs) (suc (suc zero)) c q l ch = absurd (omega arith)
   gained-corrects (f ∷ x ∷ fs) (suc (suc (suc n))) c q l ch =
       let all : List Field = f ∷ x ∷ fs in
-      let eight : sevenBit (resum (withCharset w all)) ≡ false = not-seven-bits (mark w) (resum (withCharset w all)) (mark-eight w) (gained-hold w all (no-charset all q)) in
+      let eight : sevenBit (resum (withCharset w all)) ≡ false = not-seven-bits (charsetOf w) (resum (withCharset w all)) (mark-eight w) (gained-hold w all (no-charset all q)) in
       record {
         asked = record {
           least = omega arith;
@@ -163,7 +163,7 @@ module _ (w : Code) where
 -- ---- the lines are the same in either order
 
 module _ (w : Code) (fs : List Field) (n : ℕ) (c : List ℕ) (st : Standing fs) (ch : Change fs n c) where
-  says-changed : says w (changed fs n c) ≡ says w fs
+  says-changed : namesCode w (changed fs n c) ≡ namesCode w fs
   says-changed =
       let up = upright-recontent fs n c (upright fs st) ch in
       says-resum w (recontent fs (pred n) c) (begins-of (recontent fs (pred n) c) (up .rules .begins) .second-label)
@@ -187,9 +187,9 @@ module _ (w : Code) (fs : List Field) (n : ℕ) (c : List ℕ) (st : Standing fs
       all q = recoded-corrects w fs n c st q ch
 
       go : (i s : Bool) → sevenBit fs ≡ s → (h : Bool) → hasCharset fs ≡ h
-          → Corrects (cond i fs (cond s (map (markField w) fs) (cond h (map (markField w) (map (recodeField w) fs)) (resum (withCharset w (map (recodeField w) fs))))))
+          → Corrects (cond i fs (cond s (map (charsetField w) fs) (cond h (map (charsetField w) (map (recodeField w) fs)) (resum (withCharset w (map (recodeField w) fs))))))
           (cond (not (i || h) && leb 3 n) (n + 1) n) (cond (not (i || s)) (map (recoded w) c) c)
-          (cond i hs (cond s (map (markField w) hs) (cond h (map (markField w) (map (recodeField w) hs)) (resum (withCharset w (map (recodeField w) hs))))))
+          (cond i hs (cond s (map (charsetField w) hs) (cond h (map (charsetField w) (map (recodeField w) hs)) (resum (withCharset w (map (recodeField w) hs))))))
       go true s q h r = record { asked = ch; lines-so = refl }
       go false true q true r = marked-corrects w fs n c st ch
       go false true q false r = absurd (true≢false (sym (seven-has fs q) ∙ r))
@@ -216,7 +216,7 @@ recode-corrected w fs n c st ch t e =
     let a = append-none (addedFaults w fs) _ e in
     let same : allRecoded w hs ≡ allRecoded w fs = rw (code-changed w fs n c st ch, like .seven-so) in
     none-both (addedFaults w hs) _ (rw (code-changed w fs n c st ch, charset-changed w fs n c st ch, like .length-so) (a .0))
-    (if-none (allRecoded w hs) (unknownFrom w 0 hs) (λ b.
+    (if-none (allRecoded w hs) (noCharacterFrom w 0 hs) (λ b.
     let was : allRecoded w fs ≡ true = sym same ∙ b in
-    let told : AllTold w fs = unknown-back w 0 fs (if-back (allRecoded w fs) (unknownFrom w 0 fs) (a .1) was) in
+    let told : AllTold w fs = unknown-back w 0 fs (if-back (allRecoded w fs) (noCharacterFrom w 0 fs) (a .1) was) in
     unknown-none w 0 hs (told-resum w (recontent fs (pred n) c) (every-set (λ f. Told w (f .content)) fs (pred n) _ (t was) told))))

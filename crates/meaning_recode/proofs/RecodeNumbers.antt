@@ -15,7 +15,7 @@ use Rattle.meaning.proofs.NumberLaws.{Given, Numbered, given-append, given-cond
 use Rattle.meaning.proofs.NumberLaws.{OneOf, readNumbers, reads-so}
 use Rattle.meaning_recode.specs.declared.Code.{Code}
 use Rattle.meaning_recode.specs.Codes.{noByte, recoded}
-use Rattle.meaning_recode.specs.Recoding.{gains, allRecoded, unknownBytes, unknownFrom, recodeFaults, recodeLines, recodeSet, recode}
+use Rattle.meaning_recode.specs.Recoding.{gains, allRecoded, noCharacterBytes, noCharacterFrom, recodeFaults, recodeLines, recodeSet, recode}
 
 -- a set's own, 1 to 17 and 24, and those of the call
 abbrev pub recodeNumbers : List ℕ
@@ -24,23 +24,23 @@ recodeNumbers = readNumbers ++ (18 ∷ 22 ∷ 27 ∷ [])
 abbrev Own : ℕ → Type 0
 Own = OneOf recodeNumbers
 
-given-unknown : (w : Code) (k i : ℕ) (c : List ℕ) → Given Own (unknownBytes w k i c)
+given-unknown : (w : Code) (k i : ℕ) (c : List ℕ) → Given Own (noCharacterBytes w k i c)
 unfolding elem
 given-unknown w k i [] = tt
 given-unknown w k i (b ∷ c) =
-    given-rule Own (not (eqb (recoded w b) noByte)) (atByte noSuchCharacter k i) (unknownBytes w k (suc i) c) refl (given-unknown w k (suc i) c)
+    given-rule Own (not (eqb (recoded w b) noByte)) (atByte noSuchCharacter k i) (noCharacterBytes w k (suc i) c) refl (given-unknown w k (suc i) c)
 
-given-unknown-from : (w : Code) (k : ℕ) (fs : List Field) → Given Own (unknownFrom w k fs)
-unfolding unknownFrom
+given-unknown-from : (w : Code) (k : ℕ) (fs : List Field) → Given Own (noCharacterFrom w k fs)
+unfolding noCharacterFrom
 given-unknown-from w k [] = tt
 given-unknown-from w k (f ∷ fs) =
-    given-append Own (unknownBytes w k 0 (f .content)) (unknownFrom w (k + 1) fs) (given-unknown w k 0 (f .content)) (given-unknown-from w (k + 1) fs)
+    given-append Own (noCharacterBytes w k 0 (f .content)) (noCharacterFrom w (k + 1) fs) (given-unknown w k 0 (f .content)) (given-unknown-from w (k + 1) fs)
 
 given-recode : (w : Code) (fs : List Field) → Given Own (recodeFaults w fs)
 unfolding recodeFaults elem
 given-recode w fs =
     given-rule Own (not (gains w fs) || leb (length fs + 1) maxLines) (atLine tooManyLines (length fs) 0) _ refl
-    (given-cond Own (allRecoded w fs) (unknownFrom w 0 fs) [] (given-unknown-from w 0 fs) tt)
+    (given-cond Own (allRecoded w fs) (noCharacterFrom w 0 fs) [] (given-unknown-from w 0 fs) tt)
 
 pub recode-numbers : (b : List ℕ) (used : ℕ) (w : Code) → Numbered (OneOf recodeNumbers) (recode b used w)
 unfolding recode elem

@@ -22,7 +22,7 @@ use Rattle.meaning.proofs.SetLaws.{Standing}
 use Rattle.meaning.proofs.CorrectionLaws.{upright, two, standing-resum}
 use Rattle.meaning_recode.specs.declared.Code.{Code}
 use Rattle.meaning_recode.specs.declared.Code.the-variants.{Page437, Page1252}
-use Rattle.meaning_recode.specs.Recoding.{mark, saysCode, says, hasCharset, inCode, gains, addedFaults, recodeFaults, recodeField, markField, withCharset, recodeLines}
+use Rattle.meaning_recode.specs.Recoding.{charsetOf, lineNamesCode, namesCode, hasCharset, inCode, gains, addedFaults, recodeFaults, recodeField, charsetField, withCharset, recodeLines}
 use Rattle.meaning_recode.proofs.InsertLaws.{insert-charset}
 use Rattle.meaning_recode.proofs.MapLaws.{map-labels, size-map, alters-recode, recoded-standing, mark-sound, alters-mark, marked-standing}
 
@@ -69,7 +69,7 @@ module _ (w : Code) where
       gs = map (recodeField w) fs
 
       go : (i : Bool) → inCode w fs ≡ i → (s h : Bool) → hasCharset fs ≡ h
-          → Standing (cond i fs (cond s (map (markField w) fs) (cond h (map (markField w) (map (recodeField w) fs)) (resum (withCharset w (map (recodeField w) fs))))))
+          → Standing (cond i fs (cond s (map (charsetField w) fs) (cond h (map (charsetField w) (map (recodeField w) fs)) (resum (withCharset w (map (recodeField w) fs))))))
       go true p s h q = st
       go false p true h q = marked-standing w fs st
       go false p false true q = marked-standing w gs (recoded-standing w fs st)
@@ -91,16 +91,16 @@ has-then : (f : Field) (fs : List Field) → hasCharset fs ≡ true → hasChars
 unfolding elem
 has-then f fs e = or-right (eqb 9206 (f .label)) e
 
-pub says-9206 : (w : Code) (f : Field) → saysCode w f ≡ true → f .label ≡ 9206
-unfolding saysCode
+pub says-9206 : (w : Code) (f : Field) → lineNamesCode w f ≡ true → f .label ≡ 9206
+unfolding lineNamesCode
 says-9206 w f e = eqb-true (f .label) 9206 (and-left (eqb (f .label) 9206) _ e)
 
-pub says-has : (w : Code) (fs : List Field) → says w fs ≡ true → hasCharset fs ≡ true
-unfolding says
+pub says-has : (w : Code) (fs : List Field) → namesCode w fs ≡ true → hasCharset fs ≡ true
+unfolding namesCode
 says-has w [] e = absurd (true≢false (sym e))
-says-has w (f ∷ fs) e = go (saysCode w f) refl e (says-has w fs)
+says-has w (f ∷ fs) e = go (lineNamesCode w f) refl e (says-has w fs)
   where
-    go : (t : Bool) → saysCode w f ≡ t → t || says w fs ≡ true → (says w fs ≡ true → hasCharset fs ≡ true) → hasCharset (f ∷ fs) ≡ true
+    go : (t : Bool) → lineNamesCode w f ≡ t → t || namesCode w fs ≡ true → (namesCode w fs ≡ true → hasCharset fs ≡ true) → hasCharset (f ∷ fs) ≡ true
     go true p q later = has-here f fs (says-9206 w f p)
     go false p q later = has-then f fs (later q)
 
@@ -117,27 +117,27 @@ seven-has (f ∷ fs) e = go (saysSevenBit f) refl e (seven-has fs)
     go true p q later = has-here f fs (seven-9206 f p)
     go false p q later = has-then f fs (later q)
 
-says-mark : (w : Code) → saysCode w (field 9206 (mark w)) ≡ true
-unfolding saysCode
-says-mark w = bytes-same (mark w)
+says-mark : (w : Code) → lineNamesCode w (field 9206 (charsetOf w)) ≡ true
+unfolding lineNamesCode
+says-mark w = bytes-same (charsetOf w)
 
-pub says-marked : (w : Code) (fs : List Field) → hasCharset fs ≡ true → says w (map (markField w) fs) ≡ true
-unfolding says elem
+pub says-marked : (w : Code) (fs : List Field) → hasCharset fs ≡ true → namesCode w (map (charsetField w) fs) ≡ true
+unfolding namesCode elem
 says-marked w [] e = absurd (true≢false (sym e))
 says-marked w (f ∷ fs) e = go (eqb (f .label) 9206) refl (says-marked w fs)
   where
-    go : (t : Bool) → eqb (f .label) 9206 ≡ t → (hasCharset fs ≡ true → says w (map (markField w) fs) ≡ true)
-        → saysCode w (cond t (field 9206 (mark w)) f) || says w (map (markField w) fs) ≡ true
+    go : (t : Bool) → eqb (f .label) 9206 ≡ t → (hasCharset fs ≡ true → namesCode w (map (charsetField w) fs) ≡ true)
+        → lineNamesCode w (cond t (field 9206 (charsetOf w)) f) || namesCode w (map (charsetField w) fs) ≡ true
     go true p later = rw (says-mark w)
-    go false p later = or-right (saysCode w f) (later (sym (has-later f fs (eqb-false (f .label) 9206 p)) ∙ e))
+    go false p later = or-right (lineNamesCode w f) (later (sym (has-later f fs (eqb-false (f .label) 9206 p)) ∙ e))
 
-pub says-gained : (w : Code) (fs : List Field) → 2 ≤ length fs → says w (resum (withCharset w fs)) ≡ true
-unfolding says
+pub says-gained : (w : Code) (fs : List Field) → 2 ≤ length fs → namesCode w (resum (withCharset w fs)) ≡ true
+unfolding namesCode
 says-gained w [] l = absurd (omega arith)
 says-gained w (f ∷ []) l = absurd (omega arith)
-says-gained w (f ∷ g ∷ fs) l = or-right (saysCode w f) (or-right (saysCode w _) (rw (says-mark w)))
+says-gained w (f ∷ g ∷ fs) l = or-right (lineNamesCode w f) (or-right (lineNamesCode w _) (rw (says-mark w)))
 
-says-in : (w : Code) (fs : List Field) → says w fs ≡ true → inCode w fs ≡ true
+says-in : (w : Code) (fs : List Field) → namesCode w fs ≡ true → inCode w fs ≡ true
 unfolding inCode
 says-in Page437 fs e = rw e
 says-in Page1252 fs e = e
@@ -156,7 +156,7 @@ module _ (w : Code) (fs : List Field) (st : Standing fs) where
       gs = map (recodeField w) fs
 
       go : (i : Bool) → inCode w fs ≡ i → (s : Bool) → sevenBit fs ≡ s → (h : Bool) → hasCharset fs ≡ h
-          → inCode w (cond i fs (cond s (map (markField w) fs) (cond h (map (markField w) (map (recodeField w) fs)) (resum (withCharset w (map (recodeField w) fs)))))) ≡ true
+          → inCode w (cond i fs (cond s (map (charsetField w) fs) (cond h (map (charsetField w) (map (recodeField w) fs)) (resum (withCharset w (map (recodeField w) fs)))))) ≡ true
       go true p s q h r = p
       go false p true q h r = says-in w _ (says-marked w fs (seven-has fs q))
       go false p false q true r = says-in w _ (says-marked w gs (charset-kept w fs ∙ r))
@@ -174,10 +174,10 @@ module _ (w : Code) (fs : List Field) (st : Standing fs) where
       rules = ruled fs (st .right) .0
 
       go : (i s h : Bool) → not (i || h) ≡ false
-          → size (cond i fs (cond s (map (markField w) fs) (cond h (map (markField w) (map (recodeField w) fs)) (resum (withCharset w (map (recodeField w) fs)))))) ≡ size fs
+          → size (cond i fs (cond s (map (charsetField w) fs) (cond h (map (charsetField w) (map (recodeField w) fs)) (resum (withCharset w (map (recodeField w) fs)))))) ≡ size fs
       go true s h q = refl
-      go false true h q = size-map (markField w) (alters-mark w) (profile fs) first 0 fs (rules .each-line)
+      go false true h q = size-map (charsetField w) (alters-mark w) (profile fs) first 0 fs (rules .each-line)
       go false false true q =
-          size-map (markField w) (alters-mark w) (profile gs) first 0 gs (ruled gs (recoded-standing w fs st .right) .0 .each-line)
+          size-map (charsetField w) (alters-mark w) (profile gs) first 0 gs (ruled gs (recoded-standing w fs st .right) .0 .each-line)
           ∙ size-map (recodeField w) (alters-recode w) (profile fs) first 0 fs (rules .each-line)
       go false false false q = absurd (true≢false q)

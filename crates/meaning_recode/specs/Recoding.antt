@@ -22,26 +22,26 @@ use Rattle.meaning_recode.specs.Codes.{noByte, recoded}
 -- ---- the code page that a set is in
 
 -- what 9206 holds (document 002): "2=IBM(Standard) CP 437"; 3, "9206 = 3" of the request, is CP 1252
-abbrev pub mark : Code → List ℕ
-mark Page437 = digits 1 2
-mark Page1252 = digits 1 3
+abbrev pub charsetOf : Code → List ℕ
+charsetOf Page437 = digits 1 2
+charsetOf Page1252 = digits 1 3
 
 -- the line is 9206 and names this code page
-unfoldable pub saysCode : Code → Field → Bool
-saysCode w f = eqb (f .label) 9206 && sameBytes (f .content) (mark w)
+unfoldable pub lineNamesCode : Code → Field → Bool
+lineNamesCode w f = eqb (f .label) 9206 && sameBytes (f .content) (charsetOf w)
 
 -- a line of the set names this code page; in an accepted set at most one line is 9206
-unfoldable pub says : Code → List Field → Bool
-says w [] = false
-says w (f ∷ fs) = saysCode w f || says w fs
+unfoldable pub namesCode : Code → List Field → Bool
+namesCode w [] = false
+namesCode w (f ∷ fs) = lineNamesCode w f || namesCode w fs
 
 abbrev pub hasCharset : List Field → Bool
 hasCharset fs = elem 9206 (labels fs)
 
 -- the set is in this code page: "a set without 9206 counts as code page 437"
 unfoldable pub inCode : Code → List Field → Bool
-inCode Page437 fs = says Page437 fs || not (hasCharset fs)
-inCode Page1252 fs = says Page1252 fs
+inCode Page437 fs = namesCode Page437 fs || not (hasCharset fs)
+inCode Page1252 fs = namesCode Page1252 fs
 
 -- ---- what is refused
 
@@ -58,18 +58,18 @@ abbrev pub addedFaults : Code → List Field → List Fault
 addedFaults w fs = ask (not (gains w fs) || leb (length fs + 1) maxLines) (atLine tooManyLines (length fs) 0)
 
 -- 27, NoSuchCharacter: a fault for each byte of a content, from its byte i on, that becomes no byte of the wanted code page; in the line that has k lines before it
-abbrev pub unknownBytes : Code → ℕ → ℕ → List ℕ → List Fault
-unknownBytes w k i [] = []
-unknownBytes w k i (b ∷ bs) = ask (not (eqb (recoded w b) noByte)) (atByte noSuchCharacter k i) ++ unknownBytes w k (suc i) bs
+abbrev pub noCharacterBytes : Code → ℕ → ℕ → List ℕ → List Fault
+noCharacterBytes w k i [] = []
+noCharacterBytes w k i (b ∷ bs) = ask (not (eqb (recoded w b) noByte)) (atByte noSuchCharacter k i) ++ noCharacterBytes w k (suc i) bs
 
 -- of these lines, in their order; k lines stand before the first of them
-unfoldable pub unknownFrom : Code → ℕ → List Field → List Fault
-unknownFrom w k [] = []
-unknownFrom w k (f ∷ fs) = unknownBytes w k 0 (f .content) ++ unknownFrom w (k + 1) fs
+unfoldable pub noCharacterFrom : Code → ℕ → List Field → List Fault
+noCharacterFrom w k [] = []
+noCharacterFrom w k (f ∷ fs) = noCharacterBytes w k 0 (f .content) ++ noCharacterFrom w (k + 1) fs
 
 -- "TooManyLines ..; NoSuchCharacter (27), at the first such byte": a byte of the buffer as it was given (E5f)
 unfoldable pub recodeFaults : Code → List Field → List Fault
-recodeFaults w fs = addedFaults w fs ++ cond (allRecoded w fs) (unknownFrom w 0 fs) []
+recodeFaults w fs = addedFaults w fs ++ cond (allRecoded w fs) (noCharacterFrom w 0 fs) []
 
 -- ---- what is made
 
@@ -78,22 +78,22 @@ abbrev pub recodeField : Code → Field → Field
 recodeField w f = field (f .label) (map (recoded w) (f .content))
 
 -- 9206 names the wanted code page; any other line stays as it is
-abbrev pub markField : Code → Field → Field
-markField w f = cond (eqb (f .label) 9206) (field 9206 (mark w)) f
+abbrev pub charsetField : Code → Field → Field
+charsetField w f = cond (eqb (f .label) 9206) (field 9206 (charsetOf w)) f
 
 -- "gains that line as line 3"; only asked if 1252 is wanted
 abbrev pub withCharset : Code → List Field → List Field
 withCharset w [] = []
 withCharset w (f ∷ []) = f ∷ []
-withCharset w (f ∷ g ∷ fs) = f ∷ g ∷ field 9206 (mark w) ∷ fs
+withCharset w (f ∷ g ∷ fs) = f ∷ g ∷ field 9206 (charsetOf w) ∷ fs
 
 -- every content in the wanted code page; 9206 names it where it stands; a set without 9206 gains it as line 3, and 8100 counts it (E5e)
-abbrev pub allLines : Code → List Field → List Field
-allLines w fs = cond (hasCharset fs) (map (markField w) (map (recodeField w) fs)) (resum (withCharset w (map (recodeField w) fs)))
+abbrev pub recodedWhole : Code → List Field → List Field
+recodedWhole w fs = cond (hasCharset fs) (map (charsetField w) (map (recodeField w) fs)) (resum (withCharset w (map (recodeField w) fs)))
 
 -- "A set already in the wanted code stays as it is. Sets with 9206 = 1 only change that content" (E5c, E5d)
 unfoldable pub recodeLines : Code → List Field → List Field
-recodeLines w fs = cond (inCode w fs) fs (cond (sevenBit fs) (map (markField w) fs) (allLines w fs))
+recodeLines w fs = cond (inCode w fs) fs (cond (sevenBit fs) (map (charsetField w) fs) (recodedWhole w fs))
 
 -- ---- the call
 

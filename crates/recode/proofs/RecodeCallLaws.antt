@@ -31,7 +31,7 @@ use Rattle.meaning.proofs.SevenLaws.{seven-none}
 use Rattle.meaning.proofs.CorrectionLaws.{leaves}
 use Rattle.meaning_recode.specs.declared.Code.{Code}
 use Rattle.meaning_recode.specs.Codes.{tableInto}
-use Rattle.meaning_recode.specs.Recoding.{hasCharset, inCode, allRecoded, addedFaults, unknownFrom, recodeFaults, recodeField, markField, withCharset, recodeLines, recodeSet, recode}
+use Rattle.meaning_recode.specs.Recoding.{hasCharset, inCode, allRecoded, addedFaults, noCharacterFrom, recodeFaults, recodeField, charsetField, withCharset, recodeLines, recodeSet, recode}
 use Rattle.line_find.proofs.FirstPlaceLaws.{FirstLine, NoLine, first-or-none, place-is}
 use Rattle.correct_plan.proofs.TotalLaws.{Headed, headed, size-at}
 use Rattle.correct.proofs.CorrectLaws.{refused-read}
@@ -160,9 +160,9 @@ only-9206 fs st n = go (first-or-none 9206 fs)
     go (inr x) = absurd (n x)
 
 -- every content has a character in the wanted code page
-all-known : (w : Code) (fs : List Field) → recodeFaults w fs ≡ [] → inCode w fs ≡ false → sevenBit fs ≡ false → unknownFrom w 0 fs ≡ []
+all-known : (w : Code) (fs : List Field) → recodeFaults w fs ≡ [] → inCode w fs ≡ false → sevenBit fs ≡ false → noCharacterFrom w 0 fs ≡ []
 unfolding recodeFaults allRecoded
-all-known w fs e a v = sym (rw (a, v) refl) ∙ append-none (addedFaults w fs) (cond (allRecoded w fs) (unknownFrom w 0 fs) []) e .1
+all-known w fs e a v = sym (rw (a, v) refl) ∙ append-none (addedFaults w fs) (cond (allRecoded w fs) (noCharacterFrom w 0 fs) []) e .1
 
 -- ---- what is answered, and what the buffer then holds
 
@@ -208,7 +208,7 @@ module _ (b : List ℕ) (used : ℕ) (w : Code) (h : used ≤ length b) where
     unfolding recodeLines
     marks-made =
         let one = one-byte (profile marked) marked (ruled marked (marking .stand .right) .0 .each-line) in
-        called-by b used w (Marks place) marking (map (markField w) marked) used (zeroedAfter used (remarked place w b)) (rw (why-marks .0, why-marks .1) refl)
+        called-by b used w (Marks place) marking (map (charsetField w) marked) used (zeroedAfter used (remarked place w b)) (rw (why-marks .0, why-marks .1) refl)
         (marking .used-so ∙ sym (size-marked w marked one))
         (ap (λ (p : ℕ). zeroedAfter used (remarked p w b)) place-marks ∙ leaves-marked b used marked (marking .bytes) (marking .used-so) w (has-9206 .0) (has-9206 .1) one)
 
@@ -235,7 +235,7 @@ module _ (b : List ℕ) (used : ℕ) (w : Code) (h : used ≤ length b) where
     unfolding recodeLines
     recodes-made =
         let one = one-byte (profile lines-now) lines-now (ruled lines-now (recoding .stand .right) .0 .each-line) in
-        let new : List Field = map (markField w) (map (recodeField w) lines-now) in
+        let new : List Field = map (charsetField w) (map (recodeField w) lines-now) in
         let n : size new ≡ size lines-now = size-marked w (map (recodeField w) lines-now) (one-byte-recoded w lines-now one) ∙ size-recoded w lines-now in
         called-by b used w (Recodes place) recoding new used (zeroedAfter used (remarked place w (mappedFront (tableInto w) used b)))
         (rw (why-recodes .0, why-recodes .1, why-recodes .2) refl) (recoding .used-so ∙ sym n)

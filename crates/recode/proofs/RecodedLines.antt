@@ -29,7 +29,7 @@ use Rattle.meaning.proofs.WriterLaws.{Single}
 use Rattle.meaning.proofs.SevenLaws.{single-9206, only, no-table}
 use Rattle.meaning_recode.specs.declared.Code.{Code}
 use Rattle.meaning_recode.specs.Codes.{noByte, tableInto, recoded}
-use Rattle.meaning_recode.specs.Recoding.{mark, unknownBytes, unknownFrom, recodeField, markField, withCharset}
+use Rattle.meaning_recode.specs.Recoding.{charsetOf, noCharacterBytes, noCharacterFrom, recodeField, charsetField, withCharset}
 use Rattle.meaning_recode.proofs.CodeLaws.{low-stays, high-stays}
 use Rattle.byte_put.specs.Places.{over}
 use Rattle.byte_high.specs.High.{sevenBits}
@@ -74,14 +74,14 @@ module _ (w : Code) where
   entry-is : (b : ℕ) → (recoded w b ≡ noByte → ⊥) → entry t b ≡ recoded w b
   entry-is b n = let h = recoded-byte b n in omega (arith, h)
 
-  content-mapped : (k i : ℕ) (c : List ℕ) → unknownBytes w k i c ≡ [] → mapped t c ≡ map (recoded w) c
+  content-mapped : (k i : ℕ) (c : List ℕ) → noCharacterBytes w k i c ≡ [] → mapped t c ≡ map (recoded w) c
   unfolding mapped
   content-mapped k i [] e = refl
   content-mapped k i (b ∷ c) e =
-      let a = ask-none (not (eqb (recoded w b) noByte)) (atByte noSuchCharacter k i) (unknownBytes w k (suc i) c) e in
+      let a = ask-none (not (eqb (recoded w b) noByte)) (atByte noSuchCharacter k i) (noCharacterBytes w k (suc i) c) e in
       ap₂ (λ (x : ℕ) (y : List ℕ). x ∷ y) (entry-is b (eqb-false (recoded w b) noByte (not-true (eqb (recoded w b) noByte) (a .0)))) (content-mapped k (suc i) c (a .1))
 
-  line-mapped : (k : ℕ) (f : Field) (u : List ℕ) → unknownBytes w k 0 (f .content) ≡ [] → mapped t (lineThen f u) ≡ lineThen (recodeField w f) (mapped t u)
+  line-mapped : (k : ℕ) (f : Field) (u : List ℕ) → noCharacterBytes w k 0 (f .content) ≡ [] → mapped t (lineThen f u) ≡ lineThen (recodeField w f) (mapped t u)
   line-mapped k f u e =
       let three : List ℕ = digits lengthDigits (lineSize f) in
       let four : List ℕ = digits labelDigits (f .label) in
@@ -94,11 +94,11 @@ module _ (w : Code) where
       ∙ ap₂ (λ (x y : List ℕ). x ++ y) (digits-mapped labelDigits (f .label))
       (mapped-both t (f .content) (cr ∷ lf ∷ u) ∙ ap₂ (λ (x y : List ℕ). x ++ y) (content-mapped k 0 (f .content) e) end))
 
-  lines-mapped : (k : ℕ) (fs : List Field) → unknownFrom w k fs ≡ [] → mapped t (render fs []) ≡ render (map (recodeField w) fs) []
-  unfolding unknownFrom
+  lines-mapped : (k : ℕ) (fs : List Field) → noCharacterFrom w k fs ≡ [] → mapped t (render fs []) ≡ render (map (recodeField w) fs) []
+  unfolding noCharacterFrom
   lines-mapped k [] e = every-entry t (table-codes w) [] tt
   lines-mapped k (f ∷ fs) e =
-      let a = append-none (unknownBytes w k 0 (f .content)) (unknownFrom w (k + 1) fs) e in
+      let a = append-none (noCharacterBytes w k 0 (f .content)) (noCharacterFrom w (k + 1) fs) e in
       line-mapped k f (render fs []) (a .0) ∙ ap (lineThen (recodeField w f)) (lines-mapped (k + 1) fs (a .1))
 
 -- ---- the byte that names the code page is 9206 marked
@@ -111,7 +111,7 @@ pub record OnlyLine (fs : List Field) (j : ℕ) : Type 0 where
   pub others : (i : ℕ) → i < length fs → labelAtLine fs i ≡ 9206 → i ≡ j
 
 module _ (w : Code) where
-  none-marked : (fs : List Field) → ((i : ℕ) → i < length fs → labelAtLine fs i ≢ 9206) → map (markField w) fs ≡ fs
+  none-marked : (fs : List Field) → ((i : ℕ) → i < length fs → labelAtLine fs i ≢ 9206) → map (charsetField w) fs ≡ fs
   none-marked [] h = refl
   none-marked (f ∷ fs) h = rw (ne-eqb (f .label) 9206 (h 0 (omega arith))) (ap (λ (x : List Field). f ∷ x) (none-marked fs (λ i l. h (suc i) (omega arith))))
 
@@ -131,21 +131,21 @@ module _ (w : Code) where
   one-byte-so (x ∷ y ∷ c) e = absurd (omega arith)
 
   -- a line of 9206 with its one byte stored
-  line-marked : (f : Field) (u : List ℕ) → f .label ≡ 9206 → length (f .content) ≡ 1 → set (lineThen f u) lineLead (getD (mark w) 0 0) ≡ lineThen (field 9206 (mark w)) u
+  line-marked : (f : Field) (u : List ℕ) → f .label ≡ 9206 → length (f .content) ≡ 1 → set (lineThen f u) lineLead (getD (charsetOf w) 0 0) ≡ lineThen (field 9206 (charsetOf w)) u
   line-marked f u l n =
       let c = one-byte-so (f .content) n in
       let lead : List ℕ = digits lengthDigits 10 ++ digits labelDigits 9206 in
       let was : lineThen f u ≡ lead ++ (c .0 ∷ cr ∷ lf ∷ u) = ap₂ (λ (k : ℕ) (x : List ℕ). lineThen (field k x) u) l (c .1) in
-      let is : lineThen (field 9206 (mark w)) u ≡ lead ++ (getD (mark w) 0 0 ∷ cr ∷ lf ∷ u) = ap (λ (x : List ℕ). lineThen (field 9206 x) u) (mark-one w) in
-      ap (λ (x : List ℕ). set x lineLead (getD (mark w) 0 0)) was ∙ (set-at lead (c .0) (cr ∷ lf ∷ u) (getD (mark w) 0 0) lineLead refl ∙ sym is)
+      let is : lineThen (field 9206 (charsetOf w)) u ≡ lead ++ (getD (charsetOf w) 0 0 ∷ cr ∷ lf ∷ u) = ap (λ (x : List ℕ). lineThen (field 9206 x) u) (mark-one w) in
+      ap (λ (x : List ℕ). set x lineLead (getD (charsetOf w) 0 0)) was ∙ (set-at lead (c .0) (cr ∷ lf ∷ u) (getD (charsetOf w) 0 0) lineLead refl ∙ sym is)
 
-  pub lines-marked : (fs : List Field) (j : ℕ) → OnlyLine fs j → set (render fs []) (offset fs j + lineLead) (getD (mark w) 0 0) ≡ render (map (markField w) fs) []
+  pub lines-marked : (fs : List Field) (j : ℕ) → OnlyLine fs j → set (render fs []) (offset fs j + lineLead) (getD (charsetOf w) 0 0) ≡ render (map (charsetField w) fs) []
   lines-marked [] j o = absurd (omega (arith, o .inside))
   lines-marked (f ∷ fs) zero o =
-      let rest : map (markField w) fs ≡ fs = none-marked fs (λ i l e. let z = o .others (suc i) (omega arith) e in absurd (omega (arith, z))) in
+      let rest : map (charsetField w) fs ≡ fs = none-marked fs (λ i l e. let z = o .others (suc i) (omega arith) e in absurd (omega (arith, z))) in
       rw (rest, eq-eqb (f .label) 9206 (o .named)) (line-marked f (render fs []) (o .named) (o .one))
   lines-marked (f ∷ fs) (suc j) o =
-      let m : ℕ = getD (mark w) 0 0 in
+      let m : ℕ = getD (charsetOf w) 0 0 in
       let rest : OnlyLine fs j =
       record { inside = omega (arith, o .inside); named = o .named; one = o .one; others = λ i l e. let z = o .others (suc i) (omega arith) e in omega (arith, z) } in
       let no : f .label ≢ 9206 = λ e. let z = o .others 0 (omega arith) e in absurd (omega (arith, z)) in
@@ -153,7 +153,7 @@ module _ (w : Code) where
       rw (ne-eqb (f .label) 9206 no)
       (ap₂ (λ (x : List ℕ) (n : ℕ). set x n m) (line-append f (render fs [])) at
       ∙ (set-after (lineThen f []) (render fs []) (offset fs j + lineLead) m
-      ∙ (ap (λ (x : List ℕ). lineThen f [] ++ x) (lines-marked fs j rest) ∙ sym (line-append f (render (map (markField w) fs) [])))))
+      ∙ (ap (λ (x : List ℕ). lineThen f [] ++ x) (lines-marked fs j rest) ∙ sym (line-append f (render (map (charsetField w) fs) [])))))
 
   label-recoded : (fs : List Field) (i : ℕ) → labelAtLine (map (recodeField w) fs) i ≡ labelAtLine fs i
   label-recoded [] i = refl
@@ -232,19 +232,19 @@ module _ (b : List ℕ) (used : ℕ) (fs : List Field) (by : take used b ≡ ren
   leaves-same = ap (zeroedAfter used) whole ∙ zeroed-leaves b after used fs u (sym (ap length whole))
 
   -- 9206 is marked in lines that stand there
-  marked-leaves : (gs : List Field) (j : ℕ) → OnlyLine gs j → size gs ≡ size fs → offset gs j + lineLead < size gs → size (map (markField w) gs) ≡ size fs
-      → zeroedAfter used (remarked (offset gs j + lineLead) w (render gs [] ++ after)) ≡ leaves (map (markField w) gs) b
+  marked-leaves : (gs : List Field) (j : ℕ) → OnlyLine gs j → size gs ≡ size fs → offset gs j + lineLead < size gs → size (map (charsetField w) gs) ≡ size fs
+      → zeroedAfter used (remarked (offset gs j + lineLead) w (render gs [] ++ after)) ≡ leaves (map (charsetField w) gs) b
   marked-leaves gs j o n i k =
-      ap (zeroedAfter used) (set-front gs after (offset gs j + lineLead) (getD (mark w) 0 0) i ∙ ap (λ (x : List ℕ). x ++ after) (lines-marked w gs j o))
-      ∙ zeroed-leaves b after used (map (markField w) gs) (omega (arith, u, k)) (same-long (map (markField w) gs) k)
+      ap (zeroedAfter used) (set-front gs after (offset gs j + lineLead) (getD (charsetOf w) 0 0) i ∙ ap (λ (x : List ℕ). x ++ after) (lines-marked w gs j o))
+      ∙ zeroed-leaves b after used (map (charsetField w) gs) (omega (arith, u, k)) (same-long (map (charsetField w) gs) k)
 
-  pub leaves-marked : (j : ℕ) → OnlyLine fs j → OneByte fs → zeroedAfter used (remarked (offset fs j + lineLead) w b) ≡ leaves (map (markField w) fs) b
+  pub leaves-marked : (j : ℕ) → OnlyLine fs j → OneByte fs → zeroedAfter used (remarked (offset fs j + lineLead) w b) ≡ leaves (map (charsetField w) fs) b
   leaves-marked j o n =
       ap (λ (x : List ℕ). zeroedAfter used (remarked (offset fs j + lineLead) w x)) whole
       ∙ marked-leaves fs j o refl (omega (arith, size-at fs j (o .inside))) (size-marked w fs n)
 
   -- every content is recoded
-  module _ (known : unknownFrom w 0 fs ≡ []) where
+  module _ (known : noCharacterFrom w 0 fs ≡ []) where
     abbrev gs : List Field
     gs = map (recodeField w) fs
 
@@ -253,7 +253,7 @@ module _ (b : List ℕ) (used : ℕ) (fs : List Field) (by : take used b ≡ ren
     front-recoded = ap (λ (x : List ℕ). mapped (tableInto w) x ++ after) by ∙ ap (λ (x : List ℕ). x ++ after) (lines-mapped w 0 fs known)
 
     pub leaves-recoded : (j : ℕ) → OnlyLine fs j → OneByte fs
-        → zeroedAfter used (remarked (offset fs j + lineLead) w (mappedFront (tableInto w) used b)) ≡ leaves (map (markField w) gs) b
+        → zeroedAfter used (remarked (offset fs j + lineLead) w (mappedFront (tableInto w) used b)) ≡ leaves (map (charsetField w) gs) b
     leaves-recoded j o n =
         let at : offset gs j ≡ offset fs j = offset-recoded w fs j in
         let k : size gs ≡ size fs = size-recoded w fs in
@@ -264,12 +264,12 @@ module _ (b : List ℕ) (used : ℕ) (fs : List Field) (by : take used b ≡ ren
 gained-bytes : (w : Code) (f g : Field) (others : List Field) (r : List ℕ) (used : ℕ) → length (f .content) ≡ 4 → length (g .content) ≡ sumDigits → g .label ≡ 8100
     → used ≡ size (f ∷ g ∷ others)
     → withLine w used (render (f ∷ g ∷ others) [] ++ r)
-    ≡ render (f ∷ sumField (used + gainedBytes) ∷ field 9206 (mark w) ∷ others) (replicate (length (render (f ∷ g ∷ others) [] ++ r) - (used + gainedBytes)) 0)
+    ≡ render (f ∷ sumField (used + gainedBytes) ∷ field 9206 (charsetOf w) ∷ others) (replicate (length (render (f ∷ g ∷ others) [] ++ r) - (used + gainedBytes)) 0)
 unfolding withLine
 gained-bytes w f g others r used four five l u =
     let p : List ℕ = render (f ∷ g ∷ []) [] in
     let q : List ℕ = render others [] in
-    let c : Field = field 9206 (mark w) in
+    let c : Field = field 9206 (charsetOf w) in
     let line : List ℕ = lineThen c [] in
     let b : List ℕ = render (f ∷ g ∷ others) [] ++ r in
     let z : List ℕ = replicate (length b - (used + gainedBytes)) 0 in
@@ -287,9 +287,9 @@ gained-bytes w f g others r used four five l u =
     ∙ ap₂ (λ (x : List ℕ) (m : ℕ). p ++ (line ++ (q ++ replicate (length x - m) 0))) (sym split) k
     ∙ join in
     ap (over sumPlace (digits sumDigits (used + gainedBytes))) put
-    ∙ sum-replaced f g (field 9206 (mark w) ∷ others) z (used + gainedBytes) four five l
+    ∙ sum-replaced f g (field 9206 (charsetOf w) ∷ others) z (used + gainedBytes) four five l
 
-module _ (b : List ℕ) (used : ℕ) (fs : List Field) (by : take used b ≡ render fs []) (u : used ≡ size fs) (w : Code) (known : unknownFrom w 0 fs ≡ []) where
+module _ (b : List ℕ) (used : ℕ) (fs : List Field) (by : take used b ≡ render fs []) (u : used ≡ size fs) (w : Code) (known : noCharacterFrom w 0 fs ≡ []) where
   pub leaves-gained : Headed fs → withLine w used (mappedFront (tableInto w) used b) ≡ leaves (resum (withCharset w (map (recodeField w) fs))) b
   leaves-gained h = ap (withLine w used) (front-recoded b used fs by u w known) ∙ go fs u h (same-long b used fs by u w (map (recodeField w) fs) (size-recoded w fs))
     where
@@ -301,7 +301,7 @@ module _ (b : List ℕ) (used : ℕ) (fs : List Field) (by : take used b ≡ ren
           let new : List Field = resum (withCharset w (map (recodeField w) (f ∷ g ∷ fs))) in
           let m : used + gainedBytes ≡ size new = omega (arith, n, size-gained w (f ∷ g ∷ fs) h) in
           let k : used ≡ size (map (recodeField w) (f ∷ g ∷ fs)) = n ∙ sym (size-recoded w (f ∷ g ∷ fs)) in
-          let rest : List Field = field 9206 (mark w) ∷ map (recodeField w) fs in
+          let rest : List Field = field 9206 (charsetOf w) ∷ map (recodeField w) fs in
           let sum : used + gainedBytes ≡ lineSize (recodeField w f) + (sumLine + size rest) = omega (arith, m) in
           let all : List ℕ = render (map (recodeField w) (f ∷ g ∷ fs)) [] ++ drop used b in
           let z : List ℕ = replicate (length all - (used + gainedBytes)) 0 in

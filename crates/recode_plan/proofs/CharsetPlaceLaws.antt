@@ -21,11 +21,11 @@ use Rattle.meaning.proofs.WriterLaws.{Single}
 use Rattle.meaning.proofs.SevenLaws.{single-9206, only, no-table, charset-digit, line-fits-at}
 use Rattle.meaning_recode.specs.declared.Code.{Code}
 use Rattle.meaning_recode.specs.declared.Code.the-variants.{Page437, Page1252}
-use Rattle.meaning_recode.specs.Recoding.{mark, saysCode, says, hasCharset, inCode}
+use Rattle.meaning_recode.specs.Recoding.{charsetOf, lineNamesCode, namesCode, hasCharset, inCode}
 use Rattle.line_find.proofs.FirstPlaceLaws.{NoLine}
 
 -- 9206 names a code page by one byte
-pub mark-one : (w : Code) → mark w ≡ getD (mark w) 0 0 ∷ []
+pub mark-one : (w : Code) → charsetOf w ≡ getD (charsetOf w) 0 0 ∷ []
 mark-one Page437 = refl
 mark-one Page1252 = refl
 
@@ -49,16 +49,16 @@ has-one (f ∷ fs) (suc k) l e = go (eqb 9206 (f .label)) (has-one fs k (omega a
 -- ---- what it names
 
 module _ (w : Code) where
-  not-says : (f : Field) → (f .label ≡ 9206 → ⊥) → saysCode w f ≡ false
-  unfolding saysCode
+  not-says : (f : Field) → (f .label ≡ 9206 → ⊥) → lineNamesCode w f ≡ false
+  unfolding lineNamesCode
   not-says f n = rw (ne-eqb (f .label) 9206 n)
 
-  says-by-content : (f : Field) → f .label ≡ 9206 → saysCode w f ≡ sameBytes (f .content) (mark w)
-  unfolding saysCode
+  says-by-content : (f : Field) → f .label ≡ 9206 → lineNamesCode w f ≡ sameBytes (f .content) (charsetOf w)
+  unfolding lineNamesCode
   says-by-content f e = rw (eq-eqb (f .label) 9206 e)
 
-  pub says-none : (fs : List Field) → NoLine 9206 fs → says w fs ≡ false
-  unfolding says
+  pub says-none : (fs : List Field) → NoLine 9206 fs → namesCode w fs ≡ false
+  unfolding namesCode
   says-none [] h = refl
   says-none (f ∷ fs) h = rw (not-says f (h 0 (omega arith))) (says-none fs (λ k l. h (suc k) (omega arith)))
 
@@ -67,8 +67,8 @@ module _ (w : Code) where
   or-no false = refl
 
   says-from : (p : Profile) → Single 9206 (find (rowsOf p) 9206) → (st : State) (k : ℕ) (fs : List Field) → rulesFrom p st k fs ≡ []
-      → (j : ℕ) → j < length fs → labelAtLine fs j ≡ 9206 → says w fs ≡ sameBytes (contentAtLine fs j) (mark w)
-  unfolding says rulesFrom
+      → (j : ℕ) → j < length fs → labelAtLine fs j ≡ 9206 → namesCode w fs ≡ sameBytes (contentAtLine fs j) (charsetOf w)
+  unfolding namesCode rulesFrom
   says-from p s st k [] h j l e = absurd (omega arith)
   says-from p s st k (f ∷ fs) h zero l e = rw (says-none fs (only p s st k f fs h e), or-no) (says-by-content f e)
   says-from p s st k (f ∷ fs) h (suc j) l e =
@@ -77,11 +77,11 @@ module _ (w : Code) where
 
   -- of lines that keep 11 to 13 the line that is 9206 decides, since it is the only one
   says-once : (p : Profile) (fs : List Field) → rulesFrom p first 0 fs ≡ [] → (k : ℕ) → k < length fs → labelAtLine fs k ≡ 9206
-      → says w fs ≡ sameBytes (contentAtLine fs k) (mark w)
+      → namesCode w fs ≡ sameBytes (contentAtLine fs k) (charsetOf w)
   says-once p fs = go (p .setType)
     where
       go : (t : Known) → rulesFrom (record { setType = t }) first 0 fs ≡ [] → (k : ℕ) → k < length fs → labelAtLine fs k ≡ 9206
-          → says w fs ≡ sameBytes (contentAtLine fs k) (mark w)
+          → namesCode w fs ≡ sameBytes (contentAtLine fs k) (charsetOf w)
       go (Of t) h = says-from (record { setType = Of t }) (single-9206 t) first 0 fs h
       go Nothing h = λ k l e. absurd (no-table fs h k l)
 
@@ -92,8 +92,8 @@ module _ (p : Profile) (fs : List Field) (h : rulesFrom p first 0 fs ≡ []) (k 
   fits-9206 = subst (λ (m : ℕ). fitsLabel m (contentAtLine fs k) ≡ true) e (line-fits-at p first 0 fs h k l)
 
   -- which decides
-  pub says-digit : (w : Code) → says w fs ≡ eqb (getD (contentAtLine fs k) 0 0) (getD (mark w) 0 0)
-  says-digit w = says-once w p fs h k l e ∙ (ap (sameBytes (contentAtLine fs k)) (mark-one w) ∙ charset-digit (contentAtLine fs k) (getD (mark w) 0 0) fits-9206)
+  pub says-digit : (w : Code) → namesCode w fs ≡ eqb (getD (contentAtLine fs k) 0 0) (getD (charsetOf w) 0 0)
+  says-digit w = says-once w p fs h k l e ∙ (ap (sameBytes (contentAtLine fs k)) (mark-one w) ∙ charset-digit (contentAtLine fs k) (getD (charsetOf w) 0 0) fits-9206)
 
   pub charset-byte : length (contentAtLine fs k) ≡ 1
   unfolding fitsLabel fitsRow fieldRow fieldRowIn fieldTable rowLabel hasLength
@@ -105,9 +105,9 @@ module _ (p : Profile) (fs : List Field) (h : rulesFrom p first 0 fs ≡ []) (k 
       omega (arith, lo, hi)
 
   -- a set with 9206 is in a code page exactly if 9206 names it
-  pub in-marked : (w : Code) → inCode w fs ≡ says w fs
+  pub in-marked : (w : Code) → inCode w fs ≡ namesCode w fs
   unfolding inCode
-  in-marked Page437 = rw (has-one fs k l e) (or-false (says Page437 fs))
+  in-marked Page437 = rw (has-one fs k l e) (or-false (namesCode Page437 fs))
     where
       or-false : (b : Bool) → b || not true ≡ b
       or-false true = refl

@@ -31,7 +31,7 @@ use Rattle.meaning.proofs.Demands.{judge-read}
 use Rattle.meaning_recode.specs.declared.Code.{Code}
 use Rattle.meaning_recode.specs.declared.Code.the-variants.{Page437, Page1252}
 use Rattle.meaning_recode.specs.Codes.{tableInto}
-use Rattle.meaning_recode.specs.Recoding.{mark, hasCharset, inCode, allRecoded, recodeFaults, recodeField, markField, withCharset, recodeLines}
+use Rattle.meaning_recode.specs.Recoding.{charsetOf, hasCharset, inCode, allRecoded, recodeFaults, recodeField, charsetField, withCharset, recodeLines}
 use Rattle.line_find.specs.FirstPlace.{firstPlace}
 use Rattle.line_find.proofs.FirstPlaceLaws.{FirstLine, NoLine, first-or-none, place-is, place-absent, first-byte}
 use Rattle.recode_bytes.specs.Mapped.{firstWithout}
@@ -67,21 +67,21 @@ module _ (fs : List Field) (st : Standing fs) (room : ℕ) (w : Code) (fit : siz
     marks : sevenBit fs ≡ true → outcome ≡ Marks (charsetPlace fs)
     unfolding recodeFaults allRecoded recodeLines
     marks v =
-        let n : size (map (markField w) fs) ≡ size fs = size-marked w fs (one-byte (profile fs) fs (ruled fs (st .right) .0 .each-line)) in
-        rw (e, q, v) (with-room (map (markField w) fs) room (Marks (charsetPlace fs)) (omega (arith, n)) (omega (arith, n, few-bytes)))
+        let n : size (map (charsetField w) fs) ≡ size fs = size-marked w fs (one-byte (profile fs) fs (ruled fs (st .right) .0 .each-line)) in
+        rw (e, q, v) (with-room (map (charsetField w) fs) room (Marks (charsetPlace fs)) (omega (arith, n)) (omega (arith, n, few-bytes)))
 
     module _ (v : sevenBit fs ≡ false) (found : ℕ) (f : found ≡ firstWithout (tableInto w) (render fs []) 0 (size fs)) where
       marked-unknown : found < size fs → outcome ≡ Refused (refusal noSuchCharacter found 0)
       unfolding recodeFaults allRecoded recodeLines
-      marked-unknown h = rw (e, q, v, unknown-some w fs found f h (map (markField w) (map (recodeField w) fs))) refl
+      marked-unknown h = rw (e, q, v, unknown-some w fs found f h (map (charsetField w) (map (recodeField w) fs))) refl
 
       recodes : size fs ≤ found → outcome ≡ Recodes (charsetPlace fs)
       unfolding recodeFaults allRecoded recodeLines
       recodes h =
           let gs : List Field = map (recodeField w) fs in
           let one = one-byte-recoded w fs (one-byte (profile fs) fs (ruled fs (st .right) .0 .each-line)) in
-          let n : size (map (markField w) gs) ≡ size fs = size-marked w gs one ∙ size-recoded w fs in
-          rw (e, q, v, unknown-none w fs (omega (arith, f))) (with-room (map (markField w) gs) room (Recodes (charsetPlace fs)) (omega (arith, n)) (omega (arith, n, few-bytes)))
+          let n : size (map (charsetField w) gs) ≡ size fs = size-marked w gs one ∙ size-recoded w fs in
+          rw (e, q, v, unknown-none w fs (omega (arith, f))) (with-room (map (charsetField w) gs) room (Recodes (charsetPlace fs)) (omega (arith, n)) (omega (arith, n, few-bytes)))
 
   module _ (e : inCode w fs ≡ false) (q : hasCharset fs ≡ false) (v : sevenBit fs ≡ false) where
     too-many : maxLines ≤ length fs → outcome ≡ Refused (refusal tooManyLines (size fs) 0)
@@ -129,7 +129,7 @@ none-at fs st z = go (first-or-none 9206 fs)
 record Marked (fs : List Field) (place : ℕ) : Type 0 where
   has : hasCharset fs ≡ true
   seven-by : sevenBit fs ≡ eqb (getD (render fs []) place 0) (digitZero + 1)
-  code-by : (w : Code) → inCode w fs ≡ eqb (getD (render fs []) place 0) (getD (mark w) 0 0)
+  code-by : (w : Code) → inCode w fs ≡ eqb (getD (render fs []) place 0) (getD (charsetOf w) 0 0)
   inside : place < size fs
 
 marked-at : (fs : List Field) → Standing fs → (place : ℕ) → place ≡ charsetPlace fs → (place ≡ 0 → ⊥) → Marked fs place
@@ -145,7 +145,7 @@ marked-at fs st place e n = go (first-or-none 9206 fs)
           seven-by = seven-digit (profile fs) fs r k (x .inside) (x .named) ∙ ap (λ (m : ℕ). eqb m (digitZero + 1)) (sym b);
           code-by = λ w.
               in-marked (profile fs) fs r k (x .inside) (x .named) w
-              ∙ (says-digit (profile fs) fs r k (x .inside) (x .named) w ∙ ap (λ (m : ℕ). eqb m (getD (mark w) 0 0)) (sym b));
+              ∙ (says-digit (profile fs) fs r k (x .inside) (x .named) w ∙ ap (λ (m : ℕ). eqb m (getD (charsetOf w) 0 0)) (sym b));
           inside = omega (arith, p, size-at fs k (x .inside));
         }
     go (inr x) = absurd (n (e ∙ place-absent 9206 fs (st .sound) x))
@@ -238,10 +238,10 @@ module _ (s : List ℕ) (x : Shape) (room : ℕ) (w : Code) (t : List ℕ) (a : 
     pub place-inside : place < length s
     place-inside = omega (arith, its-mark .inside, its-size)
 
-    pub plan-stays : getD s place 0 ≡ getD (mark w) 0 0 → planned s room w ≡ Stays
+    pub plan-stays : getD s place 0 ≡ getD (charsetOf w) 0 0 → planned s room w ≡ Stays
     plan-stays q = its-plan ∙ stays its its-stand room w its-fit (its-mark .code-by w ∙ eq-eqb _ _ (sym byte-so ∙ q))
 
-    module _ (other : getD s place 0 ≡ getD (mark w) 0 0 → ⊥) where
+    module _ (other : getD s place 0 ≡ getD (charsetOf w) 0 0 → ⊥) where
       not-in : inCode w its ≡ false
       not-in = its-mark .code-by w ∙ ne-eqb _ _ (λ q. other (byte-so ∙ q))
 

@@ -19,7 +19,7 @@ use Rattle.meaning.proofs.FirstLaws.{firstOf, Real, real-append, real-rule, fir
 use Rattle.meaning_recode.specs.declared.Code.{Code}
 use Rattle.meaning_recode.specs.declared.Code.the-variants.{Page437, Page1252}
 use Rattle.meaning_recode.specs.Codes.{noByte, to1252, to437, tableInto, recoded}
-use Rattle.meaning_recode.specs.Recoding.{mark, unknownBytes, unknownFrom, recodeField, markField, withCharset}
+use Rattle.meaning_recode.specs.Recoding.{charsetOf, noCharacterBytes, noCharacterFrom, recodeField, charsetField, withCharset}
 use Rattle.meaning_recode.proofs.CodeLaws.{low-stays}
 use Rattle.byte_low.proofs.SeekLineLaws.{foundBefore, seek-set}
 use Rattle.recode_bytes.specs.Mapped.{CodeTable, hasCharacter, firstWithout}
@@ -41,21 +41,21 @@ module _ (w : Code) where
   size-recoded [] = refl
   size-recoded (f ∷ fs) = omega (arith, size-recoded fs, length-map (recoded w) (f .content))
 
-  mark-length : length (mark w) ≡ 1
+  mark-length : length (charsetOf w) ≡ 1
   mark-length = go w
     where
-      go : (w : Code) → length (mark w) ≡ 1
+      go : (w : Code) → length (charsetOf w) ≡ 1
       go Page437 = refl
       go Page1252 = refl
 
-  marked-line : (f : Field) → (f .label ≡ 9206 → length (f .content) ≡ 1) → lineSize (markField w f) ≡ lineSize f
+  marked-line : (f : Field) → (f .label ≡ 9206 → length (f .content) ≡ 1) → lineSize (charsetField w f) ≡ lineSize f
   marked-line f h = go (eqb (f .label) 9206) refl
     where
-      go : (b : Bool) → eqb (f .label) 9206 ≡ b → lineSize (cond b (field 9206 (mark w)) f) ≡ lineSize f
+      go : (b : Bool) → eqb (f .label) 9206 ≡ b → lineSize (cond b (field 9206 (charsetOf w)) f) ≡ lineSize f
       go true e = omega (arith, mark-length, h (eqb-true (f .label) 9206 e))
       go false e = refl
 
-  pub size-marked : (fs : List Field) → OneByte fs → size (map (markField w) fs) ≡ size fs
+  pub size-marked : (fs : List Field) → OneByte fs → size (map (charsetField w) fs) ≡ size fs
   size-marked [] h = refl
   size-marked (f ∷ fs) h = omega (arith, marked-line f (h 0 (omega arith)), size-marked fs (λ k l. h (suc k) (omega arith)))
 
@@ -89,25 +89,25 @@ module _ (w : Code) where
   has-low : (b : ℕ) → b ≤ mostSevenBits → hasCharacter (tableInto w) b ≡ true
   has-low b h = rw (low-stays w b (omega arith), ne-eqb b noByte (λ z. omega arith))
 
-  real-bytes : (k i : ℕ) (c : List ℕ) → Real (unknownBytes w k i c)
+  real-bytes : (k i : ℕ) (c : List ℕ) → Real (noCharacterBytes w k i c)
   real-bytes k i [] = tt
-  real-bytes k i (b ∷ bs) = real-rule (not (eqb (recoded w b) noByte)) (atByte noSuchCharacter k i) (unknownBytes w k (suc i) bs) (λ z. omega arith) (real-bytes k (suc i) bs)
+  real-bytes k i (b ∷ bs) = real-rule (not (eqb (recoded w b) noByte)) (atByte noSuchCharacter k i) (noCharacterBytes w k (suc i) bs) (λ z. omega arith) (real-bytes k (suc i) bs)
 
-  real-unknown : (k : ℕ) (fs : List Field) → Real (unknownFrom w k fs)
-  unfolding unknownFrom
+  real-unknown : (k : ℕ) (fs : List Field) → Real (noCharacterFrom w k fs)
+  unfolding noCharacterFrom
   real-unknown k [] = tt
-  real-unknown k (f ∷ fs) = real-append (unknownBytes w k 0 (f .content)) (unknownFrom w (k + 1) fs) (real-bytes k 0 (f .content)) (real-unknown (k + 1) fs)
+  real-unknown k (f ∷ fs) = real-append (noCharacterBytes w k 0 (f .content)) (noCharacterFrom w (k + 1) fs) (real-bytes k 0 (f .content)) (real-unknown (k + 1) fs)
 
   unknown-offset : (fs : List Field)
-      → foundBefore noSuchCharacter (size fs) (firstWithout (tableInto w) (render fs []) 0 (size fs)) ≡ firstOf (inSet fs) (unknownFrom w 0 fs)
-  unfolding unknownFrom
-  unknown-offset = seek-set (hasCharacter (tableInto w)) noSuchCharacter has-low (unknownBytes w) (unknownFrom w) (λ k i. refl) (λ k i b bs. refl) (λ k. refl) (λ k f fs. refl)
+      → foundBefore noSuchCharacter (size fs) (firstWithout (tableInto w) (render fs []) 0 (size fs)) ≡ firstOf (inSet fs) (noCharacterFrom w 0 fs)
+  unfolding noCharacterFrom
+  unknown-offset = seek-set (hasCharacter (tableInto w)) noSuchCharacter has-low (noCharacterBytes w) (noCharacterFrom w) (λ k i. refl) (λ k i b bs. refl) (λ k. refl) (λ k f fs. refl)
 
   -- no byte is found: there is no fault
-  pub unknown-none : (fs : List Field) → size fs ≤ firstWithout (tableInto w) (render fs []) 0 (size fs) → unknownFrom w 0 fs ≡ []
+  pub unknown-none : (fs : List Field) → size fs ≤ firstWithout (tableInto w) (render fs []) 0 (size fs) → noCharacterFrom w 0 fs ≡ []
   unknown-none fs h =
       let e = unknown-offset fs in
-      first-none (inSet fs) (unknownFrom w 0 fs) (real-unknown 0 fs)
+      first-none (inSet fs) (noCharacterFrom w 0 fs) (real-unknown 0 fs)
       (ap (λ (r : Refusal). r .no) (sym e) ∙ rw (le-leb (size fs) (firstWithout (tableInto w) (render fs []) 0 (size fs)) h))
 
   -- a byte is found: it is the first fault
@@ -116,7 +116,7 @@ module _ (w : Code) where
   by-first pl (x ∷ xs) a r e n = ap refused (sym e)
 
   pub unknown-some : (fs : List Field) (found : ℕ) → found ≡ firstWithout (tableInto w) (render fs []) 0 (size fs) → found < size fs
-      → {A : Type 0} (a : A) → verdict (inSet fs) (unknownFrom w 0 fs) a ≡ refused (refusal noSuchCharacter found 0)
+      → {A : Type 0} (a : A) → verdict (inSet fs) (noCharacterFrom w 0 fs) a ≡ refused (refusal noSuchCharacter found 0)
   unknown-some fs found q h a =
-      by-first (inSet fs) (unknownFrom w 0 fs) a (refusal noSuchCharacter found 0)
+      by-first (inSet fs) (noCharacterFrom w 0 fs) a (refusal noSuchCharacter found 0)
       (sym (rw (lt-leb (size fs) found h) refl) ∙ (ap (foundBefore noSuchCharacter (size fs)) q ∙ unknown-offset fs)) (λ z. omega arith)

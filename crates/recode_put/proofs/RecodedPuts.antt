@@ -12,7 +12,7 @@ use Rattle.meaning.specs.Lines.{lineThen, cr, lf}
 use Rattle.meaning.specs.Lists.{sumDigits, sumPlace}
 use Rattle.meaning_recode.specs.declared.Code.{Code}
 use Rattle.meaning_recode.specs.declared.Code.the-variants.{Page437, Page1252}
-use Rattle.meaning_recode.specs.Recoding.{mark}
+use Rattle.meaning_recode.specs.Recoding.{charsetOf}
 use Rattle.byte_put.specs.Places.{over}
 use Rattle.byte_put.proofs.LendLaws.{mid-tail, put-tail}
 use Rattle.correct_put.specs.Middle.{replaced}
@@ -40,12 +40,12 @@ unfolding mappedFront
 lent-mapped t b y used e = ap (λ (u : List ℕ). u ++ drop used b) e
 
 -- the line of 9206, byte by byte
-pub charset-bytes : (w : Code) → 48 ∷ 49 ∷ 48 ∷ 57 ∷ 50 ∷ 48 ∷ 54 ∷ getD (mark w) 0 0 ∷ cr ∷ lf ∷ [] ≡ lineThen (field 9206 (mark w)) []
+pub charset-bytes : (w : Code) → 48 ∷ 49 ∷ 48 ∷ 57 ∷ 50 ∷ 48 ∷ 54 ∷ getD (charsetOf w) 0 0 ∷ cr ∷ lf ∷ [] ≡ lineThen (field 9206 (charsetOf w)) []
 charset-bytes Page437 = refl
 charset-bytes Page1252 = refl
 
 -- the line, then the sum
-pub line-then-sum : (w : Code) (b b₁ b₂ b₃ line : List ℕ) (used : ℕ) → b₁ ≡ b → line ≡ lineThen (field 9206 (mark w)) []
+pub line-then-sum : (w : Code) (b b₁ b₂ b₃ line : List ℕ) (used : ℕ) → b₁ ≡ b → line ≡ lineThen (field 9206 (charsetOf w)) []
     → b₂ ≡ replaced lineThree 0 line used b₁ → b₃ ≡ over sumPlace (digits sumDigits (used + gainedBytes)) b₂ → b₃ ≡ withLine w used b
 unfolding withLine
 line-then-sum w b b₁ b₂ b₃ line used e l r d = d ∙ rw (r, l, e) refl

@@ -8,7 +8,7 @@ use Rattle.meaning.specs.Lines.{lineLead, lineEnd, lineThen}
 use Rattle.meaning.specs.Rules.{typeDigits}
 use Rattle.meaning.specs.Lists.{sumDigits, sumLine, sumPlace}
 use Rattle.meaning_recode.specs.declared.Code.{Code}
-use Rattle.meaning_recode.specs.Recoding.{mark}
+use Rattle.meaning_recode.specs.Recoding.{charsetOf}
 use Rattle.byte_put.specs.Places.{over}
 use Rattle.correct_put.specs.Middle.{replaced}
 use Rattle.recode_bytes.specs.Mapped.{mapped}
@@ -27,7 +27,7 @@ zeroedAfter used b = take used b ++ replicate (length b - used) 0
 
 -- with the byte at a place that names the wanted code page
 abbrev pub remarked : ℕ → Code → List ℕ → List ℕ
-remarked place w b = set b place (getD (mark w) 0 0)
+remarked place w b = set b place (getD (charsetOf w) 0 0)
 
 -- with each of the bytes that count become its entry in the table t
 unfoldable pub mappedFront : List ℕ → ℕ → List ℕ → List ℕ
@@ -35,4 +35,4 @@ mappedFront t used b = mapped t (take used b) ++ drop used b
 
 -- with 9206 as line 3 and the new sum; zeros after the set
 unfoldable pub withLine : Code → ℕ → List ℕ → List ℕ
-withLine w used b = over sumPlace (digits sumDigits (used + gainedBytes)) (replaced lineThree 0 (lineThen (field 9206 (mark w)) []) used b)
+withLine w used b = over sumPlace (digits sumDigits (used + gainedBytes)) (replaced lineThree 0 (lineThen (field 9206 (charsetOf w)) []) used b)

@@ -8,7 +8,7 @@ ghost use Prim.Native.Nat.{_+_, _≤_, _<_};
 ghost use lib.ListN.{length, getD};
 ghost use Rattle.meaning.specs.Field.{field};
 ghost use Rattle.meaning.specs.Lines.{lineThen};
-ghost use Rattle.meaning_recode.specs.Recoding.{mark};
+ghost use Rattle.meaning_recode.specs.Recoding.{charsetOf};
 ghost use Rattle.recode_bytes.specs.Mapped.{CodeTable};
 ghost use Rattle.recode_put.specs.Recoded.{lineThree, gainedBytes, zeroedAfter, remarked, mappedFront, withLine};
 use meaning_recode::Code;
@@ -45,7 +45,7 @@ pub fn put_recoded(buffer: &mut [u8], used: usize, place: usize, wanted: Code, t
 
 // The line of 9206: its length, its label, the byte that names the wanted code page, and its end.
 fn charset_line(wanted: Code) -> [u8; GAINED]
-    ensures { λ r. ⌜ r ≡ lineThen (field 9206 (mark wanted)) [] ⌝ }
+    ensures { λ r. ⌜ r ≡ lineThen (field 9206 (charsetOf wanted)) [] ⌝ }
 {
     let mark = recode_table::mark_of(wanted);
     [

@@ -3,7 +3,7 @@
 ghost use mathlib.Core.Path.{_≡_};
 ghost use lib.ListN.{getD};
 ghost use Rattle.meaning_recode.specs.Codes.{tableInto};
-ghost use Rattle.meaning_recode.specs.Recoding.{mark};
+ghost use Rattle.meaning_recode.specs.Recoding.{charsetOf};
 
 mod tables;
 
@@ -29,7 +29,7 @@ pub fn table_into(wanted: Code) -> [u16; 256]
 
 // The one byte that 9206 holds if the set is in the wanted code page.
 pub fn mark_of(wanted: Code) -> u8
-    ensures { λ r. ⌜ r ≡ getD (mark wanted) 0 0 ⌝ }
+    ensures { λ r. ⌜ r ≡ getD (charsetOf wanted) 0 0 ⌝ }
 {
     match wanted {
         Code::Page437 => MARK_437,

@@ -25,42 +25,42 @@ use Rattle.keeps.proofs.TableFacts.{or-cases, no-absurd, one-row}
 use Rattle.keeps.proofs.SevenExact.{seven-has}
 use Rattle.meaning_recode.specs.declared.Code.{Code}
 use Rattle.meaning_recode.specs.declared.Code.the-variants.{Page437, Page1252}
-use Rattle.meaning_recode.specs.Recoding.{mark, saysCode, says, hasCharset, inCode}
+use Rattle.meaning_recode.specs.Recoding.{charsetOf, lineNamesCode, namesCode, hasCharset, inCode}
 use Rattle.theory_recode.specs.RecodeRules.{notWanted, codeDigit, Names, NoCharset, IsIn}
 
 -- ---- tests and lines, of any lines
 
-pub mark-is : (w : Code) → mark w ≡ digits 1 (codeDigit w)
+pub mark-is : (w : Code) → charsetOf w ≡ digits 1 (codeDigit w)
 mark-is Page437 = refl
 mark-is Page1252 = refl
 
-says-line : (w : Code) (f : Field) → saysCode w f ≡ true → f ≡ field 9206 (digits 1 (codeDigit w))
-unfolding saysCode
+says-line : (w : Code) (f : Field) → lineNamesCode w f ≡ true → f ≡ field 9206 (digits 1 (codeDigit w))
+unfolding lineNamesCode
 says-line w f e =
     let l : f .label ≡ 9206 = eqb-true _ _ (and-left (eqb (f .label) 9206) _ e) in
     let c : f .content ≡ digits 1 (codeDigit w) = same-bytes _ _ (and-right (eqb (f .label) 9206) _ e) ∙ mark-is w in
     λ i. record { label = l i; content = c i }
 
-line-says : (w : Code) (f : Field) → f ≡ field 9206 (digits 1 (codeDigit w)) → saysCode w f ≡ true
-unfolding saysCode
+line-says : (w : Code) (f : Field) → f ≡ field 9206 (digits 1 (codeDigit w)) → lineNamesCode w f ≡ true
+unfolding lineNamesCode
 line-says w f e =
-    let c : f .content ≡ mark w = ap (λ (g : Field). g .content) e ∙ sym (mark-is w) in
-    rw (eq-eqb (f .label) 9206 (ap (λ (g : Field). g .label) e), c, bytes-same (mark w)) refl
+    let c : f .content ≡ charsetOf w = ap (λ (g : Field). g .content) e ∙ sym (mark-is w) in
+    rw (eq-eqb (f .label) 9206 (ap (λ (g : Field). g .label) e), c, bytes-same (charsetOf w)) refl
 
-pub says-names : (w : Code) (fs : List Field) → says w fs ≡ true → Names w fs
-unfolding says
+pub says-names : (w : Code) (fs : List Field) → namesCode w fs ≡ true → Names w fs
+unfolding namesCode
 says-names w [] e = absurd (true≢false (sym e))
-says-names w (f ∷ fs) e = go (or-cases (saysCode w f) (says w fs) e) (λ p. says-names w fs p)
+says-names w (f ∷ fs) e = go (or-cases (lineNamesCode w f) (namesCode w fs) e) (λ p. says-names w fs p)
   where
-    go : (saysCode w f ≡ true) ⊎ (says w fs ≡ true) → (says w fs ≡ true → Names w fs) → Names w (f ∷ fs)
+    go : (lineNamesCode w f ≡ true) ⊎ (namesCode w fs ≡ true) → (namesCode w fs ≡ true → Names w fs) → Names w (f ∷ fs)
     go (inl p) ih = (0, omega arith, says-line w f p)
     go (inr p) ih = let h = ih p in (suc (h .0), omega (arith, h .1), h .2)
 
-pub names-says : (w : Code) (fs : List Field) → Names w fs → says w fs ≡ true
-unfolding says
+pub names-says : (w : Code) (fs : List Field) → Names w fs → namesCode w fs ≡ true
+unfolding namesCode
 names-says w [] (k, l, e) = absurd (omega arith)
 names-says w (f ∷ fs) (zero, l, e) = rw (line-says w f e) refl
-names-says w (f ∷ fs) (suc k, l, e) = or-right (saysCode w f) (names-says w fs (k, omega arith, e))
+names-says w (f ∷ fs) (suc k, l, e) = or-right (lineNamesCode w f) (names-says w fs (k, omega arith, e))
 
 -- a line is 9206
 abbrev pub HasCharset : List Field → Type 0
@@ -100,9 +100,9 @@ seven-charset fs (k, l, e, c) = (k, l, e)
 -- the set is in the code page
 pub in-is : (w : Code) (fs : List Field) → inCode w fs ≡ true → IsIn w fs
 unfolding inCode
-in-is Page437 fs e = go (or-cases (says Page437 fs) _ e)
+in-is Page437 fs e = go (or-cases (namesCode Page437 fs) _ e)
   where
-    go : (says Page437 fs ≡ true) ⊎ (not (hasCharset fs) ≡ true) → IsIn Page437 fs
+    go : (namesCode Page437 fs ≡ true) ⊎ (not (hasCharset fs) ≡ true) → IsIn Page437 fs
     go (inl p) = inl (says-names Page437 fs p)
     go (inr p) = inr (no-charset fs (not-true _ p))
 in-is Page1252 fs e = says-names Page1252 fs e
@@ -110,7 +110,7 @@ in-is Page1252 fs e = says-names Page1252 fs e
 pub is-in : (w : Code) (fs : List Field) → IsIn w fs → inCode w fs ≡ true
 unfolding inCode
 is-in Page437 fs (inl h) = rw (names-says Page437 fs h) refl
-is-in Page437 fs (inr h) = or-right (says Page437 fs) (ap not (charset-no fs h))
+is-in Page437 fs (inr h) = or-right (namesCode Page437 fs) (ap not (charset-no fs h))
 is-in Page1252 fs h = names-says Page1252 fs h
 
 pub not-in : (w : Code) (fs : List Field) → (IsIn w fs → ⊥) → inCode w fs ≡ false

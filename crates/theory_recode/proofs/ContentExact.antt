@@ -16,7 +16,7 @@ use Rattle.meaning.proofs.FaultLaws.{append-none, none-both, ask-none, Plain}
 use Rattle.keeps.proofs.TableFacts.{lt-or-le}
 use Rattle.meaning_recode.specs.declared.Code.{Code}
 use Rattle.meaning_recode.specs.Codes.{noByte, recoded}
-use Rattle.meaning_recode.specs.Recoding.{unknownBytes, unknownFrom}
+use Rattle.meaning_recode.specs.Recoding.{noCharacterBytes, noCharacterFrom}
 use Rattle.meaning_recode.proofs.CodeLaws.{low-stays, high-stays}
 use Rattle.theory_recode.specs.RecodeRules.{SameCharacter, NoCharacter, InPage}
 use Rattle.theory_recode.proofs.PageExamples.{same-exactly}
@@ -53,16 +53,16 @@ some-character w b h n = n (recoded w b) (same-character w b h)
 abbrev pub AllHave : Code → List ℕ → Type 0
 AllHave w c = (i : ℕ) → i < length c → HasByte w (getD c i 0)
 
-pub none-unknown : (w : Code) (k i : ℕ) (c : List ℕ) → AllHave w c → unknownBytes w k i c ≡ []
+pub none-unknown : (w : Code) (k i : ℕ) (c : List ℕ) → AllHave w c → noCharacterBytes w k i c ≡ []
 none-unknown w k i [] h = refl
 none-unknown w k i (b ∷ c) h = rw (ne-eqb (recoded w b) noByte (h 0 (omega arith))) (none-unknown w k (suc i) c (λ j l. h (suc j) (omega arith)))
 
-pub all-known : (w : Code) (k i : ℕ) (c : List ℕ) → unknownBytes w k i c ≡ [] → AllHave w c
+pub all-known : (w : Code) (k i : ℕ) (c : List ℕ) → noCharacterBytes w k i c ≡ [] → AllHave w c
 all-known w k i [] e j l = absurd (omega arith)
 all-known w k i (b ∷ c) e zero l =
-    eqb-false (recoded w b) noByte (not-true _ (ask-none (not (eqb (recoded w b) noByte)) (atByte noSuchCharacter k i) (unknownBytes w k (suc i) c) e .0))
+    eqb-false (recoded w b) noByte (not-true _ (ask-none (not (eqb (recoded w b) noByte)) (atByte noSuchCharacter k i) (noCharacterBytes w k (suc i) c) e .0))
 all-known w k i (b ∷ c) e (suc j) l =
-    all-known w k (suc i) c (ask-none (not (eqb (recoded w b) noByte)) (atByte noSuchCharacter k i) (unknownBytes w k (suc i) c) e .1) j (omega arith)
+    all-known w k (suc i) c (ask-none (not (eqb (recoded w b) noByte)) (atByte noSuchCharacter k i) (noCharacterBytes w k (suc i) c) e .1) j (omega arith)
 
 -- an element of a list that a function was put on
 pub getD-map : {A B : Type 0} (f : A → B) (xs : List A) (k : ℕ) (a : A) (b : B) → k < length xs → getD (map f xs) k b ≡ f (getD xs k a)
@@ -103,14 +103,14 @@ plain-stays w (b ∷ c) p = rw (low-stays w b (omega (arith, p .0)), plain-stays
 abbrev pub LinesHave : Code → List Field → Type 0
 LinesHave w fs = (k : ℕ) → k < length fs → AllHave w (contentAtLine fs k)
 
-pub none-unknown-from : (w : Code) (n : ℕ) (fs : List Field) → LinesHave w fs → unknownFrom w n fs ≡ []
-unfolding unknownFrom
+pub none-unknown-from : (w : Code) (n : ℕ) (fs : List Field) → LinesHave w fs → noCharacterFrom w n fs ≡ []
+unfolding noCharacterFrom
 none-unknown-from w n [] h = refl
 none-unknown-from w n (f ∷ fs) h =
     none-both _ _ (none-unknown w n 0 (f .content) (h 0 (omega arith))) (none-unknown-from w (n + 1) fs (λ k l. h (suc k) (omega arith)))
 
-pub all-known-from : (w : Code) (n : ℕ) (fs : List Field) → unknownFrom w n fs ≡ [] → LinesHave w fs
-unfolding unknownFrom
+pub all-known-from : (w : Code) (n : ℕ) (fs : List Field) → noCharacterFrom w n fs ≡ [] → LinesHave w fs
+unfolding noCharacterFrom
 all-known-from w n [] e k l = absurd (omega arith)
-all-known-from w n (f ∷ fs) e zero l = all-known w n 0 (f .content) (append-none (unknownBytes w n 0 (f .content)) _ e .0)
-all-known-from w n (f ∷ fs) e (suc k) l = all-known-from w (n + 1) fs (append-none (unknownBytes w n 0 (f .content)) _ e .1) k (omega arith)
+all-known-from w n (f ∷ fs) e zero l = all-known w n 0 (f .content) (append-none (noCharacterBytes w n 0 (f .content)) _ e .0)
+all-known-from w n (f ∷ fs) e (suc k) l = all-known-from w (n + 1) fs (append-none (noCharacterBytes w n 0 (f .content)) _ e .1) k (omega arith)

@@ -15,7 +15,7 @@ use Rattle.keeps.proofs.TableFacts.{le-cases, lt-or-le}
 use Rattle.breaches.proofs.FirstLine.{same-head, head-append}
 use Rattle.meaning_recode.specs.declared.Code.{Code}
 use Rattle.meaning_recode.specs.Codes.{noByte, recoded}
-use Rattle.meaning_recode.specs.Recoding.{unknownBytes, unknownFrom}
+use Rattle.meaning_recode.specs.Recoding.{noCharacterBytes, noCharacterFrom}
 use Rattle.theory_recode.specs.RecodeRules.{NoCharacter}
 use Rattle.theory_recode.specs.RecodeBreaches.{placeOf, FirstWithout}
 use Rattle.theory_recode.proofs.ContentExact.{HasByte, AllHave, no-character, some-character, all-known}
@@ -30,12 +30,12 @@ record UnknownIn (w : Code) (k i : ℕ) (c : List ℕ) (x : Fault) : Type 0 wher
   pub earlier : (j : ℕ) → j < which → HasByte w (getD c j 0)
   pub is : x ≡ atByte noSuchCharacter k (i + which)
 
-unknown-in : (w : Code) (k i : ℕ) (c : List ℕ) (x : Fault) (xs : List Fault) → unknownBytes w k i c ≡ x ∷ xs → UnknownIn w k i c x
+unknown-in : (w : Code) (k i : ℕ) (c : List ℕ) (x : Fault) (xs : List Fault) → noCharacterBytes w k i c ≡ x ∷ xs → UnknownIn w k i c x
 unknown-in w k i [] x xs e = absurd (cons≢nil (sym e))
 unknown-in w k i (b ∷ c) x xs e = go (unknown-in w k (suc i) c x xs) (eqb (recoded w b) noByte) refl e
   where
-    go : (unknownBytes w k (suc i) c ≡ x ∷ xs → UnknownIn w k (suc i) c x) → (t : Bool) → eqb (recoded w b) noByte ≡ t
-        → ask (not t) (atByte noSuchCharacter k i) ++ unknownBytes w k (suc i) c ≡ x ∷ xs → UnknownIn w k i (b ∷ c) x
+    go : (noCharacterBytes w k (suc i) c ≡ x ∷ xs → UnknownIn w k (suc i) c x) → (t : Bool) → eqb (recoded w b) noByte ≡ t
+        → ask (not t) (atByte noSuchCharacter k i) ++ noCharacterBytes w k (suc i) c ≡ x ∷ xs → UnknownIn w k i (b ∷ c) x
     go ih true p q = record {
       which = 0;
       there = omega arith;
@@ -69,13 +69,13 @@ pub record FirstUnknown (w : Code) (n : ℕ) (fs : List Field) (x : Fault) : Typ
   pub earlier : (i : ℕ) → i < which → HasByte w (getD (contentAtLine fs line) i 0)
   pub is : x ≡ atByte noSuchCharacter (n + line) which
 
-first-unknown : (w : Code) (n : ℕ) (fs : List Field) (x : Fault) (xs : List Fault) → unknownFrom w n fs ≡ x ∷ xs → FirstUnknown w n fs x
-unfolding unknownFrom
+first-unknown : (w : Code) (n : ℕ) (fs : List Field) (x : Fault) (xs : List Fault) → noCharacterFrom w n fs ≡ x ∷ xs → FirstUnknown w n fs x
+unfolding noCharacterFrom
 first-unknown w n [] x xs e = absurd (cons≢nil (sym e))
-first-unknown w n (f ∷ fs) x xs e = go (first-unknown w (n + 1) fs x xs) (head-append (unknownBytes w n 0 (f .content)) _ x xs e)
+first-unknown w n (f ∷ fs) x xs e = go (first-unknown w (n + 1) fs x xs) (head-append (noCharacterBytes w n 0 (f .content)) _ x xs e)
   where
-    go : (unknownFrom w (n + 1) fs ≡ x ∷ xs → FirstUnknown w (n + 1) fs x)
-        → ((ys : List Fault) × (unknownBytes w n 0 (f .content) ≡ x ∷ ys)) ⊎ ((unknownBytes w n 0 (f .content) ≡ []) × (unknownFrom w (n + 1) fs ≡ x ∷ xs))
+    go : (noCharacterFrom w (n + 1) fs ≡ x ∷ xs → FirstUnknown w (n + 1) fs x)
+        → ((ys : List Fault) × (noCharacterBytes w n 0 (f .content) ≡ x ∷ ys)) ⊎ ((noCharacterBytes w n 0 (f .content) ≡ []) × (noCharacterFrom w (n + 1) fs ≡ x ∷ xs))
         → FirstUnknown w n (f ∷ fs) x
     go ih (inl p) =
         let r = unknown-in w n 0 (f .content) x (p .0) (p .1) in
@@ -128,7 +128,7 @@ stands-before fs k i m j a b c l = go (lt-or-le m k)
     go (inr p) = same (le-cases k m p)
 
 -- the first fault names the first such byte
-pub first-without : (w : Code) (fs : List Field) (x : Fault) (xs : List Fault) → unknownFrom w 0 fs ≡ x ∷ xs
+pub first-without : (w : Code) (fs : List Field) (x : Fault) (xs : List Fault) → noCharacterFrom w 0 fs ≡ x ∷ xs
     → (k i : ℕ) × FirstWithout w fs k i × (x ≡ atByte noSuchCharacter k i)
 first-without w fs x xs e =
     let r = first-unknown w 0 fs x xs e in (

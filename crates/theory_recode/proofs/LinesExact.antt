@@ -16,34 +16,34 @@ use Rattle.meaning.specs.Corrections.{resum}
 use Rattle.meaning.proofs.FaultLaws.{Plain}
 use Rattle.meaning_recode.specs.declared.Code.{Code}
 use Rattle.meaning_recode.specs.Codes.{recoded}
-use Rattle.meaning_recode.specs.Recoding.{mark, recodeField, markField, withCharset}
+use Rattle.meaning_recode.specs.Recoding.{charsetOf, recodeField, charsetField, withCharset}
 use Rattle.theory_recode.specs.RecodeRules.{codeDigit, NamedAt, NoCharset, LineInPage, OnlyCharset, AllInPage, GainedLine}
 use Rattle.theory_recode.proofs.ContentExact.{AllHave, LinesHave, getD-map, in-page, page-has, page-only, plain-has, plain-stays}
 use Rattle.theory_recode.proofs.CharsetExact.{mark-is, CharsetDigit, OneCharset}
 
 -- ---- a line
 
-named : (w : Code) → field 9206 (mark w) ≡ field 9206 (digits 1 (codeDigit w))
+named : (w : Code) → field 9206 (charsetOf w) ≡ field 9206 (digits 1 (codeDigit w))
 named w = ap (field 9206) (mark-is w)
 
-line-in-page : (w : Code) (f : Field) → AllHave w (f .content) → LineInPage w f (markField w (recodeField w f))
+line-in-page : (w : Code) (f : Field) → AllHave w (f .content) → LineInPage w f (charsetField w (recodeField w f))
 line-in-page w f h = go (eqb (f .label) 9206) refl
   where
-    go : (b : Bool) → eqb (f .label) 9206 ≡ b → LineInPage w f (cond b (field 9206 (mark w)) (recodeField w f))
+    go : (b : Bool) → eqb (f .label) 9206 ≡ b → LineInPage w f (cond b (field 9206 (charsetOf w)) (recodeField w f))
     go true p = record { charset = λ e. named w; label-stays = sym (eqb-true _ _ p); content-in-page = λ n. absurd (n (eqb-true _ _ p)) }
     go false p = record { charset = λ e. absurd (eqb-false _ _ p e); label-stays = refl; content-in-page = λ n. in-page w (f .content) h }
 
-line-only : (w : Code) (f g : Field) → LineInPage w f g → g ≡ markField w (recodeField w f)
+line-only : (w : Code) (f g : Field) → LineInPage w f g → g ≡ charsetField w (recodeField w f)
 line-only w f g p = go (eqb (f .label) 9206) refl
   where
-    go : (b : Bool) → eqb (f .label) 9206 ≡ b → g ≡ cond b (field 9206 (mark w)) (recodeField w f)
+    go : (b : Bool) → eqb (f .label) 9206 ≡ b → g ≡ cond b (field 9206 (charsetOf w)) (recodeField w f)
     go true q = p .charset (eqb-true _ _ q) ∙ sym (named w)
     go false q =
         let c : g .content ≡ map (recoded w) (f .content) = page-only w (f .content) (g .content) (p .content-in-page (eqb-false _ _ q)) in
         λ i. record { label = p .label-stays i; content = c i }
 
 -- of a line that is not 9206
-not-marked : (w : Code) (f : Field) → f .label ≢ 9206 → markField w (recodeField w f) ≡ recodeField w f
+not-marked : (w : Code) (f : Field) → f .label ≢ 9206 → charsetField w (recodeField w f) ≡ recodeField w f
 not-marked w f n = rw (ne-eqb (f .label) 9206 n) refl
 
 digit-plain : (c : List ℕ) → CharsetDigit c → Plain c
@@ -54,15 +54,15 @@ digit-plain c (inr (inr e)) = subst Plain (sym e) (omega arith, tt)
 -- ---- every line in the wanted code page
 
 abbrev allMarked : Code → List Field → List Field
-allMarked w fs = map (markField w) (map (recodeField w) fs)
+allMarked w fs = map (charsetField w) (map (recodeField w) fs)
 
 marked-length : (w : Code) (fs : List Field) → length (allMarked w fs) ≡ length fs
-marked-length w fs = length-map (map (recodeField w) fs) (markField w) ∙ length-map fs (recodeField w)
+marked-length w fs = length-map (map (recodeField w) fs) (charsetField w) ∙ length-map fs (recodeField w)
 
-marked-at : (w : Code) (fs : List Field) (k : ℕ) → k < length fs → getD (allMarked w fs) k noField ≡ markField w (recodeField w (getD fs k noField))
+marked-at : (w : Code) (fs : List Field) (k : ℕ) → k < length fs → getD (allMarked w fs) k noField ≡ charsetField w (recodeField w (getD fs k noField))
 marked-at w fs k l =
-    getD-map (markField w) (map (recodeField w) fs) k noField noField (omega (arith, length-map fs (recodeField w)))
-    ∙ ap (markField w) (getD-map (recodeField w) fs k noField noField l)
+    getD-map (charsetField w) (map (recodeField w) fs) k noField noField (omega (arith, length-map fs (recodeField w)))
+    ∙ ap (charsetField w) (getD-map (recodeField w) fs k noField noField l)
 
 pub all-in-page : (w : Code) (fs : List Field) → LinesHave w fs → AllInPage w fs (allMarked w fs)
 all-in-page w fs h = record {
@@ -87,23 +87,23 @@ pages-have w fs new o a k l = go (eqb (labelAtLine fs k) 9206) refl
 
 -- ---- only 9206 is new
 
-marks : (w : Code) (fs : List Field) (k : ℕ) → labelAtLine fs k ≡ 9206 → NamedAt w (map (markField w) fs) k
+marks : (w : Code) (fs : List Field) (k : ℕ) → labelAtLine fs k ≡ 9206 → NamedAt w (map (charsetField w) fs) k
 marks w [] k e = absurd (omega (arith, e))
 marks w (f ∷ fs) zero e = rw (eq-eqb (f .label) 9206 e) (named w)
 marks w (f ∷ fs) (suc k) e = marks w fs k e
 
-stay : (w : Code) (fs : List Field) (k : ℕ) → labelAtLine fs k ≢ 9206 → getD (map (markField w) fs) k noField ≡ getD fs k noField
+stay : (w : Code) (fs : List Field) (k : ℕ) → labelAtLine fs k ≢ 9206 → getD (map (charsetField w) fs) k noField ≡ getD fs k noField
 stay w [] k n = refl
 stay w (f ∷ fs) zero n = rw (ne-eqb (f .label) 9206 n) refl
 stay w (f ∷ fs) (suc k) n = stay w fs k n
 
-pub only-charset-new : (w : Code) (fs : List Field) → OnlyCharset w fs (map (markField w) fs)
-only-charset-new w fs = record { as-many = length-map fs (markField w); charset = marks w fs; others-stay = stay w fs }
+pub only-charset-new : (w : Code) (fs : List Field) → OnlyCharset w fs (map (charsetField w) fs)
+only-charset-new w fs = record { as-many = length-map fs (charsetField w); charset = marks w fs; others-stay = stay w fs }
 
-pub only-that : (w : Code) (fs new : List Field) → OnlyCharset w fs new → new ≡ map (markField w) fs
-only-that w fs new x = ext-getD noField new (map (markField w) fs) (x .as-many ∙ sym (length-map fs (markField w))) (λ k l. each k (eqb (labelAtLine fs k) 9206) refl)
+pub only-that : (w : Code) (fs new : List Field) → OnlyCharset w fs new → new ≡ map (charsetField w) fs
+only-that w fs new x = ext-getD noField new (map (charsetField w) fs) (x .as-many ∙ sym (length-map fs (charsetField w))) (λ k l. each k (eqb (labelAtLine fs k) 9206) refl)
   where
-    each : (k : ℕ) (b : Bool) → eqb (labelAtLine fs k) 9206 ≡ b → getD new k noField ≡ getD (map (markField w) fs) k noField
+    each : (k : ℕ) (b : Bool) → eqb (labelAtLine fs k) 9206 ≡ b → getD new k noField ≡ getD (map (charsetField w) fs) k noField
     each k true q = x .charset k (eqb-true _ _ q) ∙ sym (marks w fs k (eqb-true _ _ q))
     each k false q = x .others-stay k (eqb-false _ _ q) ∙ sym (stay w fs k (eqb-false _ _ q))
 
@@ -120,7 +120,7 @@ module _ (w : Code) (f g : Field) (gs : List Field) (p : Plain (f .content)) (q 
   first-same : recodeField w f ≡ f
   first-same = ap (field (f .label)) (plain-stays w (f .content) p)
 
-  later-at : (m : ℕ) → m < length gs → getD (map (recodeField w) gs) m noField ≡ markField w (recodeField w (getD gs m noField))
+  later-at : (m : ℕ) → m < length gs → getD (map (recodeField w) gs) m noField ≡ charsetField w (recodeField w (getD gs m noField))
   later-at m l = getD-map (recodeField w) gs m noField noField l ∙ sym (not-marked w (getD gs m noField) (n (suc (suc m)) (omega arith)))
 
   gains-line : LinesHave w all → GainedLine w all (gainedLines w all)
@@ -144,12 +144,12 @@ module _ (w : Code) (f g : Field) (gs : List Field) (p : Plain (f .content)) (q 
   gains-only (y ∷ z ∷ []) x = absurd (omega (arith, x .one-more))
   gains-only (y ∷ z ∷ v ∷ ys) x =
       let a : y ≡ recodeField w f = x .first-stays ∙ sym first-same in
-      let c : v ≡ field 9206 (mark w) = x .charset ∙ sym (named w) in
+      let c : v ≡ field 9206 (charsetOf w) = x .charset ∙ sym (named w) in
       let e : ys ≡ map (recodeField w) gs =
       ext-getD noField ys (map (recodeField w) gs) (omega (arith, x .one-more, length-map gs (recodeField w))) each in
-      let s : size (y ∷ z ∷ v ∷ ys) ≡ lineSize (recodeField w f) + (14 + size (field 9206 (mark w) ∷ map (recodeField w) gs)) =
+      let s : size (y ∷ z ∷ v ∷ ys) ≡ lineSize (recodeField w f) + (14 + size (field 9206 (charsetOf w) ∷ map (recodeField w) gs)) =
       omega (arith, ap lineSize a, ap lineSize (x .new-sum), ap lineSize c, ap size e) in
-      let b : z ≡ field 8100 (digits 5 (lineSize (recodeField w f) + (14 + size (field 9206 (mark w) ∷ map (recodeField w) gs)))) =
+      let b : z ≡ field 8100 (digits 5 (lineSize (recodeField w f) + (14 + size (field 9206 (charsetOf w) ∷ map (recodeField w) gs)))) =
       x .new-sum ∙ ap (λ (k : ℕ). field 8100 (digits 5 k)) s in
       rw (a, b, c, e) refl
     where

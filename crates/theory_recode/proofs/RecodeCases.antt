@@ -29,7 +29,7 @@ use Rattle.keeps.proofs.Exact.{keeps-accepted}
 use Rattle.meaning_recode.specs.declared.Code.{Code}
 use Rattle.meaning_recode.specs.declared.Code.the-variants.{Page437, Page1252}
 use Rattle.meaning_recode.specs.Codes.{recoded}
-use Rattle.meaning_recode.specs.Recoding.{mark, inCode, hasCharset, allRecoded, unknownFrom, recodeFaults, recodeField, markField, withCharset, recodeLines}
+use Rattle.meaning_recode.specs.Recoding.{charsetOf, inCode, hasCharset, allRecoded, noCharacterFrom, recodeFaults, recodeField, charsetField, withCharset, recodeLines}
 use Rattle.theory_recode.specs.RecodeRules.{notWanted, NoCharset, IsIn, Recoded, stays, only-charset, all-lines, gained}
 use Rattle.theory_recode.specs.RecodeBreaches.{OtherPage, FirstWithout}
 use Rattle.theory_recode.proofs.ContentExact.{LinesHave, none-unknown-from, all-known-from}
@@ -77,15 +77,15 @@ size-recoded : (w : Code) (fs : List Field) → size (map (recodeField w) fs) �
 size-recoded w [] = refl
 size-recoded w (f ∷ fs) = omega (arith, length-map (f .content) (recoded w), size-recoded w fs)
 
-mark-line : (w : Code) (f : Field) → lineSize (markField w f) ≤ lineSize f + 1
+mark-line : (w : Code) (f : Field) → lineSize (charsetField w f) ≤ lineSize f + 1
 mark-line w f = go w (eqb (f .label) 9206)
   where
-    go : (v : Code) (b : Bool) → lineSize (cond b (field 9206 (mark v)) f) ≤ lineSize f + 1
+    go : (v : Code) (b : Bool) → lineSize (cond b (field 9206 (charsetOf v)) f) ≤ lineSize f + 1
     go Page437 true = omega arith
     go Page1252 true = omega arith
     go v false = omega arith
 
-size-marked : (w : Code) (fs : List Field) → size (map (markField w) fs) ≤ size fs + length fs
+size-marked : (w : Code) (fs : List Field) → size (map (charsetField w) fs) ≤ size fs + length fs
 size-marked w [] = omega arith
 size-marked w (f ∷ fs) = omega (arith, mark-line w f, size-marked w fs)
 
@@ -108,7 +108,7 @@ unfolding recodeLines
 size-new w fs = go (inCode w fs) (sevenBit fs) (hasCharset fs)
   where
     go : (a b c : Bool)
-        → size (cond a fs (cond b (map (markField w) fs) (cond c (map (markField w) (map (recodeField w) fs)) (resum (withCharset w (map (recodeField w) fs)))))) ≤ mostNew fs
+        → size (cond a fs (cond b (map (charsetField w) fs) (cond c (map (charsetField w) (map (recodeField w) fs)) (resum (withCharset w (map (recodeField w) fs)))))) ≤ mostNew fs
     go true b c = omega arith
     go false true c = omega (arith, size-marked w fs)
     go false false true = omega (arith, size-marked w (map (recodeField w) fs), size-recoded w fs, length-map fs (recodeField w))
@@ -127,17 +127,17 @@ module _ (w : Code) (fs : List Field) where
   unfolding recodeFaults allRecoded recodeLines
   at-rest a = (rw a refl, rw a refl)
 
-  if-seven : inCode w fs ≡ false → sevenBit fs ≡ true → hasCharset fs ≡ true → (recodeFaults w fs ≡ []) × (recodeLines w fs ≡ map (markField w) fs)
+  if-seven : inCode w fs ≡ false → sevenBit fs ≡ true → hasCharset fs ≡ true → (recodeFaults w fs ≡ []) × (recodeLines w fs ≡ map (charsetField w) fs)
   unfolding recodeFaults allRecoded recodeLines
   if-seven a b c = (rw (a, b, c) refl, rw (a, b) refl)
 
   if-other : inCode w fs ≡ false → sevenBit fs ≡ false → hasCharset fs ≡ true
-      → (recodeFaults w fs ≡ unknownFrom w 0 fs) × (recodeLines w fs ≡ map (markField w) (map (recodeField w) fs))
+      → (recodeFaults w fs ≡ noCharacterFrom w 0 fs) × (recodeLines w fs ≡ map (charsetField w) (map (recodeField w) fs))
   unfolding recodeFaults allRecoded recodeLines
   if-other a b c = (rw (a, b, c) refl, rw (a, b, c) refl)
 
   if-without : inCode w fs ≡ false → sevenBit fs ≡ false → hasCharset fs ≡ false
-      → (recodeFaults w fs ≡ manyLines ++ unknownFrom w 0 fs) × (recodeLines w fs ≡ resum (withCharset w (map (recodeField w) fs)))
+      → (recodeFaults w fs ≡ manyLines ++ noCharacterFrom w 0 fs) × (recodeLines w fs ≡ resum (withCharset w (map (recodeField w) fs)))
   unfolding recodeFaults allRecoded recodeLines
   if-without a b c = (rw (a, b, c) refl, rw (a, b, c) refl)
 
@@ -157,7 +157,7 @@ recoded-lines w fs new s (all-lines n x) =
 recoded-lines w fs new s (gained q n l x) =
     let a : IsIn w fs → ⊥ = subst (λ (v : Code). IsIn v fs → ⊥) (sym q) (none-not-in fs (s .charset) n) in
     let c = if-without w fs (not-in w fs a) (not-seven-bits fs (none-not-seven fs n)) (charset-no fs n) in
-    let u : unknownFrom w 0 fs ≡ [] = none-unknown-from w 0 fs (gained-have w fs new (s .front) n x) in
+    let u : noCharacterFrom w 0 fs ≡ [] = none-unknown-from w 0 fs (gained-have w fs new (s .front) n x) in
     (c .0 ∙ rw (le-leb (length fs + 1) maxLines l, u) refl, gained-only w fs new (s .front) n x ∙ sym (c .1))
 
 -- ---- and one of three holds of the lines of a set
@@ -172,20 +172,20 @@ pub outcome : (w : Code) (fs : List Field) → OfSet fs → Outcome w fs
 outcome w fs s = go (which fs (s .charset) w)
   where
     -- every content is recoded
-    of-bytes : OtherPage w fs → (NoCharset fs → length fs + 1 ≤ maxLines) → recodeFaults w fs ≡ unknownFrom w 0 fs → (LinesHave w fs → Recoded w fs (recodeLines w fs))
-        → (xs : List Fault) → unknownFrom w 0 fs ≡ xs → Outcome w fs
+    of-bytes : OtherPage w fs → (NoCharset fs → length fs + 1 ≤ maxLines) → recodeFaults w fs ≡ noCharacterFrom w 0 fs → (LinesHave w fs → Recoded w fs (recodeLines w fs))
+        → (xs : List Fault) → noCharacterFrom w 0 fs ≡ xs → Outcome w fs
     of-bytes p m e r [] q = fine (e ∙ q) (r (all-known-from w 0 fs q))
     of-bytes p m e r (x ∷ xs) q = let f = first-without w fs x xs q in unknown p m (f .0) (f .1) (f .2) xs (e ∙ (q ∙ ap (λ (y : Fault). y ∷ xs) (f .3)))
 
     -- a line is gained
-    of-lines : w ≡ Page1252 → NoCharset fs → OtherPage w fs → recodeFaults w fs ≡ manyLines w fs ++ unknownFrom w 0 fs → recodeLines w fs ≡ resum (withCharset w (map (recodeField w) fs))
+    of-lines : w ≡ Page1252 → NoCharset fs → OtherPage w fs → recodeFaults w fs ≡ manyLines w fs ++ noCharacterFrom w 0 fs → recodeLines w fs ≡ resum (withCharset w (map (recodeField w) fs))
         → (b : Bool) → leb (length fs + 1) maxLines ≡ b → Outcome w fs
     of-lines q n p e d true l =
         let m : length fs + 1 ≤ maxLines = leb-true (length fs + 1) maxLines l in
         of-bytes p (λ z. m) (e ∙ rw l refl)
         (λ h. subst (Recoded w fs) (sym d) (gained q n m (gained-line w fs (s .front) n h)))
-        (unknownFrom w 0 fs) refl
-    of-lines q n p e d false l = many p n (leb-false (length fs + 1) maxLines l) (unknownFrom w 0 fs) (e ∙ rw l refl)
+        (noCharacterFrom w 0 fs) refl
+    of-lines q n p e d false l = many p n (leb-false (length fs + 1) maxLines l) (noCharacterFrom w 0 fs) (e ∙ rw l refl)
 
     go : Which fs (s .charset) w → Outcome w fs
     go (already i) = let c = at-rest w fs (is-in w fs i) in fine (c .0) (stays i (c .1))
@@ -196,7 +196,7 @@ outcome w fs s = go (which fs (s .charset) w)
         let p : OtherPage w fs = (other-not-in fs (s .charset) w n, named-not-seven fs (s .charset) (notWanted w) n) in
         let h = named-charset (notWanted w) fs n in
         let c = if-other w fs (not-in w fs (p .0)) (not-seven-bits fs (p .1)) (has-charset fs h) in
-        of-bytes p (λ z. absurd (z (h .0) (h .1) (h .2))) (c .0) (λ k. subst (Recoded w fs) (sym (c .1)) (all-lines n (all-in-page w fs k))) (unknownFrom w 0 fs) refl
+        of-bytes p (λ z. absurd (z (h .0) (h .1) (h .2))) (c .0) (λ k. subst (Recoded w fs) (sym (c .1)) (all-lines n (all-in-page w fs k))) (noCharacterFrom w 0 fs) refl
     go (without q n) =
         let p : OtherPage w fs = (subst (λ (v : Code). IsIn v fs → ⊥) (sym q) (none-not-in fs (s .charset) n), none-not-seven fs n) in
         let c = if-without w fs (not-in w fs (p .0)) (not-seven-bits fs (p .1)) (charset-no fs n) in

@@ -38,7 +38,7 @@ use Rattle.meaning.proofs.Demands.{read-judge, list-there, list-write, left-by-
 use Rattle.meaning_recode.specs.declared.Code.{Code}
 use Rattle.meaning_recode.specs.declared.Code.the-variants.{Page437, Page1252}
 use Rattle.meaning_recode.specs.Codes.{noByte, to1252, to437, tableInto, recoded}
-use Rattle.meaning_recode.specs.Recoding.{mark, says, hasCharset, inCode, recodeFaults, markField, withCharset, recodeLines, recode}
+use Rattle.meaning_recode.specs.Recoding.{charsetOf, namesCode, hasCharset, inCode, recodeFaults, charsetField, withCharset, recodeLines, recode}
 use Rattle.meaning_recode.specs.RecodeCalls.{recodeCall}
 use Rattle.meaning_recode.specs.RecodeComputes.{recodeComputes}
 use Rattle.meaning_recode.proofs.CodeLaws.{other, undone-by, low-stays, high-stays}
@@ -121,11 +121,11 @@ q-no-charset : hasCharset qLines ≡ false
 unfolding computes qLines
 q-no-charset = refl
 
-says-437 : says Page437 (namedLines (line 9206 "2") 0x81) ≡ true
+says-437 : namesCode Page437 (namedLines (line 9206 "2") 0x81) ≡ true
 unfolding computes recodeComputes namedLines
 says-437 = refl
 
-says-1252 : says Page1252 (namedLines (line 9206 "3") 0xFC) ≡ true
+says-1252 : namesCode Page1252 (namedLines (line 9206 "3") 0xFC) ≡ true
 unfolding computes recodeComputes namedLines
 says-1252 = refl
 
@@ -429,7 +429,7 @@ twice-call-met-by-clearing b b′ used n w e f =
 -- back-call: given a set that names the other code page, and was recoded
 abbrev SaysBackCall : Caller → Type 0
 SaysBackCall C =
-    (b b′ : List ℕ) (used n : ℕ) (w : Code) (fs : List Field) → read (take used b) ≡ done (parsed fs []) → says (other w) fs ≡ true
+    (b b′ : List ℕ) (used n : ℕ) (w : Code) (fs : List Field) → read (take used b) ≡ done (parsed fs []) → namesCode (other w) fs ≡ true
     → Done n ≡ C b used w .answer → b′ ≡ C b used w .buffer
     → (C b′ n (other w) .answer ≡ Done used) × (C b′ n (other w) .buffer ≡ take used b ++ replicate (length b - used) 0)
 
@@ -496,14 +496,14 @@ line-call-met-by-refusing r b b′ used n fs e s f g = refused-made (sym f)
 abbrev SaysSevenCall : Caller → Type 0
 SaysSevenCall C =
     (b b′ : List ℕ) (used : ℕ) (w : Code) (fs : List Field) → used ≤ length b → read (take used b) ≡ done (parsed fs []) → sevenBit fs ≡ true → b′ ≡ C b used w .buffer
-    → (C b used w .answer ≡ Done used) × (b′ ≡ leaves (map (markField w) fs) b)
-    × (C b′ used (other w) .answer ≡ Done used) × (C b′ used (other w) .buffer ≡ leaves (map (markField (other w)) fs) b)
+    → (C b used w .answer ≡ Done used) × (b′ ≡ leaves (map (charsetField w) fs) b)
+    × (C b′ used (other w) .answer ≡ Done used) × (C b′ used (other w) .buffer ≡ leaves (map (charsetField (other w)) fs) b)
 
 seven-call-says : SaysSevenCall recodeCall
 seven-call-says = seven-call
 
 -- what it asks of the set: 2 or 3 stands at 34
-seven-at : (C : Caller) → SaysSevenCall C → (w : Code) → (C seven 61 w .answer ≡ Done 61) × (getD (C seven 61 w .buffer) 34 0 ≡ getD (mark w) 0 0)
+seven-at : (C : Caller) → SaysSevenCall C → (w : Code) → (C seven 61 w .answer ≡ Done 61) × (getD (C seven 61 w .buffer) 34 0 ≡ getD (charsetOf w) 0 0)
 unfolding computes named seven namedLines
 seven-at C h Page437 =
     let x = h seven (C seven 61 Page437 .buffer) 61 Page437 (namedLines (line 9206 "1") 0x41) (omega arith) front-seven seven-bits refl in
@@ -530,41 +530,41 @@ seven-call-not-clearing h = let z : _≡_ {A = ℕ} 0x31 0x32 = seven-at clearin
 
 -- One that names the wanted code page and recodes no content. Shut out by `recoded-exactly`.
 abbrev pub marking : Caller
-marking b used w = call (made (eachLine markField b used w)) (bytesLeft (eachLine markField b used w) b)
+marking b used w = call (made (eachLine charsetField b used w)) (bytesLeft (eachLine charsetField b used w) b)
 
-marked-twice : (v w : Code) (fs : List Field) → map (markField v) (map (markField w) fs) ≡ map (markField v) fs
+marked-twice : (v w : Code) (fs : List Field) → map (charsetField v) (map (charsetField w) fs) ≡ map (charsetField v) fs
 marked-twice v w [] = refl
 marked-twice v w (f ∷ fs) = ap₂ (λ (x : Field) (xs : List Field). x ∷ xs) (go (eqb (f .label) 9206) refl) (marked-twice v w fs)
   where
-    go : (t : Bool) → eqb (f .label) 9206 ≡ t → markField v (cond t (field 9206 (mark w)) f) ≡ markField v f
+    go : (t : Bool) → eqb (f .label) 9206 ≡ t → charsetField v (cond t (field 9206 (charsetOf w)) f) ≡ charsetField v f
     go true e = rw e refl
     go false e = refl
 
-size-marked : (w : Code) (fs : List Field) → Standing fs → size (map (markField w) fs) ≡ size fs
-size-marked w fs st = size-map (markField w) (alters-mark w) (profile fs) first 0 fs (ruled fs (st .right) .0 .each-line)
+size-marked : (w : Code) (fs : List Field) → Standing fs → size (map (charsetField w) fs) ≡ size fs
+size-marked w fs st = size-map (charsetField w) (alters-mark w) (profile fs) first 0 fs (ruled fs (st .right) .0 .each-line)
 
 marking-is : (b : List ℕ) (used : ℕ) (w : Code) (fs : List Field) → Holds b used fs
-    → (marking b used w .answer ≡ Done used) × (marking b used w .buffer ≡ leaves (map (markField w) fs) b)
+    → (marking b used w .answer ≡ Done used) × (marking b used w .buffer ≡ leaves (map (charsetField w) fs) b)
 marking-is b used w fs h =
     let all = accepted (take used b) (parsed fs []) (h .front) in
-    let is : eachLine markField b used w ≡ done (render (map (markField w) fs) []) =
-    ap (λ (y : Reply Parsed). thenTo y (λ d. done (render (map (markField w) (d .fields)) []))) (h .front) in
-    let n : length (render (map (markField w) fs) []) ≡ used =
-    length-render (map (markField w) fs) []
+    let is : eachLine charsetField b used w ≡ done (render (map (charsetField w) fs) []) =
+    ap (λ (y : Reply Parsed). thenTo y (λ d. done (render (map (charsetField w) (d .fields)) []))) (h .front) in
+    let n : length (render (map (charsetField w) fs) []) ≡ used =
+    length-render (map (charsetField w) fs) []
     ∙ omega (arith, size-marked w fs (all .standing), ap length (all .bytes), length-render fs [], length-take-le used b (h .fits-in)) in
     (ap made is ∙ ap Done n, ap (λ (y : Reply (List ℕ)). bytesLeft y b) is)
 
 seven-call-met-by-marking : SaysSevenCall marking
 seven-call-met-by-marking b b′ used w fs l r s e =
     let all = accepted (take used b) (parsed fs []) r in
-    let gs : List Field = map (markField w) fs in
+    let gs : List Field = map (charsetField w) fs in
     let x = marking-is b used w fs (record { fits-in = l; front = r }) in
     let left : b′ ≡ leaves gs b = e ∙ x .1 in
     let n : size gs ≡ used = size-marked w fs (all .standing) ∙ omega (arith, ap length (all .bytes), length-render fs [], length-take-le used b l) in
     let room : size gs ≤ length b = omega arith in
     let h : Holds (leaves gs b) (size gs) gs = holds-leaves gs b (marked-standing w fs (all .standing)) room in
     let y = marking-is b′ used (other w) gs (subst (λ (z : List ℕ). Holds z used gs) (sym left) (subst (λ (k : ℕ). Holds (leaves gs b) k gs) n h)) in
-    let same = left-by-length (render (map (markField (other w)) gs) []) b′ b (ap length left ∙ length-leaves gs b room) in
+    let same = left-by-length (render (map (charsetField (other w)) gs) []) b′ b (ap length left ∙ length-leaves gs b room) in
     (x .0, left, y .0, y .1 ∙ (same ∙ ap (λ (ks : List Field). leaves ks b) (marked-twice (other w) w fs)))
 
 -- ---- "Demand 2 holds before and after."
@@ -651,7 +651,7 @@ unfolding inCode
 not-both x gs r e c f =
     let st : Standing gs = accepted x (parsed gs []) r .standing in
     let h = says-hold Page1252 gs (one-charset gs (ruled gs (st .right) .0)) e in
-    true≢false (sym f ∙ not-in-code Page437 (mark Page1252) gs (marks-differ Page1252 .0) h c)
+    true≢false (sym f ∙ not-in-code Page437 (charsetOf Page1252) gs (marks-differ Page1252 .0) h c)
 
 recode-wanted-not-same : (x : List ℕ) → SaysRecodeWanted (λ b used w. done x) → ⊥
 recode-wanted-not-same x h =

@@ -29,7 +29,7 @@ use Rattle.meaning.proofs.CorrectionLaws.{Change, change, line-resum, still-sta
 use Rattle.meaning.proofs.CallLaws.{done-call, front-made}
 use Rattle.meaning_recode.specs.declared.Code.{Code}
 use Rattle.meaning_recode.specs.declared.Code.the-variants.{Page437, Page1252}
-use Rattle.meaning_recode.specs.Recoding.{hasCharset, inCode, allRecoded, markField, recodeLines, recode}
+use Rattle.meaning_recode.specs.Recoding.{hasCharset, inCode, allRecoded, charsetField, recodeLines, recode}
 use Rattle.meaning_recode.specs.RecodeCalls.{recodeCall}
 use Rattle.meaning_recode.specs.RecodeComputes.{recodeComputes}
 use Rattle.meaning_recode.proofs.KindLaws.{Told}
@@ -410,9 +410,9 @@ either-lines-not-idle-recode : (G : List Field → ℕ → List ℕ → List Fie
 unfolding pLines
 either-lines-not-idle-recode G = either-lines-not-ungained G (λ w fs. fs) refl
 
-either-lines-not-marking-recode : (G : List Field → ℕ → List ℕ → List Field) → SaysEitherLines G (λ w fs. map (markField w) fs) → ⊥
+either-lines-not-marking-recode : (G : List Field → ℕ → List ℕ → List Field) → SaysEitherLines G (λ w fs. map (charsetField w) fs) → ⊥
 unfolding pLines
-either-lines-not-marking-recode G = either-lines-not-ungained G (λ w fs. map (markField w) fs) refl
+either-lines-not-marking-recode G = either-lines-not-ungained G (λ w fs. map (charsetField w) fs) refl
 
 -- line 4 would have the one content, and the other
 either-lines-not-same-recode : (gs : List Field) → SaysEitherLines changed (λ w fs. gs) → ⊥

@@ -17,7 +17,7 @@ use Rattle.meaning.proofs.FaultLaws.{refused-done, done-same}
 use Rattle.breaches.proofs.CallExact.{refused-same}
 use Rattle.meaning_recode.specs.declared.Code.{Code}
 use Rattle.meaning_recode.specs.declared.Code.the-variants.{Page437, Page1252}
-use Rattle.meaning_recode.specs.Recoding.{recodeField, markField, recode}
+use Rattle.meaning_recode.specs.Recoding.{recodeField, charsetField, recode}
 use Rattle.meaning_recode.specs.RecodeComputes.{recodeComputes}
 use Rattle.theory_recode.specs.RecodeRules.{Recodes}
 use Rattle.theory_recode.specs.RecodeBreaches.{RecodeRefused}
@@ -141,10 +141,10 @@ recoded-exactly-not-idle h =
     other-byte (sym (ap (idle (take 61 in437)) recode-letter) ∙ recoded-exactly-at (λ b used w. idle (take used b) (recode b used w)) h in437 61 Page1252 in1252 .1 recode-letter)
 
 -- nor one that names the wanted code page and recodes no content
-recoded-exactly-not-marking : SaysRecodedExactly (eachLine markField) → ⊥
+recoded-exactly-not-marking : SaysRecodedExactly (eachLine charsetField) → ⊥
 unfolding computes named in437 in1252
 recoded-exactly-not-marking h =
-    let e : done (named (line 9206 "3") 0x81) ≡ done in1252 = recoded-exactly-at (eachLine markField) h in437 61 Page1252 in1252 .1 recode-letter in
+    let e : done (named (line 9206 "3") 0x81) ≡ done in1252 = recoded-exactly-at (eachLine charsetField) h in437 61 Page1252 in1252 .1 recode-letter in
     let z : _≡_ {A = ℕ} 0x81 0xFC = ap (λ (xs : List ℕ). getD xs 58 0) (done-same e) in
     omega arith
 
