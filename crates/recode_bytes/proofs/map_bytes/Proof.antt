@@ -62,7 +62,8 @@ loop-again c =
     let q = at-part-end .part-end .ensures in
     let e = at-map-each .map-each .ensures in
     let n = ap length e ∙ length-at (a .table .now) (l .s) _ _ (omega (arith, p .1, q .0, q .1)) in
-    (omega (arith, q .1, inv .1 .1), (map-part (a .table .now) (at-start .pre) (a .s .now) (l .s) _ (l .i) _ _ (p .0) (q .0) (omega (arith, q .1, inv .1 .1)) (inv .1 .1) (inv .1 .0) (p .2) e, n ∙ inv .1 .1))
+    let m = map-part (a .table .now) (at-start .pre) (a .s .now) (l .s) _ (l .i) _ _ (p .0) (q .0) (omega (arith, q .1, inv .1 .1)) (inv .1 .1) (inv .1 .0) (p .2) e in
+    (omega (arith, q .1, inv .1 .1), (m, n ∙ inv .1 .1))
 
 same-length : tie.Need-same-length Inv-loop μ-loop
 same-length c = search needs
