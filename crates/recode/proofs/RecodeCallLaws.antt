@@ -14,11 +14,11 @@ use Rattle.meaning.specs.declared.Judged.the-variants.{Refused as RefusedSet}
 use Rattle.meaning.specs.declared.Made.the-variants.{Done, Refused as NotMade}
 use Rattle.meaning.specs.Limits.{maxSetBytes}
 use Rattle.meaning.specs.Field.{Field, isNil}
-use Rattle.meaning.specs.Refusals.{Fault, Reply, refused, done, thenTo, verdict, refusal, badUse}
+use Rattle.meaning.specs.Refusals.{Fault, Reply, refused, done, thenTo, verdict, refusal, empty, badUse}
 use Rattle.meaning.specs.Pieces.{Parsed}
 use Rattle.meaning.specs.Lines.{lineLead, size, offset, render}
 use Rattle.meaning.specs.Rules.{profile, sevenBit}
-use Rattle.meaning.specs.Reading.{read, judge, inSet}
+use Rattle.meaning.specs.Reading.{scan, read, judge, inSet}
 use Rattle.meaning.specs.Lists.{setWithRoom}
 use Rattle.meaning.specs.Corrections.{aloneFaults, resum}
 use Rattle.meaning.specs.Answers.{made, bytesLeft}
@@ -49,6 +49,11 @@ use Rattle.recode.proofs.RecodedLines.{OnlyLine, only-line, leaves-same
 pub recode-over : (b : List ℕ) (used : ℕ) (w : Code) → length b < used → recode b used w ≡ refused (refusal badUse (length b) 0)
 unfolding recode
 recode-over b used w h = rw (lt-leb used (length b) h) refl
+
+-- 1: no byte is used
+pub recode-empty : (b : List ℕ) (used : ℕ) (w : Code) → used ≡ 0 → recode b used w ≡ refused (refusal empty 0 0)
+unfolding recode read scan
+recode-empty b used w e = rw (e, le-leb 0 (length b) (omega arith)) refl
 
 -- a refusal leaves every byte
 pub kept : (b : List ℕ) (used : ℕ) (w : Code) (r : Refusal) → recode b used w ≡ refused r

@@ -33,6 +33,10 @@ pub fn recode(buffer: &mut [u8], used: usize, wanted: Code) -> Made
     if room < used {
         return Made::Refused(Refusal::at(Refusal::BAD_USE, room));
     }
+    // 1, Empty, which `judge` would answer too: here the table has not been taken yet.
+    if used == 0 {
+        return Made::Refused(Refusal::at(Refusal::EMPTY, 0));
+    }
     let table = recode_table::table_into(wanted);
     match plan_recode(&buffer[..used], room, wanted, &table) {
         Plan::Refused(r) => Made::Refused(r),

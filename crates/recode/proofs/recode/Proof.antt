@@ -9,7 +9,7 @@ use Rattle.meaning.specs.Refusals.{refused}
 use Rattle.recode_bytes.specs.Mapped.{CodeTable}
 use Rattle.recode_plan.proofs.RecodedLaws.{table-codes}
 use Rattle.recode_put.specs.Recoded.{zeroedAfter, remarked, mappedFront, withLine}
-use Rattle.recode.proofs.RecodeCallLaws.{recode-over, kept, plan-refused, stays-made, marks-inside, marks-made, recodes-inside, recodes-made, gains-after, gains-room, gains-made}
+use Rattle.recode.proofs.RecodeCallLaws.{recode-over, recode-empty, kept, plan-refused, stays-made, marks-inside, marks-made, recodes-inside, recodes-made, gains-after, gains-room, gains-made}
 use Rattle.recode.proofs.recode.Statement.{statement}
 use Rattle.recode.proofs.recode.Tie as tie
 
@@ -23,6 +23,17 @@ returns c =
     let a = at-start .args in
     kept (a .buffer .now) (a .used) (a .wanted) _ (recode-over (a .buffer .now) (a .used) (a .wanted) (at-if1 .if1 .taken) ∙ ap refused (sym (c .at .ensures)))
 
+at-requires-2 : tie.Need-at-requires-2
+at-requires-2 c κs = search needs
+
+returns-2 : tie.Need-returns-2
+returns-2 c =
+    let at-if2 = c .before in
+    let at-if1 = at-if2 .before in
+    let at-start = at-if1 .before .before in
+    let a = at-start .args in
+    kept (a .buffer .now) (a .used) (a .wanted) _ (recode-empty (a .buffer .now) (a .used) (a .wanted) (at-if2 .if2 .taken) ∙ ap refused (sym (c .at2 .ensures)))
+
 table-into-requires : tie.Need-table-into-requires
 table-into-requires c κs = search needs
 
@@ -31,7 +42,8 @@ slice-reshare-prefix-plan-recode c = search needs
 
 slice-aggregate-plan-recode : tie.Need-slice-aggregate-plan-recode
 slice-aggregate-plan-recode c =
-    let at-if1 = c .before .before in
+    let at-if2 = c .before .before in
+    let at-if1 = at-if2 .before in
     let at-start = at-if1 .before .before in
     let a = at-start .args in
     sym (length-take-le (a .used) (a .buffer .now) (at-if1 .if1 .left))
@@ -39,7 +51,8 @@ slice-aggregate-plan-recode c =
 plan-recode-requires : tie.Need-plan-recode-requires
 plan-recode-requires c κs =
     let at-table-into = c .before .before in
-    let at-if1 = at-table-into .before in
+    let at-if2 = at-table-into .before in
+    let at-if1 = at-if2 .before in
     let at-start = at-if1 .before .before in
     let a = at-start .args in
     (omega (arith, length-take-le (a .used) (a .buffer .now) (at-if1 .if1 .left)), at-table-into .table-into .ensures)
@@ -61,7 +74,8 @@ put-mark-requires c κs =
     let at-place = c .before .before in
     let at-plan-recode = at-place .before .before in
     let at-plan-recode-arg = at-plan-recode .before .before in
-    let at-if1 = at-plan-recode-arg .before .before in
+    let at-if2 = at-plan-recode-arg .before .before in
+    let at-if1 = at-if2 .before in
     let at-start = at-if1 .before .before in
     let a = at-start .args in
     (marks-inside (a .buffer .now) (a .used) (a .wanted) (at-if1 .if1 .left) _ (sym (at-plan-recode .plan-recode .ensures) ∙ at-place .place .given .1), at-if1 .if1 .left)
@@ -76,7 +90,8 @@ put-recoded-requires c κs =
     let at-plan-recode = at-place2 .before .before in
     let at-plan-recode-arg = at-plan-recode .before .before in
     let at-table-into = at-plan-recode-arg .before in
-    let at-if1 = at-table-into .before in
+    let at-if2 = at-table-into .before in
+    let at-if1 = at-if2 .before in
     let at-start = at-if1 .before .before in
     let a = at-start .args in
     let q = sym (at-plan-recode .plan-recode .ensures) ∙ at-place2 .place2 .given .1 in
@@ -90,7 +105,8 @@ add-total : tie.Need-add-total
 add-total c =
     let at-plan-recode = c .before .before in
     let at-plan-recode-arg = at-plan-recode .before .before in
-    let at-if1 = at-plan-recode-arg .before .before in
+    let at-if2 = at-plan-recode-arg .before .before in
+    let at-if1 = at-if2 .before in
     let at-start = at-if1 .before .before in
     let a = at-start .args in
     let q = sym (at-plan-recode .plan-recode .ensures) ∙ c .enum-told2 .given .1 in
@@ -102,7 +118,8 @@ put-gained-requires c κs =
     let at-plan-recode = at-enum-told2 .before .before in
     let at-plan-recode-arg = at-plan-recode .before .before in
     let at-table-into = at-plan-recode-arg .before in
-    let at-if1 = at-table-into .before in
+    let at-if2 = at-table-into .before in
+    let at-if1 = at-if2 .before in
     let at-start = at-if1 .before .before in
     let a = at-start .args in
     let q = sym (at-plan-recode .plan-recode .ensures) ∙ at-enum-told2 .enum-told2 .given .1 in
@@ -112,12 +129,13 @@ put-gained-requires c κs =
 same-length : tie.Need-same-length
 same-length c = search needs
 
-returns-2 : tie.Need-returns-2
-returns-2 c =
+returns-3 : tie.Need-returns-3
+returns-3 c =
     let at-r = c .before in
     let at-plan-recode = at-r .before .before in
     let at-plan-recode-arg = at-plan-recode .before .before in
-    let at-if1 = at-plan-recode-arg .before .before in
+    let at-if2 = at-plan-recode-arg .before .before in
+    let at-if1 = at-if2 .before in
     let at-start = at-if1 .before .before in
     let a = at-start .args in
     kept (a .buffer .now) (a .used) (a .wanted) _ (plan-refused (a .buffer .now) (a .used) (a .wanted) _ (at-if1 .if1 .left) (sym (at-plan-recode .plan-recode .ensures) ∙ at-r .r .given .1))
@@ -125,13 +143,14 @@ returns-2 c =
 same-length-2 : tie.Need-same-length-2
 same-length-2 c = search needs
 
-returns-3 : tie.Need-returns-3
-returns-3 c =
+returns-4 : tie.Need-returns-4
+returns-4 c =
     let at-put-nothing = c .before .before in
     let at-enum-told = at-put-nothing .before .before in
     let at-plan-recode = at-enum-told .before .before in
     let at-plan-recode-arg = at-plan-recode .before .before in
-    let at-if1 = at-plan-recode-arg .before .before in
+    let at-if2 = at-plan-recode-arg .before .before in
+    let at-if1 = at-if2 .before in
     let at-start = at-if1 .before .before in
     let a = at-start .args in
     let m = stays-made (a .buffer .now) (a .used) (a .wanted) (at-if1 .if1 .left) (sym (at-plan-recode .plan-recode .ensures) ∙ at-enum-told .enum-told .given .1) in
@@ -140,14 +159,15 @@ returns-3 c =
 same-length-3 : tie.Need-same-length-3
 same-length-3 c = search needs
 
-returns-4 : tie.Need-returns-4
-returns-4 c =
+returns-5 : tie.Need-returns-5
+returns-5 c =
     let at-put-mark = c .before .before in
     let at-known-told2 = at-put-mark .before .before in
     let at-place = at-known-told2 .before in
     let at-plan-recode = at-place .before .before in
     let at-plan-recode-arg = at-plan-recode .before .before in
-    let at-if1 = at-plan-recode-arg .before .before in
+    let at-if2 = at-plan-recode-arg .before .before in
+    let at-if1 = at-if2 .before in
     let at-start = at-if1 .before .before in
     let a = at-start .args in
     let m = marks-made (a .buffer .now) (a .used) (a .wanted) (at-if1 .if1 .left) _ (sym (at-plan-recode .plan-recode .ensures) ∙ at-place .place .given .1) in
@@ -156,15 +176,16 @@ returns-4 c =
 same-length-4 : tie.Need-same-length-4
 same-length-4 c = search needs
 
-returns-5 : tie.Need-returns-5
-returns-5 c =
+returns-6 : tie.Need-returns-6
+returns-6 c =
     let at-put-recoded = c .before .before in
     let at-put-recoded-arg = at-put-recoded .before .before in
     let at-place2 = at-put-recoded-arg .before .before in
     let at-plan-recode = at-place2 .before .before in
     let at-plan-recode-arg = at-plan-recode .before .before in
     let at-table-into = at-plan-recode-arg .before in
-    let at-if1 = at-table-into .before in
+    let at-if2 = at-table-into .before in
+    let at-if1 = at-if2 .before in
     let at-start = at-if1 .before .before in
     let a = at-start .args in
     let m = recodes-made (a .buffer .now) (a .used) (a .wanted) (at-if1 .if1 .left) _ (sym (at-plan-recode .plan-recode .ensures) ∙ at-place2 .place2 .given .1) in
@@ -174,15 +195,16 @@ returns-5 c =
 same-length-5 : tie.Need-same-length-5
 same-length-5 c = search needs
 
-returns-6 : tie.Need-returns-6
-returns-6 c =
+returns-7 : tie.Need-returns-7
+returns-7 c =
     let at-put-gained = c .before .before in
     let at-put-gained-arg = at-put-gained .before .before in
     let at-enum-told2 = at-put-gained-arg .before in
     let at-plan-recode = at-enum-told2 .before .before in
     let at-plan-recode-arg = at-plan-recode .before .before in
     let at-table-into = at-plan-recode-arg .before in
-    let at-if1 = at-table-into .before in
+    let at-if2 = at-table-into .before in
+    let at-if1 = at-if2 .before in
     let at-start = at-if1 .before .before in
     let a = at-start .args in
     let m = gains-made (a .buffer .now) (a .used) (a .wanted) (at-if1 .if1 .left) (sym (at-plan-recode .plan-recode .ensures) ∙ at-enum-told2 .enum-told2 .given .1) in
@@ -195,6 +217,8 @@ recode-spec =
     (tie.spec
     at-requires
     returns
+    at-requires-2
+    returns-2
     table-into-requires
     slice-reshare-prefix-plan-recode
     slice-aggregate-plan-recode
@@ -210,12 +234,12 @@ recode-spec =
     add-total
     put-gained-requires
     same-length
-    returns-2
-    same-length-2
     returns-3
-    same-length-3
+    same-length-2
     returns-4
-    same-length-4
+    same-length-3
     returns-5
+    same-length-4
+    returns-6
     same-length-5
-    returns-6)
+    returns-7)
