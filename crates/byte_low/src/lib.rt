@@ -61,7 +61,33 @@ fn short_low(s: &[u8], at: usize, k: usize) -> usize
     seek_low(s, at, k)
 }
 
-// The same offset. A content without a fault is the rule, so blocks are passed over while they are clean; most contents of a correction have no block.
+// The offset of the first block of this size that is not clean, or of the bytes that are left after all blocks.
+fn pass_clean(s: &[u8], at: usize, k: usize, size: usize) -> usize
+    requires { ⌜ (1 ≤ size) × (at + k ≤ length (now s)) ⌝ }
+    ensures { λ r. ⌜ (r ≤ at + k) × (firstLow (now (s .entry)) r (at + k - r) ≡ firstLow (now (s .entry)) at k) ⌝ }
+{
+    let end = at + k;
+    let mut i = at;
+    while size <= end - i {
+        if clean(s, i, size) {
+            i += size;
+        } else {
+            return i;
+        }
+    }
+    i
+}
+
+// The same offset, in a content that may be long: the blocks before the one that is not clean are passed over.
+pub fn find_low(s: &[u8], at: usize, k: usize) -> usize
+    requires { ⌜ at + k ≤ length (now s) ⌝ }
+    ensures { λ r. ⌜ r ≡ firstLow (now (s .entry)) at k ⌝ }
+{
+    let i = pass_clean(s, at, k, WIDE_BLOCK);
+    seek_low(s, i, at + k - i)
+}
+
+// The same offset. A content without a fault is the rule, so less is left to be tested byte by byte; most contents of a correction have no block.
 pub fn first_low(s: &[u8], at: usize, k: usize) -> usize
     requires { ⌜ at + k ≤ length (now s) ⌝ }
     ensures { λ r. ⌜ r ≡ firstLow (now (s .entry)) at k ⌝ }
@@ -70,22 +96,9 @@ pub fn first_low(s: &[u8], at: usize, k: usize) -> usize
         return short_low(s, at, k);
     }
     let end = at + k;
-    let mut i = at;
-    while WIDE_BLOCK <= end - i {
-        if clean(s, i, WIDE_BLOCK) {
-            i += WIDE_BLOCK;
-        } else {
-            return seek_low(s, i, end - i);
-        }
-    }
-    while BLOCK <= end - i {
-        if clean(s, i, BLOCK) {
-            i += BLOCK;
-        } else {
-            return seek_low(s, i, end - i);
-        }
-    }
-    short_low(s, i, end - i)
+    let wide = pass_clean(s, at, k, WIDE_BLOCK);
+    let i = pass_clean(s, wide, end - wide, BLOCK);
+    seek_low(s, i, end - i)
 }
 
 // None of the bytes from one offset to another is under 20h. The last block may start before the first of them, and then asks more.

@@ -182,7 +182,7 @@ pub fn objection_by_number(no: usize, label: usize, content: &[u8]) -> Objection
     }
     // 6, BadByte: "place in the new content"
     if no == Refusal::BAD_BYTE {
-        let low = byte_low::seek_low(content, 0, content.len());
+        let low = byte_low::find_low(content, 0, content.len());
         return Objection::by(Refusal::BAD_BYTE, low, 0);
     }
     if no == Refusal::HIGH_BYTE {

@@ -11,16 +11,16 @@ by-requires c κs = search needs
 returns : tie.Need-returns
 returns c = c .by .ensures ∙ number-good _ _ _ (c .before .if1 .taken)
 
-seek-low-requires : tie.Need-seek-low-requires
-seek-low-requires c κs = search needs
+find-low-requires : tie.Need-find-low-requires
+find-low-requires c κs = search needs
 
 by-requires-2 : tie.Need-by-requires-2
 by-requires-2 c κs = search needs
 
 returns-2 : tie.Need-returns-2
 returns-2 c =
-    let at-seek-low = c .before in
-    c .by2 .ensures ∙ number-low _ _ _ (at-seek-low .before .if2 .taken) _ (at-seek-low .seek-low .ensures)
+    let at-find-low = c .before in
+    c .by2 .ensures ∙ number-low _ _ _ (at-find-low .before .if2 .taken) _ (at-find-low .find-low .ensures)
 
 first-high-requires : tie.Need-first-high-requires
 first-high-requires c κs = search needs
@@ -48,7 +48,7 @@ objection-by-number-spec =
     (tie.spec
     by-requires
     returns
-    seek-low-requires
+    find-low-requires
     by-requires-2
     returns-2
     first-high-requires
