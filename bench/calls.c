@@ -15,7 +15,7 @@ enum {
     OUT = BUFFER,
     SPARE = 7, /* bytes that a correction has after the set, as it is or as it becomes */
     CHANGED_LINE = 9, /* in the loads of corrections; its content may have 1 to 60 bytes */
-    LONGEST_CONTENT = 990, /* bytes: a line has at most 999 */
+    LOW_BYTE = '\t',
     MOST_SIZES = 6,
     MOST_INPUTS = 256, /* of a load; if it has as many, instructions are counted of each COUNTED-th one alone, times are taken of all */
     COUNTED = 16
@@ -126,6 +126,15 @@ static void new_length(struct input *input, size_t length)
     change_line(input, CHANGED_LINE, length);
 }
 
+/* The same, and the last byte of the new content is under 20h. */
+static void new_low_at_end(struct input *input, size_t length)
+{
+    new_length(input, length);
+    input->content[length - 1] = LOW_BYTE;
+    choose_line(input, CHANGED_LINE);
+    input->no = GDT_BAD_BYTE;
+}
+
 /* A sheet of this many entries for the last line. */
 static void long_sheet(struct input *input, size_t entries)
 {
@@ -185,6 +194,7 @@ static const struct load {
     {"varied-refused", NULL, next_refused, ON_VARIED, MOST_INPUTS, {0}},
     {"unknown40", NULL, unknown_then_40, ON_BAD_LINES, 1, {512}},
     {"unknown990", NULL, unknown_then_990, ON_BAD_LINES, 1, {44}},
+    {"low990-new", short_77, new_low_at_end, OF(CORRECT) | OF(VIEW), 1, {LONGEST_CONTENT}},
     {"refused", NULL, refused, ON_SET, GDT_HIGH_BYTE, {0}},
 };
 

@@ -7,6 +7,7 @@
 enum {
     BUFFER = 40000, /* bytes, for a set, a list or a sheet */
     MOST_CONTENT = 60, /* bytes, of a field that has no other bound */
+    LONGEST_CONTENT = 990, /* bytes: a line has at most 999 */
     SUM_LINE = 2,
     FIXED_LINE = 3,
     PATIENT_LINE = 4,
@@ -18,7 +19,7 @@ enum {
    The call must answer the number `no`. */
 struct input {
     size_t no;
-    uint8_t set[BUFFER], list[BUFFER], sheet[BUFFER], content[MOST_CONTENT], old[MOST_CONTENT];
+    uint8_t set[BUFFER], list[BUFFER], sheet[BUFFER], content[LONGEST_CONTENT], old[MOST_CONTENT];
     size_t used, lines, list_used, sheet_used, content_length, old_length, line;
 };
 
