@@ -16,7 +16,7 @@ abbrev pub aloneJudged : Reply (List Field) → Judged
 aloneJudged (refused r) = Refused r
 aloneJudged (done fs) = Accepted (shape fs)
 
--- as the set at the front of so many bytes is judged, and 18 if it does not fill them
+-- as the set at the front of this many bytes is judged, and 18 if it does not fill them
 abbrev pub aloneOf : Judged → ℕ → Judged
 aloneOf (Refused r) n = Refused r
 aloneOf (Accepted x) n = cond (leb n (x .length)) (Accepted x) (Refused (refusal badUse (x .length) 0))
@@ -25,6 +25,6 @@ aloneOf (Accepted x) n = cond (leb n (x .length)) (Accepted x) (Refused (refusal
 abbrev pub dataLength : Shape → ℕ
 dataLength x = x .length - x .lines - 1
 
--- how many blocks so many bytes of data have
+-- how many blocks this many bytes of data have
 abbrev pub countFor : ℕ → ℕ
 countFor n = cond (leb n maxData) 2 ((n + (maxData - 1)) / maxData)

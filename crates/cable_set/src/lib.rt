@@ -12,7 +12,7 @@ use meaning_cable::BlockCount;
 // The fewest blocks of a set: "a set that would fit one block is cut after its first 1Ch".
 const FEWEST: usize = 2;
 
-// "The sender refuses as the set does, and 18 for a second set": what judging says of the set at the front of so many bytes, held against these. The caller judges the set: so each one calls the
+// "The sender refuses as the set does, and 18 for a second set": what judging says of the set at the front of this many bytes, held against these. The caller judges the set: so each one calls the
 // same `judge`, and a set that is refused at its start is handed over without a further frame.
 pub fn alone_of(judged: Judged, length: usize) -> Judged
     ensures { λ r. ⌜ r ≡ aloneOf judged length ⌝ }

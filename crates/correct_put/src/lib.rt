@@ -1,6 +1,6 @@
 // A new content for one line of a set in its buffer, with the line's length and the sum brought up to date.
-// Assumes of each call that the old content lies in the bytes that count and that the changed set has room: only another crate here calls it, and proves that. The contract says
-// what every byte of the buffer is afterwards.
+// Assumes of each call that the old content lies in the bytes that count and that the changed set has room: only other crates here call it, and they prove that. Each contract
+// says what every byte of the buffer is afterwards.
 ghost use mathlib.Core.Path.{_≡_};
 ghost use Prim.Native.Nat.{_+_, _-_, _≤_};
 ghost use lib.ListN.{length};

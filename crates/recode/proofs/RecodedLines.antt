@@ -6,7 +6,7 @@ use mathlib.Core.Logic.{_≢_}
 use Prim.Native.Nat.{ℕ, zero, suc, _+_, _-_, _<_}
 use native.Mathlib.Omega.{arith}
 use lib.Dec.{leb, eqb}
-use lib.ListN.{length, getD, take, drop, set, replicate, length-append, take-append-drop}
+use lib.ListN.{length, getD, take, drop, set, replicate, length-append, length-map, take-append-drop}
 use lib.Seq.{take-at, set-at, set-append-left}
 use borrow.Author.Tests.{eq-eqb, ne-eqb, eqb-false, leb-true, leb-false, le-leb}
 use Rattle.meaning.specs.declared.Known.{Known}
@@ -43,10 +43,6 @@ use Rattle.recode_plan.proofs.RecodedLaws.{OneByte, size-recoded, size-marked, 
 use Rattle.recode_put.specs.Recoded.{lineThree, gainedBytes, zeroedAfter, remarked, mappedFront, withLine}
 
 -- ---- every byte mapped is every content recoded
-
-length-map : {A B : Type 0} (f : A → B) (xs : List A) → length (map f xs) ≡ length xs
-length-map f [] = refl
-length-map f (x ∷ xs) = ap suc (length-map f xs)
 
 module _ (w : Code) where
   abbrev t : List ℕ
@@ -85,7 +81,7 @@ module _ (w : Code) where
   line-mapped k f u e =
       let three : List ℕ = digits lengthDigits (lineSize f) in
       let four : List ℕ = digits labelDigits (f .label) in
-      let n : lineSize f ≡ lineSize (recodeField w f) = omega (arith, length-map (recoded w) (f .content)) in
+      let n : lineSize f ≡ lineSize (recodeField w f) = omega (arith, length-map (f .content) (recoded w)) in
       let end : mapped t (cr ∷ lf ∷ u) ≡ cr ∷ lf ∷ mapped t u =
       mapped-both t (cr ∷ lf ∷ []) u ∙ ap (λ (x : List ℕ). x ++ mapped t u) (low-mapped (cr ∷ lf ∷ []) (omega arith, (omega arith, tt))) in
       mapped-both t three (four ++ (f .content ++ (cr ∷ lf ∷ u)))
@@ -162,13 +158,13 @@ module _ (w : Code) where
 
   length-recoded : (fs : List Field) (i : ℕ) → length (contentAtLine (map (recodeField w) fs) i) ≡ length (contentAtLine fs i)
   length-recoded [] i = refl
-  length-recoded (f ∷ fs) zero = length-map (recoded w) (f .content)
+  length-recoded (f ∷ fs) zero = length-map (f .content) (recoded w)
   length-recoded (f ∷ fs) (suc i) = length-recoded fs i
 
   -- recoding keeps labels and lengths
   pub only-recoded : (fs : List Field) (j : ℕ) → OnlyLine fs j → OnlyLine (map (recodeField w) fs) j
   only-recoded fs j o =
-      let n : length (map (recodeField w) fs) ≡ length fs = length-map (recodeField w) fs in
+      let n : length (map (recodeField w) fs) ≡ length fs = length-map fs (recodeField w) in
       record {
         inside = omega (arith, n, o .inside);
         named = label-recoded fs j ∙ o .named;
@@ -179,7 +175,7 @@ module _ (w : Code) where
   offset-recoded : (fs : List Field) (j : ℕ) → offset (map (recodeField w) fs) j ≡ offset fs j
   offset-recoded [] j = refl
   offset-recoded (f ∷ fs) zero = refl
-  offset-recoded (f ∷ fs) (suc j) = omega (arith, offset-recoded fs j, length-map (recoded w) (f .content))
+  offset-recoded (f ∷ fs) (suc j) = omega (arith, offset-recoded fs j, length-map (f .content) (recoded w))
 
 -- lines that keep the rules have at most one 9206
 only-from : (p : Profile) → Single 9206 (find (rowsOf p) 9206) → (st : State) (k : ℕ) (fs : List Field) → rulesFrom p st k fs ≡ [] → (j : ℕ) → j < length fs
@@ -305,7 +301,7 @@ module _ (b : List ℕ) (used : ℕ) (fs : List Field) (by : take used b ≡ ren
           let sum : used + gainedBytes ≡ lineSize (recodeField w f) + (sumLine + size rest) = omega (arith, m) in
           let all : List ℕ = render (map (recodeField w) (f ∷ g ∷ fs)) [] ++ drop used b in
           let z : List ℕ = replicate (length all - (used + gainedBytes)) 0 in
-          gained-bytes w (recodeField w f) (recodeField w g) (map (recodeField w) fs) (drop used b) used (length-map (recoded w) (f .content) ∙ h .first-four)
-          (length-map (recoded w) (g .content) ∙ h .second-five) (h .second-label) k
+          gained-bytes w (recodeField w f) (recodeField w g) (map (recodeField w) fs) (drop used b) used (length-map (f .content) (recoded w) ∙ h .first-four)
+          (length-map (g .content) (recoded w) ∙ h .second-five) (h .second-label) k
           ∙ (ap (λ (x : ℕ). render (recodeField w f ∷ sumField x ∷ rest) z) sum
           ∙ (render-split new z ∙ ap₂ (λ (x y : ℕ). render new [] ++ replicate (x - y) 0) e (m ∙ sym (length-render new [] ∙ omega arith))))

@@ -10,8 +10,8 @@ use recode_table::NO_BYTE;
 // Where bytes over 7Fh begin, this many bytes are taken one by one: others may follow.
 const PART: usize = 32;
 
-// So many numbers a byte can be.
-const BYTE: u16 = 256;
+// A byte is one of this many numbers.
+const BYTE: u16 = meaning::BYTE_VALUES as u16;
 
 // Where the bytes end that are taken one by one from an offset on.
 fn part_end(length: usize, from: usize) -> usize

@@ -5,7 +5,7 @@ use mathlib.Core.List.{List, [], _∷_, map}
 use Prim.Native.Nat.{ℕ, zero, suc, _+_, _≤_, _<_}
 use native.Mathlib.Omega.{arith}
 use lib.Dec.{eqb}
-use lib.ListN.{length}
+use lib.ListN.{length, length-map}
 use borrow.Author.Tests.{eqb-true, ne-eqb, le-leb, lt-leb}
 use Rattle.meaning.specs.declared.Refusal.{Refusal}
 use Rattle.meaning.specs.Field.{Field, field, labelAtLine, contentAtLine}
@@ -28,10 +28,6 @@ use Rattle.recode_plan.proofs.CharsetPlaceLaws.{charset-byte}
 
 -- ---- how many bytes
 
-length-map : {A B : Type 0} (f : A → B) (xs : List A) → length (map f xs) ≡ length xs
-length-map f [] = refl
-length-map f (x ∷ xs) = ap suc (length-map f xs)
-
 -- the content of every line that is 9206 has one byte
 abbrev pub OneByte : List Field → Type 0
 OneByte fs = (k : ℕ) → k < length fs → labelAtLine fs k ≡ 9206 → length (contentAtLine fs k) ≡ 1
@@ -39,7 +35,7 @@ OneByte fs = (k : ℕ) → k < length fs → labelAtLine fs k ≡ 9206 → lengt
 module _ (w : Code) where
   pub size-recoded : (fs : List Field) → size (map (recodeField w) fs) ≡ size fs
   size-recoded [] = refl
-  size-recoded (f ∷ fs) = omega (arith, size-recoded fs, length-map (recoded w) (f .content))
+  size-recoded (f ∷ fs) = omega (arith, size-recoded fs, length-map (f .content) (recoded w))
 
   mark-length : length (charsetOf w) ≡ 1
   mark-length = go w
@@ -62,14 +58,14 @@ module _ (w : Code) where
   -- recoding keeps labels and lengths
   pub one-byte-recoded : (fs : List Field) → OneByte fs → OneByte (map (recodeField w) fs)
   one-byte-recoded [] h k l e = absurd (omega arith)
-  one-byte-recoded (f ∷ fs) h zero l e = length-map (recoded w) (f .content) ∙ h 0 (omega arith) e
+  one-byte-recoded (f ∷ fs) h zero l e = length-map (f .content) (recoded w) ∙ h 0 (omega arith) e
   one-byte-recoded (f ∷ fs) h (suc k) l e = one-byte-recoded fs (λ j m. h (suc j) (omega arith)) k (omega arith) e
 
   -- the line that is gained: one byte and its frame
   pub size-gained : (fs : List Field) → Headed fs → size (resum (withCharset w (map (recodeField w) fs))) ≡ size fs + (1 + (lineLead + lineEnd))
   size-gained [] h = absurd (omega (arith, h .second-five))
   size-gained (f ∷ []) h = absurd (omega (arith, h .second-five))
-  size-gained (f ∷ g ∷ fs) h = omega (arith, h .second-five, mark-length, size-recoded fs, length-map (recoded w) (f .content))
+  size-gained (f ∷ g ∷ fs) h = omega (arith, h .second-five, mark-length, size-recoded fs, length-map (f .content) (recoded w))
 
 pub one-byte : (p : Profile) (fs : List Field) → rulesFrom p first 0 fs ≡ [] → OneByte fs
 one-byte p fs h k l e = charset-byte p fs h k l e
