@@ -37,7 +37,14 @@ static void umlauts_77(struct input *input)
     }
 }
 
-/* Lines of 40 bytes, as many as leave room for one more; one in four with two umlauts. */
+/* Lines of 40 bytes, as many as leave room for one more. */
+static void plain_512(struct input *input)
+{
+    begin(input);
+    lines(input, MOST_LINES - 1 - input->lines, 6220, forty);
+}
+
+/* The same, one in four with two umlauts. */
 static void umlauts_512(struct input *input)
 {
     begin(input);

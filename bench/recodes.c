@@ -56,10 +56,20 @@ static void of_paper(int call)
 
 static void of_short(int call)
 {
-    set_load(call, umlauts_77, false);
+    set_load(call, short_77, false);
 }
 
 static void of_long(int call)
+{
+    set_load(call, plain_512, false);
+}
+
+static void of_short_umlauts(int call)
+{
+    set_load(call, umlauts_77, false);
+}
+
+static void of_long_umlauts(int call)
 {
     set_load(call, umlauts_512, false);
 }
@@ -91,6 +101,8 @@ static const struct load {
     {"P", of_paper},
     {"77x6", of_short},
     {"512x40", of_long},
+    {"77x6-umlauts", of_short_umlauts},
+    {"512x40-umlauts", of_long_umlauts},
     {"512x40-high", of_high},
     {"stays", of_stays},
     {"refused", of_refused},

@@ -5,7 +5,7 @@ ghost use mathlib.Core.Path.{_≡_};
 ghost use mathlib.Core.Bool.{true};
 ghost use Prim.Native.Nat.{_+_, _-_, _≤_};
 ghost use lib.ListN.{length};
-ghost use Rattle.byte_high.specs.High.{firstHigh};
+ghost use Rattle.byte_high.specs.High.{firstHigh, plainFront};
 
 // "No content byte anywhere in it may exceed 7Fh."
 const MOST_SEVEN_BITS: u8 = 127;
@@ -126,4 +126,12 @@ pub fn pass_plain(s: &[u8], at: usize) -> usize
         }
     }
     pass_blocks(s, i)
+}
+
+// How many bytes are in front of the first one over 7Fh, among all of these: exactly, where `pass_plain` may stop before it.
+pub fn plain_front(s: &[u8]) -> usize
+    ensures { λ r. ⌜ r ≡ plainFront (now (s .entry)) ⌝ }
+{
+    let from = pass_plain(s, 0);
+    seek_high(s, from, s.len() - from)
 }

@@ -32,12 +32,13 @@ use Rattle.meaning.proofs.CorrectionLaws.{leaves}
 use Rattle.meaning_recode.specs.declared.Code.{Code}
 use Rattle.meaning_recode.specs.Codes.{tableInto}
 use Rattle.meaning_recode.specs.Recoding.{hasCharset, inCode, allRecoded, addedFaults, noCharacterFrom, recodeFaults, recodeField, charsetField, withCharset, recodeLines, recodeSet, recode}
+use Rattle.byte_high.specs.High.{plainFront}
 use Rattle.line_find.proofs.FirstPlaceLaws.{FirstLine, NoLine, first-or-none, place-is}
 use Rattle.correct_plan.proofs.TotalLaws.{Headed, headed, size-at}
 use Rattle.correct.proofs.CorrectLaws.{refused-read}
 use Rattle.recode_plan.specs.declared.Plan.{Plan}
 use Rattle.recode_plan.specs.declared.Plan.the-variants.{Refused, Stays, Marks, Recodes, Gains}
-use Rattle.recode_plan.specs.RecodePlans.{charsetPlace, doing, unless, plannedBy, planned}
+use Rattle.recode_plan.specs.RecodePlans.{charsetPlace, plainBytes, doing, unless, plannedBy, planned}
 use Rattle.recode_plan.proofs.CharsetPlaceLaws.{has-none}
 use Rattle.recode_plan.proofs.RecodedLaws.{one-byte, size-gained, size-recoded, size-marked, one-byte-recoded}
 use Rattle.recode_put.specs.Recoded.{lineThree, gainedBytes, zeroedAfter, remarked, mappedFront, withLine}
@@ -65,13 +66,13 @@ abbrev pub Goes : Plan → Type 0
 Goes (Refused r) = ⊥
 Goes Stays = Unit
 Goes (Marks p) = Unit
-Goes (Recodes p) = Unit
-Goes Gains = Unit
+Goes (Recodes n p) = Unit
+Goes (Gains n) = Unit
 
 doing-goes : (w : Code) (fs : List Field) → Goes (doing w fs)
 doing-goes w fs = go (inCode w fs) (sevenBit fs) (hasCharset fs)
   where
-    go : (a v h : Bool) → Goes (cond a Stays (cond v (Marks (charsetPlace fs)) (cond h (Recodes (charsetPlace fs)) Gains)))
+    go : (a v h : Bool) → Goes (cond a Stays (cond v (Marks (charsetPlace fs)) (cond h (Recodes (plainBytes fs) (charsetPlace fs)) (Gains (plainBytes fs)))))
     go true v h = tt
     go false true h = tt
     go false false true = tt
@@ -143,18 +144,18 @@ abbrev Why : Code → List Field → Plan → Type 0
 Why w fs (Refused r) = Unit
 Why w fs Stays = inCode w fs ≡ true
 Why w fs (Marks p) = (inCode w fs ≡ false) × (sevenBit fs ≡ true) × (p ≡ charsetPlace fs)
-Why w fs (Recodes p) = (inCode w fs ≡ false) × (sevenBit fs ≡ false) × (hasCharset fs ≡ true) × (p ≡ charsetPlace fs)
-Why w fs Gains = (inCode w fs ≡ false) × (sevenBit fs ≡ false) × (hasCharset fs ≡ false)
+Why w fs (Recodes n p) = (inCode w fs ≡ false) × (sevenBit fs ≡ false) × (hasCharset fs ≡ true) × (n ≡ plainBytes fs) × (p ≡ charsetPlace fs)
+Why w fs (Gains n) = (inCode w fs ≡ false) × (sevenBit fs ≡ false) × (hasCharset fs ≡ false) × (n ≡ plainBytes fs)
 
 why : (w : Code) (fs : List Field) → Why w fs (doing w fs)
 why w fs = go (inCode w fs) (sevenBit fs) (hasCharset fs) refl refl refl
   where
     go : (a v h : Bool) → inCode w fs ≡ a → sevenBit fs ≡ v → hasCharset fs ≡ h
-        → Why w fs (cond a Stays (cond v (Marks (charsetPlace fs)) (cond h (Recodes (charsetPlace fs)) Gains)))
+        → Why w fs (cond a Stays (cond v (Marks (charsetPlace fs)) (cond h (Recodes (plainBytes fs) (charsetPlace fs)) (Gains (plainBytes fs)))))
     go true v h p q r = p
     go false true h p q r = (p, q, refl)
-    go false false true p q r = (p, q, r, refl)
-    go false false false p q r = (p, q, r)
+    go false false true p q r = (p, q, r, refl, refl)
+    go false false false p q r = (p, q, r, refl)
 
 -- the one line that is 9206, if there is one
 only-9206 : (fs : List Field) → Standing fs → (NoLine 9206 fs → ⊥) → (j : ℕ) × OnlyLine fs j × (charsetPlace fs ≡ offset fs j + lineLead)
@@ -217,24 +218,27 @@ module _ (b : List ℕ) (used : ℕ) (w : Code) (h : used ≤ length b) where
         (marking .used-so ∙ sym (size-marked w marked one))
         (ap (λ (p : ℕ). zeroedAfter used (remarked p w b)) place-marks ∙ leaves-marked b used marked (marking .bytes) (marking .used-so) w (has-9206 .0) (has-9206 .1) one)
 
-  module _ (place : ℕ) (e : planned (take used b) (length b) w ≡ Recodes place) where
-    recoding : Going b used w (Recodes place)
-    recoding = going b used w (Recodes place) h tt e
+  module _ (plain place : ℕ) (e : planned (take used b) (length b) w ≡ Recodes plain place) where
+    recoding : Going b used w (Recodes plain place)
+    recoding = going b used w (Recodes plain place) h tt e
 
     abbrev lines-now : List Field
     lines-now = recoding .lines
 
-    why-recodes : (inCode w lines-now ≡ false) × (sevenBit lines-now ≡ false) × (hasCharset lines-now ≡ true) × (place ≡ charsetPlace lines-now)
+    why-recodes : (inCode w lines-now ≡ false) × (sevenBit lines-now ≡ false) × (hasCharset lines-now ≡ true) × (plain ≡ plainBytes lines-now) × (place ≡ charsetPlace lines-now)
     why-recodes = subst (Why w lines-now) (recoding .plan-so) (why w lines-now)
 
     its-9206 : (j : ℕ) × OnlyLine lines-now j × (charsetPlace lines-now ≡ offset lines-now j + lineLead)
     its-9206 = only-9206 lines-now (recoding .stand) (λ n. true≢false (sym (why-recodes .2) ∙ has-none lines-now n))
 
     place-recodes : place ≡ offset lines-now (its-9206 .0) + lineLead
-    place-recodes = why-recodes .3 ∙ its-9206 .2
+    place-recodes = why-recodes .4 ∙ its-9206 .2
 
     pub recodes-inside : place < used
     recodes-inside = omega (arith, place-recodes, recoding .used-so, size-at lines-now (its-9206 .0) (its-9206 .1 .inside))
+
+    pub recodes-plain : plain ≡ plainFront (take used b)
+    recodes-plain = why-recodes .3 ∙ ap plainFront (sym (recoding .bytes))
 
     pub recodes-made : Called b used w used (zeroedAfter used (remarked place w (mappedFront (tableInto w) used b)))
     unfolding recodeLines
@@ -242,20 +246,20 @@ module _ (b : List ℕ) (used : ℕ) (w : Code) (h : used ≤ length b) where
         let one = one-byte (profile lines-now) lines-now (ruled lines-now (recoding .stand .right) .0 .each-line) in
         let new : List Field = map (charsetField w) (map (recodeField w) lines-now) in
         let n : size new ≡ size lines-now = size-marked w (map (recodeField w) lines-now) (one-byte-recoded w lines-now one) ∙ size-recoded w lines-now in
-        called-by b used w (Recodes place) recoding new used (zeroedAfter used (remarked place w (mappedFront (tableInto w) used b)))
+        called-by b used w (Recodes plain place) recoding new used (zeroedAfter used (remarked place w (mappedFront (tableInto w) used b)))
         (rw (why-recodes .0, why-recodes .1, why-recodes .2) refl) (recoding .used-so ∙ sym n)
         (ap (λ (p : ℕ). zeroedAfter used (remarked p w (mappedFront (tableInto w) used b))) place-recodes
         ∙ leaves-recoded b used lines-now (recoding .bytes) (recoding .used-so) w (all-known w lines-now (recoding .no-faults) (why-recodes .0) (why-recodes .1))
         (its-9206 .0) (its-9206 .1) one)
 
-  module _ (e : planned (take used b) (length b) w ≡ Gains) where
-    gaining : Going b used w Gains
-    gaining = going b used w Gains h tt e
+  module _ (plain : ℕ) (e : planned (take used b) (length b) w ≡ Gains plain) where
+    gaining : Going b used w (Gains plain)
+    gaining = going b used w (Gains plain) h tt e
 
     abbrev lines-before : List Field
     lines-before = gaining .lines
 
-    why-gains : (inCode w lines-before ≡ false) × (sevenBit lines-before ≡ false) × (hasCharset lines-before ≡ false)
+    why-gains : (inCode w lines-before ≡ false) × (sevenBit lines-before ≡ false) × (hasCharset lines-before ≡ false) × (plain ≡ plainBytes lines-before)
     why-gains = subst (Why w lines-before) (gaining .plan-so) (why w lines-before)
 
     heads : Headed lines-before
@@ -282,9 +286,12 @@ module _ (b : List ℕ) (used : ℕ) (w : Code) (h : used ≤ length b) where
     pub gains-room : used + gainedBytes ≤ length b
     gains-room = omega (arith, total-so, ap size new-so, gaining .in-room)
 
+    pub gains-plain : plain ≡ plainFront (take used b)
+    gains-plain = why-gains .3 ∙ ap plainFront (sym (gaining .bytes))
+
     pub gains-made : Called b used w (used + gainedBytes) (withLine w used (mappedFront (tableInto w) used b))
     gains-made =
-        called-by b used w Gains gaining new-lines (used + gainedBytes) (withLine w used (mappedFront (tableInto w) used b)) new-so total-so
+        called-by b used w (Gains plain) gaining new-lines (used + gainedBytes) (withLine w used (mappedFront (tableInto w) used b)) new-so total-so
         (leaves-gained b used lines-before (gaining .bytes) (gaining .used-so) w (all-known w lines-before (gaining .no-faults) (why-gains .0) (why-gains .1)) heads)
 
 -- ---- the set's own refusals

@@ -48,13 +48,13 @@ pub fn recode(buffer: &mut [u8], used: usize, wanted: Code) -> Made
             recode_put::put_mark(buffer, used, place, wanted);
             Made::Done(used)
         }
-        Plan::Recodes { place } => {
-            recode_put::put_recoded(buffer, used, place, wanted, &table);
+        Plan::Recodes { plain, place } => {
+            recode_put::put_recoded(buffer, used, plain, place, wanted, &table);
             Made::Done(used)
         }
-        Plan::Gains => {
+        Plan::Gains { plain } => {
             let total = used + recode_plan::GAINED;
-            recode_put::put_gained(buffer, used, wanted, &table);
+            recode_put::put_gained(buffer, used, plain, wanted, &table);
             Made::Done(total)
         }
     }

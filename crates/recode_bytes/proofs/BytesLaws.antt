@@ -4,6 +4,7 @@ use mathlib.Core.Bool.{Bool, true, false, cond}
 use mathlib.Core.List.{List, [], _∷_, _++_, append-assoc, append-nil}
 use Prim.Native.Nat.{ℕ, zero, suc, _+_, _-_, _%_, _≤_, _<_}
 use native.Mathlib.Omega.{arith}
+use native.Mathlib.Nat.{zero-add}
 use lib.Dec.{leb}
 use lib.ListN.{length, getD, set, take, drop, length-drop, length-append, take-append-drop, drop-of-length-le}
 use lib.Seq.{take-add, take-length, drop-drop, drop-cons, drop-at, set-split, length-take-le}
@@ -12,7 +13,8 @@ use Rattle.meaning.specs.Lines.{mostSevenBits}
 use Rattle.meaning.proofs.Bools.{Every, byte-then}
 use Rattle.byte_low.specs.Seek.{firstNot}
 use Rattle.byte_low.proofs.SeekLaws.{seek-through, seek-on, seek-stops, seek-most}
-use Rattle.byte_high.specs.High.{sevenBits, firstHigh}
+use Rattle.byte_high.specs.High.{sevenBits, firstHigh, plainFront}
+use Rattle.byte_high.proofs.HighLaws.{front-most, front-plain}
 use Rattle.byte_put.specs.Places.{over}
 use Rattle.byte_put.proofs.LendLaws.{length-over}
 use Rattle.byte_put.proofs.OverLaws.{over-none, over-then}
@@ -94,6 +96,13 @@ module _ (t s : List ℕ) where
 
   block-over : (b i e found : ℕ) → i + b ≤ e → found ≡ firstWithout t s i b → i + b ≤ found → firstWithout t s (i + b) (e - (i + b)) ≡ firstWithout t s i (e - i)
   block-over b i e found h q l = sym (seek-on (hasCharacter t) s b i e h (omega (arith, q, seek-most (hasCharacter t) s b i)))
+
+  -- those at the front are passed over
+  pub plain-front : CodeTable t → (plain : ℕ) → plain ≡ plainFront s → firstWithout t s plain (length s - plain) ≡ firstWithout t s 0 (length s)
+  plain-front h plain e =
+      let l = front-most s plain e in
+      let q : plain ≡ firstWithout t s 0 plain = sym (zero-add plain) ∙ plain-without h 0 plain (omega arith) (front-plain s plain e ∙ sym (zero-add plain)) in
+      ap (λ (x : ℕ). firstWithout t s x (length s - x)) (sym (zero-add plain)) ∙ block-over plain 0 (length s) plain (omega arith) q (omega arith) ∙ ap (firstWithout t s 0) (omega arith)
 
   -- bytes without one over 7Fh are passed over from i on, then those up to the end are asked one by one
   module _ (h : CodeTable t) (i from end found : ℕ) (l : i ≤ from) (m : from ≤ end) (n : end ≤ length s) (p : firstHigh s i (from - i) ≡ from)
@@ -178,6 +187,11 @@ module _ (t : List ℕ) where
   plain-maps : CodeTable t → (s : List ℕ) (at k : ℕ) → at + k ≤ length s → firstHigh s at k ≡ at + k → s ≡ mappedAt t at k s
   unfolding mappedAt
   plain-maps g s at k h e = rw (every-entry t g (take k (drop at s)) (seek-every sevenBits s k at h e)) (sym (over-same s at k h))
+
+  pub map-front : CodeTable t → (s : List ℕ) (plain : ℕ) → plain ≡ plainFront s → s ≡ mappedAt t 0 plain s
+  map-front g s plain e =
+      let l = front-most s plain e in
+      plain-maps g s 0 plain (omega arith) (front-plain s plain e ∙ sym (zero-add plain))
 
   pub map-all : (s : List ℕ) → mappedAt t 0 (length s) s ≡ mapped t s
   unfolding mappedAt over

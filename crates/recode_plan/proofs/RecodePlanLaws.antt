@@ -32,13 +32,14 @@ use Rattle.meaning_recode.specs.declared.Code.{Code}
 use Rattle.meaning_recode.specs.declared.Code.the-variants.{Page437, Page1252}
 use Rattle.meaning_recode.specs.Codes.{tableInto}
 use Rattle.meaning_recode.specs.Recoding.{charsetOf, hasCharset, inCode, allRecoded, recodeFaults, recodeField, charsetField, withCharset, recodeLines}
+use Rattle.byte_high.specs.High.{plainFront}
 use Rattle.line_find.specs.FirstPlace.{firstPlace}
 use Rattle.line_find.proofs.FirstPlaceLaws.{FirstLine, NoLine, first-or-none, place-is, place-absent, first-byte}
 use Rattle.recode_bytes.specs.Mapped.{firstWithout}
 use Rattle.correct_plan.proofs.TotalLaws.{headed, size-at}
 use Rattle.recode_plan.specs.declared.Plan.{Plan}
 use Rattle.recode_plan.specs.declared.Plan.the-variants.{Refused, Stays, Marks, Recodes, Gains}
-use Rattle.recode_plan.specs.RecodePlans.{charsetPlace, gainedBy, doing, unless, planned, Alone}
+use Rattle.recode_plan.specs.RecodePlans.{charsetPlace, plainBytes, gainedBy, doing, unless, planned, Alone}
 use Rattle.recode_plan.proofs.CharsetPlaceLaws.{has-none, has-one, says-digit, in-marked, in-437, in-1252}
 use Rattle.recode_plan.proofs.RecodedLaws.{size-recoded, size-marked, one-byte, one-byte-recoded, size-gained, unknown-none, unknown-some}
 
@@ -75,13 +76,13 @@ module _ (fs : List Field) (st : Standing fs) (room : ℕ) (w : Code) (fit : siz
       unfolding recodeFaults allRecoded recodeLines
       marked-unknown h = rw (e, q, v, unknown-some w fs found f h (map (charsetField w) (map (recodeField w) fs))) refl
 
-      recodes : size fs ≤ found → outcome ≡ Recodes (charsetPlace fs)
+      recodes : size fs ≤ found → outcome ≡ Recodes (plainBytes fs) (charsetPlace fs)
       unfolding recodeFaults allRecoded recodeLines
       recodes h =
           let gs : List Field = map (recodeField w) fs in
           let one = one-byte-recoded w fs (one-byte (profile fs) fs (ruled fs (st .right) .0 .each-line)) in
           let n : size (map (charsetField w) gs) ≡ size fs = size-marked w gs one ∙ size-recoded w fs in
-          rw (e, q, v, unknown-none w fs (omega (arith, f))) (with-room (map (charsetField w) gs) room (Recodes (charsetPlace fs)) (omega (arith, n)) (omega (arith, n, few-bytes)))
+          rw (e, q, v, unknown-none w fs (omega (arith, f))) (with-room (map (charsetField w) gs) room (Recodes (plainBytes fs) (charsetPlace fs)) (omega (arith, n)) (omega (arith, n, few-bytes)))
 
   module _ (e : inCode w fs ≡ false) (q : hasCharset fs ≡ false) (v : sevenBit fs ≡ false) where
     too-many : maxLines ≤ length fs → outcome ≡ Refused (refusal tooManyLines (size fs) 0)
@@ -105,15 +106,15 @@ module _ (fs : List Field) (st : Standing fs) (room : ℕ) (w : Code) (fit : siz
         need-so : size new ≡ need
         need-so = size-gained w fs (headed fs st)
 
-        gained : outcome ≡ unless (setWithRoom new room) Gains
+        gained : outcome ≡ unless (setWithRoom new room) (Gains (plainBytes fs))
         unfolding recodeFaults allRecoded recodeLines
         gained = rw (e, q, v, le-leb (length fs + 1) maxLines (omega arith), unknown-none w fs (omega (arith, f))) refl
 
         no-room : room < need → outcome ≡ Refused (refusal noRoom need 0)
-        no-room h = gained ∙ (without-room new room Gains (omega (arith, need-so)) ∙ ap (λ (n : ℕ). Refused (refusal noRoom n 0)) need-so)
+        no-room h = gained ∙ (without-room new room (Gains (plainBytes fs)) (omega (arith, need-so)) ∙ ap (λ (n : ℕ). Refused (refusal noRoom n 0)) need-so)
 
-        gains-so : need ≤ room → outcome ≡ Gains
-        gains-so h = gained ∙ with-room new room Gains (omega (arith, need-so)) (omega (arith, need-so, few-bytes))
+        gains-so : need ≤ room → outcome ≡ Gains (plainBytes fs)
+        gains-so h = gained ∙ with-room new room (Gains (plainBytes fs)) (omega (arith, need-so)) (omega (arith, need-so, few-bytes))
 
 -- ---- 9206 by the place of its content
 
@@ -224,6 +225,9 @@ module _ (s : List ℕ) (x : Shape) (room : ℕ) (w : Code) (t : List ℕ) (a : 
   its-found : (found : ℕ) → found ≡ firstWithout t s 0 (length s) → found ≡ firstWithout (tableInto w) (render its []) 0 (size its)
   its-found found e = e ∙ (ap (λ (u : List ℕ). firstWithout u s 0 (length s)) (a .table-so) ∙ ap₂ (λ (u : List ℕ) (n : ℕ). firstWithout (tableInto w) u 0 n) its-bytes its-size)
 
+  its-plain : (plain : ℕ) → plain ≡ plainFront s → plain ≡ plainBytes its
+  its-plain plain e = e ∙ ap plainFront its-bytes
+
   -- a line is 9206
   module _ (place : ℕ) (e : place ≡ firstPlace s 9206) (n : place ≡ 0 → ⊥) where
     place-so : place ≡ charsetPlace its
@@ -258,10 +262,11 @@ module _ (s : List ℕ) (x : Shape) (room : ℕ) (w : Code) (t : List ℕ) (a : 
         plan-unknown h =
             its-plan ∙ marked-unknown its its-stand room w its-fit not-in (its-mark .has) not-seven found (its-found found f) (omega (arith, its-size))
 
-        pub plan-recodes : length s ≤ found → planned s room w ≡ Recodes place
-        plan-recodes h =
+        pub plan-recodes : (plain : ℕ) → plain ≡ plainFront s → length s ≤ found → planned s room w ≡ Recodes plain place
+        plan-recodes plain k h =
             its-plan
-            ∙ (recodes its its-stand room w its-fit not-in (its-mark .has) not-seven found (its-found found f) (omega (arith, its-size)) ∙ ap Recodes (sym place-so))
+            ∙ (recodes its its-stand room w its-fit not-in (its-mark .has) not-seven found (its-found found f) (omega (arith, its-size))
+            ∙ ap₂ (λ (n m : ℕ). Recodes n m) (sym (its-plain plain k)) (sym place-so))
 
   -- no line is 9206
   pub no-line : firstPlace s 9206 ≡ 0 → NoLine 9206 its
@@ -299,7 +304,7 @@ module _ (s : List ℕ) (x : Shape) (room : ℕ) (t : List ℕ) (a : Alone s x r
       ∙ ap (λ (n : ℕ). Refused (refusal tooManyLines n 0)) (sym all-length))
 
   -- 27, then 22
-  module _ (few : x .lines < maxLines) (found : ℕ) (f : found ≡ firstWithout t s 0 (length s)) where
+  module _ (few : x .lines < maxLines) (plain found : ℕ) (k : plain ≡ plainFront s) (f : found ≡ firstWithout t s 0 (length s)) where
     abbrev total : ℕ
     total = length s + (1 + (lineLead + lineEnd))
 
@@ -319,20 +324,21 @@ module _ (s : List ℕ) (x : Shape) (room : ℕ) (t : List ℕ) (a : Alone s x r
         (omega (arith, all-lines)) found (its-found s x room Page1252 t a found f) (omega (arith, its-size s x room Page1252 t a)) (omega (arith, total-so))
         ∙ ap (λ (n : ℕ). Refused (refusal noRoom n 0)) (sym total-so))
 
-    gains-plan : length s ≤ found → total ≤ room → planned s room Page1252 ≡ Gains
+    gains-plan : length s ≤ found → total ≤ room → planned s room Page1252 ≡ Gains plain
     gains-plan g h =
         all-plan
-        ∙ gains-so all all-stand room Page1252 (its-fit s x room Page1252 t a) (in-1252 all all-none) (has-none all all-none) (seven-none all all-none)
+        ∙ (gains-so all all-stand room Page1252 (its-fit s x room Page1252 t a) (in-1252 all all-none) (has-none all all-none) (seven-none all all-none)
         (omega (arith, all-lines)) found (its-found s x room Page1252 t a found f) (omega (arith, its-size s x room Page1252 t a)) (omega (arith, total-so))
+        ∙ ap Gains (sym (its-plain s x room Page1252 t a plain k)))
 
-    pub plan-gains : gainedBy (length s) found total room ≡ planned s room Page1252
+    pub plan-gains : gainedBy (length s) plain found total room ≡ planned s room Page1252
     plan-gains = go (leb (length s) found) refl
       where
-        by-room : length s ≤ found → (c : Bool) → leb total room ≡ c → cond c Gains (Refused (refusal noRoom total 0)) ≡ planned s room Page1252
+        by-room : length s ≤ found → (c : Bool) → leb total room ≡ c → cond c (Gains plain) (Refused (refusal noRoom total 0)) ≡ planned s room Page1252
         by-room g true q = sym (gains-plan g (leb-true total room q))
         by-room g false q = sym (no-room-plan g (leb-false total room q))
 
         go : (b : Bool) → leb (length s) found ≡ b
-            → cond b (cond (leb total room) Gains (Refused (refusal noRoom total 0))) (Refused (refusal noSuchCharacter found 0)) ≡ planned s room Page1252
+            → cond b (cond (leb total room) (Gains plain) (Refused (refusal noRoom total 0))) (Refused (refusal noSuchCharacter found 0)) ≡ planned s room Page1252
         go true q = by-room (leb-true (length s) found q) (leb total room) refl
         go false q = sym (unknown-plan (leb-false (length s) found q))

@@ -17,6 +17,7 @@ use Rattle.meaning.specs.Reading.{read, judge}
 use Rattle.meaning_recode.specs.declared.Code.{Code}
 use Rattle.meaning_recode.specs.Codes.{tableInto}
 use Rattle.meaning_recode.specs.Recoding.{hasCharset, inCode, recodeSet}
+use Rattle.byte_high.specs.High.{plainFront}
 use Rattle.line_find.specs.FirstPlace.{firstPlace}
 use Rattle.recode_plan.specs.declared.Plan.{Plan}
 use Rattle.recode_plan.specs.declared.Plan.the-variants.{Refused, Stays, Marks, Recodes, Gains}
@@ -25,9 +26,14 @@ use Rattle.recode_plan.specs.declared.Plan.the-variants.{Refused, Stays,
 abbrev pub charsetPlace : List Field → ℕ
 charsetPlace fs = firstPlace (render fs []) 9206
 
+-- how many of their bytes are in front of the first one over 7Fh
+abbrev pub plainBytes : List Field → ℕ
+plainBytes fs = plainFront (render fs [])
+
 -- what is to be done with these lines, if nothing is refused
 abbrev pub doing : Code → List Field → Plan
-doing w fs = cond (inCode w fs) Stays (cond (sevenBit fs) (Marks (charsetPlace fs)) (cond (hasCharset fs) (Recodes (charsetPlace fs)) Gains))
+doing w fs =
+    cond (inCode w fs) Stays (cond (sevenBit fs) (Marks (charsetPlace fs)) (cond (hasCharset fs) (Recodes (plainBytes fs) (charsetPlace fs)) (Gains (plainBytes fs))))
 
 -- a refusal, or what is to be done
 abbrev pub unless : Reply (List ℕ) → Plan → Plan
@@ -43,8 +49,8 @@ unfoldable pub planned : List ℕ → ℕ → Code → Plan
 planned s room w = plannedBy w room (read s)
 
 -- 27, then 22, of a set that gains a line: of its first byte without a character (its length, if there is none) and of how many bytes count then
-abbrev pub gainedBy : ℕ → ℕ → ℕ → ℕ → Plan
-gainedBy n without total room = cond (leb n without) (cond (leb total room) Gains (Refused (refusal noRoom total 0))) (Refused (refusal noSuchCharacter without 0))
+abbrev pub gainedBy : ℕ → ℕ → ℕ → ℕ → ℕ → Plan
+gainedBy n plain without total room = cond (leb n without) (cond (leb total room) (Gains plain) (Refused (refusal noRoom total 0))) (Refused (refusal noSuchCharacter without 0))
 
 -- a set that was accepted and stands alone in its room, and the table into the wanted code page
 pub record Alone (s : List ℕ) (x : Shape) (room : ℕ) (w : Code) (t : List ℕ) : Type 0 where

@@ -7,6 +7,7 @@ ghost use lib.ListN.{length};
 ghost use Rattle.meaning.specs.Refusals.{refusal};
 ghost use Rattle.meaning.specs.Reading.{judge};
 ghost use Rattle.meaning_recode.specs.Codes.{tableInto};
+ghost use Rattle.byte_high.specs.High.{plainFront};
 ghost use Rattle.line_find.specs.FirstPlace.{firstPlace};
 ghost use Rattle.recode_plan.specs.RecodePlans.{gainedBy, Alone, planned};
 use meaning::Judged;
@@ -26,10 +27,10 @@ pub enum Plan {
     Stays,
     // "Sets with 9206 = 1 only change that content": it stands at this place.
     Marks { place: usize },
-    // Every content is recoded, and 9206, whose content stands at this place, names the wanted code page.
-    Recodes { place: usize },
+    // Every content is recoded, and 9206, whose content stands at this place, names the wanted code page. So many bytes of the set are in front of its first one over 7Fh.
+    Recodes { plain: usize, place: usize },
     // Every content is recoded, and the set gains 9206 as line 3.
-    Gains,
+    Gains { plain: usize },
 }
 
 // A refusal that carries no label.
@@ -40,8 +41,8 @@ fn refused_plan(no: usize, place: usize) -> Plan
 }
 
 // A set of this length that gains a line, so that it has `total` bytes, if its first byte without a character is `without`: "NoSuchCharacter (27) ..; NoRoom last".
-fn plan_gained(length: usize, without: usize, total: usize, room: usize) -> Plan
-    ensures { λ r. ⌜ r ≡ gainedBy length without total room ⌝ }
+fn plan_gained(length: usize, plain: usize, without: usize, total: usize, room: usize) -> Plan
+    ensures { λ r. ⌜ r ≡ gainedBy length plain without total room ⌝ }
 {
     // 27, NoSuchCharacter: "at the first such byte"
     if without < length {
@@ -51,7 +52,7 @@ fn plan_gained(length: usize, without: usize, total: usize, room: usize) -> Plan
     if room < total {
         return refused_plan(Refusal::NO_ROOM, total);
     }
-    Plan::Gains
+    Plan::Gains { plain }
 }
 
 // A set without 9206, if 1252 is wanted: "gains that line".
@@ -63,8 +64,9 @@ fn plan_gain(set: &[u8], shape: Shape, room: usize, table: &[u16; 256]) -> Plan
     if SetType::LINES <= shape.lines {
         return refused_plan(Refusal::TOO_MANY_LINES, shape.length);
     }
-    let without = recode_bytes::first_without(set, table);
-    plan_gained(set.len(), without, set.len() + GAINED, room)
+    let plain = byte_high::plain_front(set);
+    let without = recode_bytes::first_without(set, plain, table);
+    plan_gained(set.len(), plain, without, set.len() + GAINED, room)
 }
 
 // "A set without 9206 counts as code page 437."
@@ -97,11 +99,12 @@ fn plan_marked(
         return Plan::Marks { place };
     }
     // 27, NoSuchCharacter: "at the first such byte"
-    let first = recode_bytes::first_without(set, table);
+    let plain = byte_high::plain_front(set);
+    let first = recode_bytes::first_without(set, plain, table);
     if first < set.len() {
         return refused_plan(Refusal::NO_SUCH_CHARACTER, first);
     }
-    Plan::Recodes { place }
+    Plan::Recodes { plain, place }
 }
 
 // "Refusals, after all set refusals: TooManyLines ..; NoSuchCharacter (27) ..; NoRoom last", with 18 (second set) before them: for a set that was accepted.

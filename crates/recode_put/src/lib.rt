@@ -1,14 +1,15 @@
 // A set in its buffer recoded: every byte becomes its entry in the table, then 9206 names the wanted code page, in its place or in a line that is gained, with the sum brought up to
 // date. "Bytes behind the set become zero."
-// Assumes of each call that the set lies in the buffer, and what is put in its bytes too: only another crate here calls it, and proves that. Each contract says what every byte of the
-// buffer is afterwards.
+// Assumes of each call that the set lies in the buffer, and what is put in its bytes too, and that `plain` of its bytes are in front of the first one over 7Fh: only another crate here
+// calls it, and proves that. Each contract says what every byte of the buffer is afterwards.
 ghost use mathlib.Core.Path.{_≡_};
 ghost use mathlib.Core.List.{[]};
 ghost use Prim.Native.Nat.{_+_, _≤_, _<_};
-ghost use lib.ListN.{length, getD};
+ghost use lib.ListN.{length, getD, take};
 ghost use Rattle.meaning.specs.Field.{field};
 ghost use Rattle.meaning.specs.Lines.{lineThen};
 ghost use Rattle.meaning_recode.specs.Recoding.{charsetOf};
+ghost use Rattle.byte_high.specs.High.{plainFront};
 ghost use Rattle.recode_bytes.specs.Mapped.{CodeTable};
 ghost use Rattle.recode_put.specs.Recoded.{lineThree, gainedBytes, zeroedAfter, remarked, mappedFront, withLine};
 use meaning_recode::Code;
@@ -35,11 +36,18 @@ pub fn put_mark(buffer: &mut [u8], used: usize, place: usize, wanted: Code)
 }
 
 // Every content, then that of 9206, at this place.
-pub fn put_recoded(buffer: &mut [u8], used: usize, place: usize, wanted: Code, table: &[u16; 256])
-    requires { ⌜ (place < used) × (used ≤ length (now buffer)) × CodeTable (now table) ⌝ }
+pub fn put_recoded(
+    buffer: &mut [u8],
+    used: usize,
+    plain: usize,
+    place: usize,
+    wanted: Code,
+    table: &[u16; 256],
+)
+    requires { ⌜ (place < used) × (used ≤ length (now buffer)) × (plain ≡ plainFront (take used (now buffer))) × CodeTable (now table) ⌝ }
     ensures { λ _. ⌜ now (buffer .exit) ≡ zeroedAfter used (remarked place wanted (mappedFront (now (table .entry)) used (now (buffer .entry)))) ⌝ }
 {
-    recode_bytes::map_bytes(&mut buffer[..used], table);
+    recode_bytes::map_bytes(&mut buffer[..used], plain, table);
     put_mark(buffer, used, place, wanted);
 }
 
@@ -63,11 +71,11 @@ fn charset_line(wanted: Code) -> [u8; GAINED]
 }
 
 // Every content, then "gains that line as line 3", and the sum.
-pub fn put_gained(buffer: &mut [u8], used: usize, wanted: Code, table: &[u16; 256])
-    requires { ⌜ (lineThree ≤ used) × (used + gainedBytes ≤ length (now buffer)) × CodeTable (now table) ⌝ }
+pub fn put_gained(buffer: &mut [u8], used: usize, plain: usize, wanted: Code, table: &[u16; 256])
+    requires { ⌜ (lineThree ≤ used) × (used + gainedBytes ≤ length (now buffer)) × (plain ≡ plainFront (take used (now buffer))) × CodeTable (now table) ⌝ }
     ensures { λ _. ⌜ now (buffer .exit) ≡ withLine wanted used (mappedFront (now (table .entry)) used (now (buffer .entry))) ⌝ }
 {
-    recode_bytes::map_bytes(&mut buffer[..used], table);
+    recode_bytes::map_bytes(&mut buffer[..used], plain, table);
     let line = charset_line(wanted);
     correct_put::replace_middle(buffer, LINE_3, 0, &line, used);
     byte_put::put_digits(

@@ -9,7 +9,7 @@ use Rattle.meaning.specs.Refusals.{refused}
 use Rattle.recode_bytes.specs.Mapped.{CodeTable}
 use Rattle.recode_plan.proofs.RecodedLaws.{table-codes}
 use Rattle.recode_put.specs.Recoded.{zeroedAfter, remarked, mappedFront, withLine}
-use Rattle.recode.proofs.RecodeCallLaws.{recode-over, recode-empty, kept, plan-refused, stays-made, marks-inside, marks-made, recodes-inside, recodes-made, gains-after, gains-room, gains-made}
+use Rattle.recode.proofs.RecodeCallLaws.{recode-over, recode-empty, kept, plan-refused, stays-made, marks-inside, marks-made, recodes-inside, recodes-plain, recodes-made, gains-after, gains-room, gains-plain, gains-made}
 use Rattle.recode.proofs.recode.Statement.{statement}
 use Rattle.recode.proofs.recode.Tie as tie
 
@@ -80,51 +80,54 @@ put-mark-requires c κs =
     let a = at-start .args in
     (marks-inside (a .buffer .now) (a .used) (a .wanted) (at-if1 .if1 .left) _ (sym (at-plan-recode .plan-recode .ensures) ∙ at-place .place .given .1), at-if1 .if1 .left)
 
-enum-known-place-2 : tie.Need-enum-known-place-2
-enum-known-place-2 c = search needs
+enum-known-plain : tie.Need-enum-known-plain
+enum-known-plain c = search needs
 
 put-recoded-requires : tie.Need-put-recoded-requires
 put-recoded-requires c κs =
     let at-known-told3 = c .before .before in
-    let at-place2 = at-known-told3 .before in
-    let at-plan-recode = at-place2 .before .before in
+    let at-plain = at-known-told3 .before in
+    let at-plan-recode = at-plain .before .before in
     let at-plan-recode-arg = at-plan-recode .before .before in
     let at-table-into = at-plan-recode-arg .before in
     let at-if2 = at-table-into .before in
     let at-if1 = at-if2 .before in
     let at-start = at-if1 .before .before in
     let a = at-start .args in
-    let q = sym (at-plan-recode .plan-recode .ensures) ∙ at-place2 .place2 .given .1 in
+    let q = sym (at-plan-recode .plan-recode .ensures) ∙ at-plain .plain .given .1 in
     let t = subst CodeTable (sym (at-table-into .table-into .ensures)) (table-codes (at-start .args .wanted)) in
-    (recodes-inside (a .buffer .now) (a .used) (a .wanted) (at-if1 .if1 .left) _ q, at-if1 .if1 .left, t)
+    (recodes-inside (a .buffer .now) (a .used) (a .wanted) (at-if1 .if1 .left) _ _ q, at-if1 .if1 .left,
+    recodes-plain (a .buffer .now) (a .used) (a .wanted) (at-if1 .if1 .left) _ _ q, t)
 
-enum-told-2 : tie.Need-enum-told-2
-enum-told-2 c = search needs
+enum-known-plain-2 : tie.Need-enum-known-plain-2
+enum-known-plain-2 c = search needs
 
 add-total : tie.Need-add-total
 add-total c =
-    let at-plan-recode = c .before .before in
+    let at-plain2 = c .before in
+    let at-plan-recode = at-plain2 .before .before in
     let at-plan-recode-arg = at-plan-recode .before .before in
     let at-if2 = at-plan-recode-arg .before .before in
     let at-if1 = at-if2 .before in
     let at-start = at-if1 .before .before in
     let a = at-start .args in
-    let q = sym (at-plan-recode .plan-recode .ensures) ∙ c .enum-told2 .given .1 in
-    omega (arith, gains-room (a .buffer .now) (a .used) (a .wanted) (at-if1 .if1 .left) q)
+    let q = sym (at-plan-recode .plan-recode .ensures) ∙ at-plain2 .plain2 .given .1 in
+    omega (arith, gains-room (a .buffer .now) (a .used) (a .wanted) (at-if1 .if1 .left) _ q)
 
 put-gained-requires : tie.Need-put-gained-requires
 put-gained-requires c κs =
-    let at-enum-told2 = c .before .before in
-    let at-plan-recode = at-enum-told2 .before .before in
+    let at-plain2 = c .before .before .before in
+    let at-plan-recode = at-plain2 .before .before in
     let at-plan-recode-arg = at-plan-recode .before .before in
     let at-table-into = at-plan-recode-arg .before in
     let at-if2 = at-table-into .before in
     let at-if1 = at-if2 .before in
     let at-start = at-if1 .before .before in
     let a = at-start .args in
-    let q = sym (at-plan-recode .plan-recode .ensures) ∙ at-enum-told2 .enum-told2 .given .1 in
+    let q = sym (at-plan-recode .plan-recode .ensures) ∙ at-plain2 .plain2 .given .1 in
     let t = subst CodeTable (sym (at-table-into .table-into .ensures)) (table-codes (at-start .args .wanted)) in
-    (gains-after (a .buffer .now) (a .used) (a .wanted) (at-if1 .if1 .left) q, gains-room (a .buffer .now) (a .used) (a .wanted) (at-if1 .if1 .left) q, t)
+    (gains-after (a .buffer .now) (a .used) (a .wanted) (at-if1 .if1 .left) _ q, gains-room (a .buffer .now) (a .used) (a .wanted) (at-if1 .if1 .left) _ q,
+    gains-plain (a .buffer .now) (a .used) (a .wanted) (at-if1 .if1 .left) _ q, t)
 
 same-length : tie.Need-same-length
 same-length c = search needs
@@ -180,16 +183,16 @@ returns-6 : tie.Need-returns-6
 returns-6 c =
     let at-put-recoded = c .before .before in
     let at-put-recoded-arg = at-put-recoded .before .before in
-    let at-place2 = at-put-recoded-arg .before .before in
-    let at-plan-recode = at-place2 .before .before in
+    let at-plain = at-put-recoded-arg .before .before in
+    let at-plan-recode = at-plain .before .before in
     let at-plan-recode-arg = at-plan-recode .before .before in
     let at-table-into = at-plan-recode-arg .before in
     let at-if2 = at-table-into .before in
     let at-if1 = at-if2 .before in
     let at-start = at-if1 .before .before in
     let a = at-start .args in
-    let m = recodes-made (a .buffer .now) (a .used) (a .wanted) (at-if1 .if1 .left) _ (sym (at-plan-recode .plan-recode .ensures) ∙ at-place2 .place2 .given .1) in
-    let into = ap (λ (t : List ℕ). zeroedAfter (a .used) (remarked (at-place2 .place2 .given .0 .0) (a .wanted) (mappedFront t (a .used) (a .buffer .now)))) (at-table-into .table-into .ensures) in
+    let m = recodes-made (a .buffer .now) (a .used) (a .wanted) (at-if1 .if1 .left) _ _ (sym (at-plan-recode .plan-recode .ensures) ∙ at-plain .plain .given .1) in
+    let into = ap (λ (t : List ℕ). zeroedAfter (a .used) (remarked (at-plain .plain .given .0 .1 .0) (a .wanted) (mappedFront t (a .used) (a .buffer .now)))) (at-table-into .table-into .ensures) in
     (m .0, at-put-recoded .put-recoded .ensures ∙ (into ∙ m .1))
 
 same-length-5 : tie.Need-same-length-5
@@ -199,15 +202,15 @@ returns-7 : tie.Need-returns-7
 returns-7 c =
     let at-put-gained = c .before .before in
     let at-put-gained-arg = at-put-gained .before .before in
-    let at-enum-told2 = at-put-gained-arg .before in
-    let at-plan-recode = at-enum-told2 .before .before in
+    let at-plain2 = at-put-gained-arg .before .before in
+    let at-plan-recode = at-plain2 .before .before in
     let at-plan-recode-arg = at-plan-recode .before .before in
     let at-table-into = at-plan-recode-arg .before in
     let at-if2 = at-table-into .before in
     let at-if1 = at-if2 .before in
     let at-start = at-if1 .before .before in
     let a = at-start .args in
-    let m = gains-made (a .buffer .now) (a .used) (a .wanted) (at-if1 .if1 .left) (sym (at-plan-recode .plan-recode .ensures) ∙ at-enum-told2 .enum-told2 .given .1) in
+    let m = gains-made (a .buffer .now) (a .used) (a .wanted) (at-if1 .if1 .left) _ (sym (at-plan-recode .plan-recode .ensures) ∙ at-plain2 .plain2 .given .1) in
     let into = ap (λ (t : List ℕ). withLine (a .wanted) (a .used) (mappedFront t (a .used) (a .buffer .now))) (at-table-into .table-into .ensures) in
     (m .0, at-put-gained .put-gained .ensures ∙ (into ∙ m .1))
 
@@ -228,9 +231,9 @@ recode-spec =
     put-nothing-requires
     enum-known-place
     put-mark-requires
-    enum-known-place-2
+    enum-known-plain
     put-recoded-requires
-    enum-told-2
+    enum-known-plain-2
     add-total
     put-gained-requires
     same-length

@@ -4,22 +4,24 @@ use Prim.Native.Nat.{_-_, _≤_}
 use native.Mathlib.Omega.{arith}
 use lib.ListN.{length}
 use borrow.Author.Needs.{needs}
+use Rattle.byte_high.proofs.HighLaws.{front-most}
 use Rattle.byte_low.proofs.SeekLaws.{seek-end}
 use Rattle.recode_bytes.specs.Mapped.{hasCharacter, firstWithout}
-use Rattle.recode_bytes.proofs.BytesLaws.{part-more, part-stops, part-over}
+use Rattle.recode_bytes.proofs.BytesLaws.{part-more, plain-front, part-stops, part-over}
 use Rattle.recode_bytes.proofs.first_without.Statement.{statement}
 use Rattle.recode_bytes.proofs.first_without.Tie as tie
 
 abbrev Inv-loop : tie.InvT-loop
-Inv-loop s table i₀ i = (i ≤ length s) × (firstWithout table s i (length s - i) ≡ firstWithout table s 0 (length s))
+Inv-loop s plain table i₀ i = (i ≤ length s) × (firstWithout table s i (length s - i) ≡ firstWithout table s 0 (length s))
 
 abbrev μ-loop : tie.MeasureT-loop
-μ-loop s table i₀ i = length s - i
+μ-loop s plain table i₀ i = length s - i
 
 loop-holds : tie.Need-loop-holds Inv-loop μ-loop
 loop-holds c =
     let a = c .before .args in
-    (omega arith, ap (firstWithout (a .table .now) (a .s .now) 0) (omega arith))
+    let p = c .before .pre in
+    (front-most (a .s .now) (a .plain) (p .0), plain-front (a .table .now) (a .s .now) (p .1) (a .plain) (p .0))
 
 pass-plain-requires : tie.Need-pass-plain-requires Inv-loop μ-loop
 pass-plain-requires c κs = search needs
@@ -44,7 +46,7 @@ returns c =
     let l = at-loop .loop in
     let p = at-pass-plain .pass-plain .ensures in
     let q = at-part-end .part-end .ensures in
-    part-stops (a .table .now) (a .s .now) (at-start .pre) (l .i) _ _ _ (p .0) (q .0) (q .1) (p .2) (at-seek-without .seek-without .ensures) (c .if1 .taken) ∙ l .inv .1
+    part-stops (a .table .now) (a .s .now) (at-start .pre .1) (l .i) _ _ _ (p .0) (q .0) (q .1) (p .2) (at-seek-without .seek-without .ensures) (c .if1 .taken) ∙ l .inv .1
 
 loop-less : tie.Need-loop-less Inv-loop μ-loop
 loop-less c =
@@ -70,7 +72,7 @@ loop-again c =
     let l = at-loop .loop in
     let p = at-pass-plain .pass-plain .ensures in
     let q = at-part-end .part-end .ensures in
-    (q .1, part-over (a .table .now) (a .s .now) (at-start .pre) (l .i) _ _ _ (p .0) (q .0) (q .1) (p .2) (at-seek-without .seek-without .ensures) (c .if1 .left) ∙ l .inv .1)
+    (q .1, part-over (a .table .now) (a .s .now) (at-start .pre .1) (l .i) _ _ _ (p .0) (q .0) (q .1) (p .2) (at-seek-without .seek-without .ensures) (c .if1 .left) ∙ l .inv .1)
 
 returns-2 : tie.Need-returns-2 Inv-loop μ-loop
 returns-2 c =

@@ -4,21 +4,23 @@ use Prim.Native.Nat.{ℕ, _-_, _≤_}
 use native.Mathlib.Omega.{arith}
 use lib.ListN.{length}
 use borrow.Author.Needs.{needs}
+use Rattle.byte_high.proofs.HighLaws.{front-most}
 use Rattle.recode_bytes.specs.Mapped.{mappedAt}
-use Rattle.recode_bytes.proofs.BytesLaws.{part-more, length-at, map-none, map-all, map-part}
+use Rattle.recode_bytes.proofs.BytesLaws.{part-more, length-at, map-front, map-all, map-part}
 use Rattle.recode_bytes.proofs.map_bytes.Statement.{statement}
 use Rattle.recode_bytes.proofs.map_bytes.Tie as tie
 
 abbrev Inv-loop : tie.InvT-loop
-Inv-loop s₀ table i₀ s i = (i ≤ length s₀) × ((s ≡ mappedAt table 0 i s₀) × (length s ≡ length s₀))
+Inv-loop s₀ plain table i₀ s i = (i ≤ length s₀) × ((s ≡ mappedAt table 0 i s₀) × (length s ≡ length s₀))
 
 abbrev μ-loop : tie.MeasureT-loop
-μ-loop s₀ table i₀ s i = length s₀ - i
+μ-loop s₀ plain table i₀ s i = length s₀ - i
 
 loop-holds : tie.Need-loop-holds Inv-loop μ-loop
 loop-holds c =
     let a = c .before .args in
-    (omega arith, (map-none (a .table .now) (a .s .now) 0, refl))
+    let p = c .before .pre in
+    (front-most (a .s .now) (a .plain) (p .0), (map-front (a .table .now) (p .1) (a .s .now) (a .plain) (p .0), refl))
 
 pass-plain-requires : tie.Need-pass-plain-requires Inv-loop μ-loop
 pass-plain-requires c κs = search needs
@@ -62,7 +64,7 @@ loop-again c =
     let q = at-part-end .part-end .ensures in
     let e = at-map-each .map-each .ensures in
     let n = ap length e ∙ length-at (a .table .now) (l .s) _ _ (omega (arith, p .1, q .0, q .1)) in
-    let m = map-part (a .table .now) (at-start .pre) (a .s .now) (l .s) _ (l .i) _ _ (p .0) (q .0) (omega (arith, q .1, inv .1 .1)) (inv .1 .1) (inv .1 .0) (p .2) e in
+    let m = map-part (a .table .now) (at-start .pre .1) (a .s .now) (l .s) _ (l .i) _ _ (p .0) (q .0) (omega (arith, q .1, inv .1 .1)) (inv .1 .1) (inv .1 .0) (p .2) e in
     (omega (arith, q .1, inv .1 .1), (m, n ∙ inv .1 .1))
 
 same-length : tie.Need-same-length Inv-loop μ-loop

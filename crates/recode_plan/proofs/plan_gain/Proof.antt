@@ -18,11 +18,14 @@ returns c =
     let a = at-start .args in
     c .refused-plan .ensures ∙ sym (plan-too-many (a .set .now) (a .shape) (a .room) (a .table .now) (at-start .pre .0) (at-start .pre .1) (at-if1 .if1 .taken))
 
+plain-front-requires : tie.Need-plain-front-requires
+plain-front-requires c κs = search needs
+
 first-without-requires : tie.Need-first-without-requires
 first-without-requires c κs =
-    let at-shared-slice-known = c .before .before in
+    let at-shared-slice-known = c .before .before .before in
     let at-start = at-shared-slice-known .before in
-    subst CodeTable (sym (at-start .pre .0 .table-so)) (table-codes _)
+    (c .plain-front .ensures, subst CodeTable (sym (at-start .pre .0 .table-so)) (table-codes _))
 
 add-plan-gained : tie.Need-add-plan-gained
 add-plan-gained c = search needs
@@ -33,11 +36,13 @@ plan-gained-requires c κs = search needs
 returns-2 : tie.Need-returns-2
 returns-2 c =
     let at-first-without = c .before in
-    let at-if1 = at-first-without .before in
+    let at-plain-front = at-first-without .before in
+    let at-if1 = at-plain-front .before in
     let at-shared-slice-known = at-if1 .before .before in
     let at-start = at-shared-slice-known .before in
     let a = at-start .args in
-    c .plan-gained .ensures ∙ plan-gains (a .set .now) (a .shape) (a .room) (a .table .now) (at-start .pre .0) (at-start .pre .1) (at-if1 .if1 .left) _ (at-first-without .first-without .ensures)
+    c .plan-gained .ensures ∙ plan-gains (a .set .now) (a .shape) (a .room) (a .table .now) (at-start .pre .0) (at-start .pre .1) (at-if1 .if1 .left) _ _
+    (at-plain-front .plain-front .ensures) (at-first-without .first-without .ensures)
 
 pub plan-gain-spec : {M : Type 1} → statement M
 plan-gain-spec =
@@ -45,6 +50,7 @@ plan-gain-spec =
     (tie.spec
     refused-plan-requires
     returns
+    plain-front-requires
     first-without-requires
     add-plan-gained
     plan-gained-requires

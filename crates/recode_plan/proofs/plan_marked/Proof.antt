@@ -41,12 +41,15 @@ returns-2 c =
     sym (plan-marks (a .set .now) (a .shape) (a .room) (a .wanted) (a .table .now) (at-start .pre .0) (a .place) (at-start .pre .1) (at-start .pre .2)
     (λ q. at-if1 .if1 .left (q ∙ sym (at-mark-of .mark-of .ensures))) (c .if2 .taken))
 
+plain-front-requires : tie.Need-plain-front-requires
+plain-front-requires c κs = search needs
+
 first-without-requires : tie.Need-first-without-requires
 first-without-requires c κs =
-    let at-if1 = c .before .before in
+    let at-if1 = c .before .before .before in
     let at-shared-slice-known2 = at-if1 .before .before in
     let at-start = at-shared-slice-known2 .before .before in
-    subst CodeTable (sym (at-start .pre .0 .table-so)) (table-codes _)
+    (c .plain-front .ensures, subst CodeTable (sym (at-start .pre .0 .table-so)) (table-codes _))
 
 refused-plan-requires : tie.Need-refused-plan-requires
 refused-plan-requires c κs = search needs
@@ -55,7 +58,8 @@ returns-3 : tie.Need-returns-3
 returns-3 c =
     let at-if3 = c .before in
     let at-first-without = at-if3 .before in
-    let at-if2 = at-first-without .before in
+    let at-plain-front = at-first-without .before in
+    let at-if2 = at-plain-front .before in
     let at-if1 = at-if2 .before .before in
     let at-mark-of = at-if1 .before in
     let at-shared-slice-known = at-mark-of .before .before in
@@ -67,14 +71,16 @@ returns-3 c =
 returns-4 : tie.Need-returns-4
 returns-4 c =
     let at-first-without = c .before in
-    let at-if2 = at-first-without .before in
+    let at-plain-front = at-first-without .before in
+    let at-if2 = at-plain-front .before in
     let at-if1 = at-if2 .before .before in
     let at-mark-of = at-if1 .before in
     let at-shared-slice-known = at-mark-of .before .before in
     let at-start = at-shared-slice-known .before in
     let a = at-start .args in
     sym (plan-recodes (a .set .now) (a .shape) (a .room) (a .wanted) (a .table .now) (at-start .pre .0) (a .place) (at-start .pre .1) (at-start .pre .2)
-    (λ q. at-if1 .if1 .left (q ∙ sym (at-mark-of .mark-of .ensures))) (at-if2 .if2 .left) _ (at-first-without .first-without .ensures) (c .if3 .left))
+    (λ q. at-if1 .if1 .left (q ∙ sym (at-mark-of .mark-of .ensures))) (at-if2 .if2 .left) _ (at-first-without .first-without .ensures) _
+    (at-plain-front .plain-front .ensures) (c .if3 .left))
 
 pub plan-marked-spec : {M : Type 1} → statement M
 plan-marked-spec =
@@ -85,6 +91,7 @@ plan-marked-spec =
     returns
     shared-slice-read-if2
     returns-2
+    plain-front-requires
     first-without-requires
     refused-plan-requires
     returns-3
