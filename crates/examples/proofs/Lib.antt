@@ -1,5 +1,6 @@
--- The examples: the set tables, the field table, the longest sets and lists; and what the theorems shut out.
+-- The examples: the set tables, the field table, the longest sets and lists, the largest set; and what the theorems shut out.
 pub mod RowExamples
 pub mod FieldExamples
 pub mod LongSets
+pub mod LargestSet
 pub mod ShutOut

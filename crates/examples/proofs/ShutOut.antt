@@ -1,4 +1,4 @@
--- What the theorems of crate `meaning` shut out, tried. docs/PROMISES.md has the table of it: "What each theorem asks, and what it shuts out".
+-- What the theorems of crate `meaning` and of LargestSet beside this shut out, tried. docs/PROMISES.md has the table of it: "What each theorem asks, and what it shuts out".
 --
 -- `SaysX` is the statement of theorem x, word for word, with any function in the place of the one that it is about; `x-says` is the theorem itself. Then trivial functions are put in:
 -- `x-not-refusing`: one that refuses every input, each with whatever refusal, does not meet it. `x-not-same`: one that answers always the same, whatever that is, does not meet it.
@@ -53,6 +53,7 @@ use Rattle.meaning.proofs.SizeLaws.{mostBytes, ruled-total, accepted-short, acc
 use Rattle.meaning.proofs.CorrectionLaws.{Holds, Change, change, Alike, Corrected, still-standing, alike-changed, correct-makes, correct-only}
 use Rattle.meaning.proofs.IndexLaws.{Shows, index-shows}
 use Rattle.meaning.proofs.ViewLaws.{newest, view-shows, view-as-corrected}
+use Rattle.examples.proofs.LargestSet.{largestSize, largest-set, largest, largest-judged}
 
 -- ---- the inputs
 
@@ -1059,6 +1060,30 @@ sizes-met-by-same = (
 -- what they shut out: a line without content, or a set that is too long
 sizes-not-empty-content : SaysSizes (λ s. done (parsed (field 3000 [] ∷ []) [])) → ⊥
 sizes-not-empty-content h = let z : 1 ≤ 0 = h .0 [] (parsed (field 3000 [] ∷ []) []) refl .0 .some-byte in omega arith
+
+-- largest-set and largest-judged: given that the set was accepted; of one set, nothing
+abbrev SaysLargest : (List ℕ → Judged) → Type 0
+SaysLargest judge = ((s : List ℕ) (x : Shape) → judge s ≡ Accepted x → x .length ≤ largestSize) × (judge largest ≡ Accepted (shaped largestSize maxLines 6310))
+
+largest-says : SaysLargest judge
+largest-says = (largest-set, largest-judged)
+
+largest-not-refusing : (r : List ℕ → Refusal) → SaysLargest (λ s. RefusedSet (r s)) → ⊥
+largest-not-refusing r h = refused-accepted (h .1)
+
+-- nor does one that accepts all bytes, each time with their length
+largest-not-accepting : (lines settype : List ℕ → ℕ) → SaysLargest (λ s. Accepted (shaped (length s) (lines s) (settype s))) → ⊥
+largest-not-accepting lines settype h =
+    let long : List ℕ = replicate (largestSize + 1) 0 in
+    omega (arith, h .0 long (shaped (length long) (lines long) (settype long)) refl, length-replicate {A = ℕ} (largestSize + 1) 0)
+
+-- nor one that answers always the same, with another length
+largest-not-another : (x : Shape) → (x .length ≡ largestSize → ⊥) → SaysLargest (λ s. Accepted x) → ⊥
+largest-not-another x n h = n (ap (λ (y : Shape). y .length) (accepted-same (h .1)))
+
+-- one that answers always what it answers for the largest set meets it; shut out by `accepted-exactly` in crate `keeps`
+largest-met-by-same : SaysLargest (λ s. Accepted (shaped largestSize maxLines 6310))
+largest-met-by-same = (λ s x e. subst (λ (y : Shape). y .length ≤ largestSize) (accepted-same e) (omega arith), refl)
 
 -- ruled-total: given at most 512 lines that keep the rules
 abbrev SaysRuledTotal : (List Field → ℕ) → Type 0
