@@ -119,5 +119,5 @@ entry-told f at d e = go (d .fields) (a .standing) (a .bytes)
         let at-type : numberIn (render all (d .rest)) lineLead typeDigits ≡ knownNumber (typeNamed (x .content)) =
         content-number all (d .rest) 0 typeDigits (omega arith) (t .0) (t .1) (omega arith) (omega arith) ∙ t .2 in
         let at-place : firstPlace (render all (d .rest)) patientLabel ≡ patientPlace all =
-        place-is patientLabel all (d .rest) (linesBefore patientLabel all) (st .sound) (st .few) (first-line patientLabel all (p .0)) in
+        place-is patientLabel (omega arith) all (d .rest) (linesBefore patientLabel all) (st .sound) (st .few) (first-line patientLabel all (p .0)) in
         rw (w, at-sum, at-type, at-place)

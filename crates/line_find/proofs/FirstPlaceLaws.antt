@@ -1,26 +1,30 @@
 -- What each `return` of the walk has to show; then what the walk is for lines that were read: the place of the first one with the label, or 0.
 use mathlib.Core.Path.{_≡_, refl, sym, ap, _∙_}
-use mathlib.Core.Bool.{Bool, true, false}
-use mathlib.Core.List.{List, [], _∷_}
+use mathlib.Core.Bool.{Bool, true, false, _&&_}
+use mathlib.Core.List.{List, [], _∷_, _++_}
 use mathlib.Core.Logic.{_⊎_, inl, inr, _≢_}
-use Prim.Native.Nat.{ℕ, zero, suc, _+_, _-_, _≤_, _<_}
+use Prim.Native.Nat.{ℕ, zero, suc, _+_, _-_, _/_, _%_, _≤_, _<_}
 use native.Mathlib.Omega.{arith}
 use native.Mathlib.Nat.{add-zero, zero-add}
 use lib.Dec.{eqb}
-use lib.ListN.{length, getD, drop, length-drop}
-use lib.Seq.{getD-drop, getD-take}
+use lib.ListN.{length, getD, take, drop, length-drop}
+use lib.Seq.{getD-drop, getD-take, drop-drop, drop-at, take-at}
 use borrow.Author.Tests.{le-leb, lt-leb, eq-eqb, ne-eqb, eqb-true, eqb-false}
 use Rattle.meaning.specs.Limits.{maxLines}
 use Rattle.meaning.specs.Field.{Field, noField, labelAtLine, contentAtLine}
-use Rattle.meaning.specs.Lines.{lineLead, lineEnd, lineSize, offset, render}
+use Rattle.meaning.specs.Digits.{digitZero, digits, number}
+use Rattle.meaning.specs.Kinds.{sameBytes}
+use Rattle.meaning.specs.Lines.{lengthDigits, labelDigits, lineLead, lineEnd, cr, lf, lineSize, offset, render}
 use Rattle.meaning.proofs.Bools.{Every, every-at}
+use Rattle.meaning.proofs.DigitLaws.{number-digits, length-digits}
+use Rattle.meaning.proofs.SameLaws.{same-bytes, bytes-same}
 use Rattle.meaning.proofs.LeftLaws.{one-more, none-left}
 use Rattle.meaning.proofs.LineLaws.{Sound}
 use Rattle.meaning.proofs.PlaceLaws.{content-at}
-use Rattle.line_read.specs.Told.{toldLength, toldLabel}
+use Rattle.line_read.specs.Told.{toldLength}
 use Rattle.line_read.proofs.LineMeaning.{read-line, read-back, reads-on}
-use Rattle.line_read.proofs.ToldLaws.{read-told}
-use Rattle.line_find.specs.FirstPlace.{placeFrom, firstPlace}
+use Rattle.line_read.proofs.ToldLaws.{four-bytes, read-told}
+use Rattle.line_find.specs.FirstPlace.{labelStands, placeFrom, firstPlace}
 
 -- ---- the walk over lines, of which `lines` were passed over
 
@@ -36,15 +40,51 @@ module _ (l : ℕ) (s : List ℕ) (at lines : ℕ) where
     unfolding placeFrom
     place-cut g = rw (one-more h, lt-leb (at + lineLead) (length s) g)
 
-    module _ (g : at + lineLead ≤ length s) (m : ℕ) (e : m ≡ toldLabel s at) where
-      pub place-here : m ≡ l → at + lineLead ≡ placeFrom l s at (maxLines - lines)
+    module _ (g : at + lineLead ≤ length s) where
+      pub place-here : labelStands l s at ≡ true → at + lineLead ≡ placeFrom l s at (maxLines - lines)
       unfolding placeFrom
-      place-here q = rw (one-more h, le-leb (at + lineLead) (length s) g, ← e, eq-eqb m l q)
+      place-here q = rw (one-more h, le-leb (at + lineLead) (length s) g, q)
 
-      pub place-next : (m ≡ l → ⊥) → (n : ℕ) → n ≡ toldLength s at
+      pub place-next : labelStands l s at ≡ false → (n : ℕ) → n ≡ toldLength s at
           → placeFrom l s (at + (n + (lineLead + lineEnd))) (maxLines - (lines + 1)) ≡ placeFrom l s at (maxLines - lines)
       unfolding placeFrom
-      place-next q n d = rw (one-more h, le-leb (at + lineLead) (length s) g, ← e, ne-eqb m l q, ← d)
+      place-next q n d = rw (one-more h, le-leb (at + lineLead) (length s) g, q, ← d)
+
+-- ---- the label's digits, byte by byte
+
+and-true : (b : Bool) → b && true ≡ b
+and-true true = refl
+and-true false = refl
+
+module _ (l : ℕ) (s : List ℕ) (at : ℕ) (h : at + lineLead ≤ length s) where
+  abbrev byte : ℕ → ℕ
+  byte k = getD s (at + lengthDigits + k) 0
+
+  abbrev lastDigit : ℕ → ℕ
+  lastDigit n = digitZero + n % 10
+
+  by-bytes : labelStands l s at ≡ eqb (getD s (at + lengthDigits) 0) (lastDigit (l / 10 / 10 / 10))
+      && (eqb (byte 1) (lastDigit (l / 10 / 10)) && (eqb (byte 2) (lastDigit (l / 10)) && (eqb (byte 3) (lastDigit l) && true)))
+  unfolding labelStands sameBytes
+  by-bytes = rw (four-bytes s (at + lengthDigits) (omega arith)) refl
+
+  -- the first byte that differs; else the last one decides
+  module _ (d : ℕ) (e : d ≡ lastDigit (l / 10 / 10 / 10)) where
+    pub first-differs : (getD s (at + lengthDigits) 0 ≡ d → ⊥) → false ≡ labelStands l s at
+    first-differs n = sym (by-bytes ∙ rw (← e, ne-eqb (getD s (at + lengthDigits) 0) d n) refl)
+
+    module _ (q : getD s (at + lengthDigits) 0 ≡ d) (d₁ : ℕ) (e₁ : d₁ ≡ lastDigit (l / 10 / 10)) where
+      pub second-differs : (byte 1 ≡ d₁ → ⊥) → false ≡ labelStands l s at
+      second-differs n = sym (by-bytes ∙ rw (← e, ← e₁, eq-eqb (getD s (at + lengthDigits) 0) d q, ne-eqb (byte 1) d₁ n) refl)
+
+      module _ (q₁ : byte 1 ≡ d₁) (d₂ : ℕ) (e₂ : d₂ ≡ lastDigit (l / 10)) where
+        pub third-differs : (byte 2 ≡ d₂ → ⊥) → false ≡ labelStands l s at
+        third-differs n = sym (by-bytes ∙ rw (← e, ← e₁, ← e₂, eq-eqb (getD s (at + lengthDigits) 0) d q, eq-eqb (byte 1) d₁ q₁, ne-eqb (byte 2) d₂ n) refl)
+
+        pub last-decides : byte 2 ≡ d₂ → (d₃ : ℕ) → d₃ ≡ lastDigit l → eqb (byte 3) d₃ ≡ labelStands l s at
+        last-decides q₂ d₃ e₃ =
+            sym (by-bytes
+            ∙ rw (← e, ← e₁, ← e₂, ← e₃, eq-eqb (getD s (at + lengthDigits) 0) d q, eq-eqb (byte 1) d₁ q₁, eq-eqb (byte 2) d₂ q₂) (and-true (eqb (byte 3) d₃)))
 
 -- ---- lines that were read
 
@@ -84,8 +124,30 @@ first-or-none l (f ∷ fs) = go (eqb (f .label) l) refl (first-or-none l fs)
         none zero h = eqb-false (f .label) l e
         none (suc j) h = x j (omega arith)
 
+-- digits are the same if their numbers are
+same-digits : (a l : ℕ) → a < 10000 → l < 10000 → sameBytes (digits labelDigits a) (digits labelDigits l) ≡ eqb a l
+same-digits a l h g = go (eqb a l) refl (sameBytes (digits labelDigits a) (digits labelDigits l)) refl
+  where
+    go : (b : Bool) → eqb a l ≡ b → (c : Bool) → sameBytes (digits labelDigits a) (digits labelDigits l) ≡ c → c ≡ b
+    go true e c q = sym q ∙ (ap (λ (n : ℕ). sameBytes (digits labelDigits n) (digits labelDigits l)) (eqb-true a l e) ∙ bytes-same (digits labelDigits l))
+    go false e false q = refl
+    go false e true q =
+        absurd (eqb-false a l e (sym (number-digits labelDigits a h) ∙ (ap number (same-bytes _ _ q) ∙ number-digits labelDigits l g)))
+
 -- the lines fs are written from offset `at` on
-module _ (l : ℕ) (s : List ℕ) where
+module _ (l : ℕ) (small : l < 10000) (s : List ℕ) where
+  -- a line says its label
+  stands-is : (f : Field) (u : List ℕ) (at : ℕ) → Sound f → drop at s ≡ render (f ∷ []) u → labelStands l s at ≡ eqb (f .label) l
+  unfolding labelStands
+  stands-is f u at h w =
+      let four : List ℕ = digits labelDigits (f .label) in
+      let rest : List ℕ = f .content ++ (cr ∷ lf ∷ u) in
+      let three : drop (at + lengthDigits) s ≡ four ++ rest =
+      sym (drop-drop lengthDigits at s) ∙ (ap (drop lengthDigits) w ∙ drop-at (digits lengthDigits (lineSize f)) (four ++ rest) lengthDigits (length-digits lengthDigits (lineSize f))) in
+      ap (λ (x : List ℕ). sameBytes (take labelDigits x) (digits labelDigits l)) three
+      ∙ (ap (λ (x : List ℕ). sameBytes x (digits labelDigits l)) (take-at four rest labelDigits (length-digits labelDigits (f .label)))
+      ∙ same-digits (f .label) l (h .label-fits) small)
+
   -- a step over the first of them, if it has another label
   step-over : (f : Field) (u : List ℕ) (at n : ℕ) → Sound f → drop at s ≡ render (f ∷ []) u → f .label ≢ l → placeFrom l s at (suc n) ≡ placeFrom l s (at + lineSize f) n
   unfolding placeFrom
@@ -94,7 +156,7 @@ module _ (l : ℕ) (s : List ℕ) where
       let b = read-back s at r in
       let told = read-told s at r in
       let m : toldLength s at ≡ length (f .content) = omega (arith, told .0) in
-      rw (le-leb (at + lineLead) (length s) (omega (arith, b .within)), told .1, m, ne-eqb (f .label) l q)
+      rw (le-leb (at + lineLead) (length s) (omega (arith, b .within)), stands-is f u at h w, m, ne-eqb (f .label) l q)
 
   -- the first line with the label: by one step for each line before it
   place-from : (fs : List Field) (t : List ℕ) (at n k : ℕ) → Every Sound fs → drop at s ≡ render fs t → length fs ≤ n → FirstLine l fs k → placeFrom l s at n ≡ at + (offset fs k + lineLead)
@@ -104,8 +166,7 @@ module _ (l : ℕ) (s : List ℕ) where
   place-from (f ∷ fs) t at (suc n) zero h w c x =
       let r = read-line s at f (render fs t) w (h .0) in
       let b = read-back s at r in
-      let told = read-told s at r in
-      rw (le-leb (at + lineLead) (length s) (omega (arith, b .within)), told .1, eq-eqb (f .label) l (x .named))
+      rw (le-leb (at + lineLead) (length s) (omega (arith, b .within)), stands-is f (render fs t) at (h .0) w, eq-eqb (f .label) l (x .named))
   place-from (f ∷ fs) t at (suc n) (suc k) h w c x =
       let rest : FirstLine l fs k = record { inside = omega (arith, x .inside); named = x .named; none-before = λ j q. x .none-before (suc j) (omega arith) } in
       step-over f (render fs t) at n (h .0) w (x .none-before 0 (omega arith))
@@ -123,12 +184,12 @@ module _ (l : ℕ) (s : List ℕ) where
       ∙ none-from fs (at + lineSize f) n (h .1) (reads-on s at f (render fs []) (h .0) w) (read-back s at (read-line s at f (render fs []) w (h .0)) .within) (λ k q. x (suc k) (omega arith))
 
 -- the walk over a set: where the content of the first line with the label stands
-pub place-is : (l : ℕ) (fs : List Field) (t : List ℕ) (k : ℕ) → Every Sound fs → length fs ≤ maxLines → FirstLine l fs k → firstPlace (render fs t) l ≡ offset fs k + lineLead
-place-is l fs t k h c x = place-from l (render fs t) fs t 0 maxLines k h refl c x ∙ zero-add (offset fs k + lineLead)
+pub place-is : (l : ℕ) → l < 10000 → (fs : List Field) (t : List ℕ) (k : ℕ) → Every Sound fs → length fs ≤ maxLines → FirstLine l fs k → firstPlace (render fs t) l ≡ offset fs k + lineLead
+place-is l small fs t k h c x = place-from l small (render fs t) fs t 0 maxLines k h refl c x ∙ zero-add (offset fs k + lineLead)
 
 -- and 0 if no line has it, and the set stands alone
-pub place-absent : (l : ℕ) (fs : List Field) → Every Sound fs → NoLine l fs → firstPlace (render fs []) l ≡ 0
-place-absent l fs h x = none-from l (render fs []) fs 0 maxLines h refl (omega arith) x
+pub place-absent : (l : ℕ) → l < 10000 → (fs : List Field) → Every Sound fs → NoLine l fs → firstPlace (render fs []) l ≡ 0
+place-absent l small fs h x = none-from l small (render fs []) fs 0 maxLines h refl (omega arith) x
 
 -- the first byte of a line's content stands after its lead
 pub first-byte : (fs : List Field) (k : ℕ) → Every Sound fs → k < length fs → getD (render fs []) (offset fs k + lineLead) 0 ≡ getD (contentAtLine fs k) 0 0

@@ -82,7 +82,7 @@ module _ (s : List ℕ) (i : ℕ) where
       let two : i + 1 + 1 ≡ i + 2 = omega arith in
       rw (byte-then s i (omega arith), byte-then s (i + 1) (omega arith), two, byte-then s (i + 2) (omega arith))
 
-  four-bytes : i + 4 ≤ length s → take 4 (drop i s) ≡ getD s i 0 ∷ getD s (i + 1) 0 ∷ getD s (i + 2) 0 ∷ getD s (i + 3) 0 ∷ []
+  pub four-bytes : i + 4 ≤ length s → take 4 (drop i s) ≡ getD s i 0 ∷ getD s (i + 1) 0 ∷ getD s (i + 2) 0 ∷ getD s (i + 3) 0 ∷ []
   four-bytes h =
       let two : i + 1 + 1 ≡ i + 2 = omega arith in
       let three : i + 2 + 1 ≡ i + 3 = omega arith in

@@ -34,8 +34,8 @@ seven-told p fs h c r = go (first-or-none 9206 fs)
   where
     go : ((k : ℕ) × FirstLine 9206 fs k) ⊎ NoLine 9206 fs → saysSeven (render fs []) ≡ sevenBit fs
     go (inl (k, x)) =
-        rw (place-is 9206 fs [] k h c x, ne-eqb (offset fs k + lineLead) 0 (λ z. omega arith), first-byte fs k h (x .inside)) (sym (seven-digit p fs r k (x .inside) (x .named)))
-    go (inr x) = rw (place-absent 9206 fs h x) (sym (seven-none fs x))
+        rw (place-is 9206 (omega arith) fs [] k h c x, ne-eqb (offset fs k + lineLead) 0 (λ z. omega arith), first-byte fs k h (x .inside)) (sym (seven-digit p fs r k (x .inside) (x .named)))
+    go (inr x) = rw (place-absent 9206 (omega arith) fs h x) (sym (seven-none fs x))
 
 -- ---- 24
 

@@ -162,7 +162,7 @@ only-9206 : (fs : List Field) → Standing fs → (NoLine 9206 fs → ⊥) → (
 only-9206 fs st n = go (first-or-none 9206 fs)
   where
     go : ((k : ℕ) × FirstLine 9206 fs k) ⊎ NoLine 9206 fs → (j : ℕ) × OnlyLine fs j × (charsetPlace fs ≡ offset fs j + lineLead)
-    go (inl (k, x)) = (k, only-line (profile fs) fs (ruled fs (st .right) .0 .each-line) k (x .inside) (x .named), place-is 9206 fs [] k (st .sound) (st .few) x)
+    go (inl (k, x)) = (k, only-line (profile fs) fs (ruled fs (st .right) .0 .each-line) k (x .inside) (x .named), place-is 9206 (omega arith) fs [] k (st .sound) (st .few) x)
     go (inr x) = absurd (n x)
 
 -- every content has a character in the wanted code page

@@ -123,7 +123,7 @@ none-at : (fs : List Field) → Standing fs → charsetPlace fs ≡ 0 → NoLine
 none-at fs st z = go (first-or-none 9206 fs)
   where
     go : ((k : ℕ) × FirstLine 9206 fs k) ⊎ NoLine 9206 fs → NoLine 9206 fs
-    go (inl (k, x)) = absurd (omega (arith, z, place-is 9206 fs [] k (st .sound) (st .few) x))
+    go (inl (k, x)) = absurd (omega (arith, z, place-is 9206 (omega arith) fs [] k (st .sound) (st .few) x))
     go (inr x) = x
 
 -- else the byte there decides
@@ -139,7 +139,7 @@ marked-at fs st place e n = go (first-or-none 9206 fs)
     go : ((k : ℕ) × FirstLine 9206 fs k) ⊎ NoLine 9206 fs → Marked fs place
     go (inl (k, x)) =
         let r = ruled fs (st .right) .0 .each-line in
-        let p : place ≡ offset fs k + lineLead = e ∙ place-is 9206 fs [] k (st .sound) (st .few) x in
+        let p : place ≡ offset fs k + lineLead = e ∙ place-is 9206 (omega arith) fs [] k (st .sound) (st .few) x in
         let b : getD (render fs []) place 0 ≡ getD (contentAtLine fs k) 0 0 = ap (λ (m : ℕ). getD (render fs []) m 0) p ∙ first-byte fs k (st .sound) (x .inside) in
         record {
           has = has-one fs k (x .inside) (x .named);
@@ -149,7 +149,7 @@ marked-at fs st place e n = go (first-or-none 9206 fs)
               ∙ (says-digit (profile fs) fs r k (x .inside) (x .named) w ∙ ap (λ (m : ℕ). eqb m (getD (charsetOf w) 0 0)) (sym b));
           inside = omega (arith, p, size-at fs k (x .inside));
         }
-    go (inr x) = absurd (n (e ∙ place-absent 9206 fs (st .sound) x))
+    go (inr x) = absurd (n (e ∙ place-absent 9206 (omega arith) fs (st .sound) x))
 
 -- ---- the tests of the code, in its order, for a set that was accepted
 

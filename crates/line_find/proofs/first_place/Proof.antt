@@ -1,5 +1,5 @@
 -- `first_place`: what is left to walk is always what is to be walked in all.
-use mathlib.Core.Path.{_≡_, refl, _∙_}
+use mathlib.Core.Path.{_≡_, refl, sym, _∙_}
 use Prim.Native.Nat.{_-_, _≤_}
 use native.Mathlib.Omega.{arith}
 use borrow.Author.Needs.{needs}
@@ -36,20 +36,20 @@ returns-2 c =
     let l = at-loop .loop in
     (place-cut (a .label) (a .set .now) (l .at) (l .lines) (omega arith) (omega arith) ∙ l .inv .1, omega arith)
 
-told-label-requires : tie.Need-told-label-requires Inv-loop μ-loop
-told-label-requires c κs = search needs
+label-stands-requires : tie.Need-label-stands-requires Inv-loop μ-loop
+label-stands-requires c κs = search needs
 
 add-result : tie.Need-add-result Inv-loop μ-loop
 add-result c = search needs
 
 returns-3 : tie.Need-returns-3 Inv-loop μ-loop
 returns-3 c =
-    let at-told-label = c .before in
-    let at-if1 = at-told-label .before .before in
+    let at-label-stands = c .before in
+    let at-if1 = at-label-stands .before .before in
     let at-loop = at-if1 .before .before in
     let a = at-loop .before .before .args in
     let l = at-loop .loop in
-    (place-here (a .label) (a .set .now) (l .at) (l .lines) (omega arith) (omega arith) _ (at-told-label .told-label .ensures) (c .if3 .taken) ∙ l .inv .1, omega arith)
+    (place-here (a .label) (a .set .now) (l .at) (l .lines) (omega arith) (omega arith) (sym (at-label-stands .label-stands .ensures) ∙ c .if3 .taken) ∙ l .inv .1, omega arith)
 
 told-length-requires : tie.Need-told-length-requires Inv-loop μ-loop
 told-length-requires c κs = search needs
@@ -69,13 +69,13 @@ loop-less c = search needs
 loop-again : tie.Need-loop-again Inv-loop μ-loop
 loop-again c =
     let at-if3 = c .before in
-    let at-told-label = at-if3 .before in
-    let at-if1 = at-told-label .before .before in
+    let at-label-stands = at-if3 .before in
+    let at-if1 = at-label-stands .before .before in
     let at-loop = at-if1 .before .before in
     let a = at-loop .before .before .args in
     let l = at-loop .loop in (
       omega arith,
-      place-next (a .label) (a .set .now) (l .at) (l .lines) (omega arith) (omega arith) _ (at-told-label .told-label .ensures) (at-if3 .if3 .left) _ (c .told-length .ensures .0)
+      place-next (a .label) (a .set .now) (l .at) (l .lines) (omega arith) (omega arith) (sym (at-label-stands .label-stands .ensures) ∙ at-if3 .if3 .left) _ (c .told-length .ensures .0)
           ∙ l .inv .1,
     )
 
@@ -96,7 +96,7 @@ first-place-spec =
     returns
     sub-if2
     returns-2
-    told-label-requires
+    label-stands-requires
     add-result
     returns-3
     told-length-requires

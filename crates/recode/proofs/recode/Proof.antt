@@ -9,7 +9,8 @@ use Rattle.meaning.specs.Refusals.{refused}
 use Rattle.recode_bytes.specs.Mapped.{CodeTable}
 use Rattle.recode_plan.proofs.RecodedLaws.{table-codes}
 use Rattle.recode_put.specs.Recoded.{zeroedAfter, remarked, mappedFront, withLine}
-use Rattle.recode.proofs.RecodeCallLaws.{recode-over, recode-empty, kept, plan-refused, stays-made, marks-inside, marks-made, recodes-inside, recodes-plain, recodes-made, gains-after, gains-room, gains-plain, gains-made}
+use Rattle.recode.proofs.RecodeCallLaws.{recode-over, recode-empty, kept, plan-refused, stays-made, marks-inside, marks-made}
+use Rattle.recode.proofs.RecodeCallLaws.{recodes-inside, recodes-plain, recodes-made, gains-after, gains-room, gains-plain, gains-made}
 use Rattle.recode.proofs.recode.Statement.{statement}
 use Rattle.recode.proofs.recode.Tie as tie
 
@@ -95,9 +96,12 @@ put-recoded-requires c κs =
     let at-start = at-if1 .before .before in
     let a = at-start .args in
     let q = sym (at-plan-recode .plan-recode .ensures) ∙ at-plain .plain .given .1 in
-    let t = subst CodeTable (sym (at-table-into .table-into .ensures)) (table-codes (at-start .args .wanted)) in
-    (recodes-inside (a .buffer .now) (a .used) (a .wanted) (at-if1 .if1 .left) _ _ q, at-if1 .if1 .left,
-    recodes-plain (a .buffer .now) (a .used) (a .wanted) (at-if1 .if1 .left) _ _ q, t)
+    let t = subst CodeTable (sym (at-table-into .table-into .ensures)) (table-codes (at-start .args .wanted)) in (
+      recodes-inside (a .buffer .now) (a .used) (a .wanted) (at-if1 .if1 .left) _ _ q,
+      at-if1 .if1 .left,
+      recodes-plain (a .buffer .now) (a .used) (a .wanted) (at-if1 .if1 .left) _ _ q,
+      t,
+    )
 
 enum-known-plain-2 : tie.Need-enum-known-plain-2
 enum-known-plain-2 c = search needs
@@ -116,7 +120,8 @@ add-total c =
 
 put-gained-requires : tie.Need-put-gained-requires
 put-gained-requires c κs =
-    let at-plain2 = c .before .before .before in
+    let at-known-told4 = c .before .before in
+    let at-plain2 = at-known-told4 .before in
     let at-plan-recode = at-plain2 .before .before in
     let at-plan-recode-arg = at-plan-recode .before .before in
     let at-table-into = at-plan-recode-arg .before in
@@ -125,9 +130,12 @@ put-gained-requires c κs =
     let at-start = at-if1 .before .before in
     let a = at-start .args in
     let q = sym (at-plan-recode .plan-recode .ensures) ∙ at-plain2 .plain2 .given .1 in
-    let t = subst CodeTable (sym (at-table-into .table-into .ensures)) (table-codes (at-start .args .wanted)) in
-    (gains-after (a .buffer .now) (a .used) (a .wanted) (at-if1 .if1 .left) _ q, gains-room (a .buffer .now) (a .used) (a .wanted) (at-if1 .if1 .left) _ q,
-    gains-plain (a .buffer .now) (a .used) (a .wanted) (at-if1 .if1 .left) _ q, t)
+    let t = subst CodeTable (sym (at-table-into .table-into .ensures)) (table-codes (at-start .args .wanted)) in (
+      gains-after (a .buffer .now) (a .used) (a .wanted) (at-if1 .if1 .left) _ q,
+      gains-room (a .buffer .now) (a .used) (a .wanted) (at-if1 .if1 .left) _ q,
+      gains-plain (a .buffer .now) (a .used) (a .wanted) (at-if1 .if1 .left) _ q,
+      t,
+    )
 
 same-length : tie.Need-same-length
 same-length c = search needs

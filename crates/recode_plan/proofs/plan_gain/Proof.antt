@@ -23,7 +23,8 @@ plain-front-requires c κs = search needs
 
 first-without-requires : tie.Need-first-without-requires
 first-without-requires c κs =
-    let at-shared-slice-known = c .before .before .before in
+    let at-if1 = c .before in
+    let at-shared-slice-known = at-if1 .before .before in
     let at-start = at-shared-slice-known .before in
     (c .plain-front .ensures, subst CodeTable (sym (at-start .pre .0 .table-so)) (table-codes _))
 
