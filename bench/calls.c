@@ -84,7 +84,7 @@ static void fill_lines(struct input *input, size_t count, size_t length)
 static void sixty_512(struct input *input)
 {
     begin(input);
-    fill_lines(input, 512, MOST_CONTENT);
+    fill_lines(input, GDT_MOST_LINES, MOST_CONTENT);
 }
 
 static void lines_of_6(struct input *input, size_t count)

@@ -6,8 +6,7 @@
 
 enum {
     DAY_ENTRY = 4, /* numbers of a set in the index */
-    MOST_SETS = 2048,
-    MOST_NUMBERS = DAY_ENTRY * (MOST_SETS + 1),
+    MOST_NUMBERS = DAY_ENTRY * (GDT_MOST_SETS + 1),
     FILE_BYTES = 160000,
     APPENDED_TO = 64, /* sets of the file that a set is appended to */
     BEFORE_REFUSED = 3, /* sets before the one that is refused */
@@ -163,7 +162,7 @@ static void varied_day(struct day *day, size_t sets)
 static void small_day(struct day *day, size_t sets)
 {
     day_file(day, sets, small_set);
-    day->no = sets > MOST_SETS ? GDT_TOO_MANY_SETS : 0;
+    day->no = sets > GDT_MOST_SETS ? GDT_TOO_MANY_SETS : 0;
 }
 
 /* A file in which one set more is found than there is room for. */
@@ -182,7 +181,7 @@ static void refused_day(struct day *day, size_t no)
     memset(&set, 0, sizeof set);
     refused(&set, no);
     day_file(day, before, varied_set);
-    day->count = no == GDT_TOO_MANY_SETS ? MOST_SETS : before;
+    day->count = no == GDT_TOO_MANY_SETS ? GDT_MOST_SETS : before;
     if (no > GDT_BAD_USE && no != GDT_HIGH_BYTE) {
         add_set(day, &set);
     } else {

@@ -53,7 +53,7 @@ static const struct load {
     {"find2048", small_day, 2048, {[FIND] = true}},
     {"full2048", full_day, 2048, {[FIND] = true}},
     {"refused", NULL, 0, {[BUILD] = true, [APPEND] = true}},
-    {"day2049", small_day, MOST_SETS + 1, {[BUILD] = true}},
+    {"day2049", small_day, GDT_MOST_SETS + 1, {[BUILD] = true}},
 };
 
 enum { LOADS = sizeof loads / sizeof *loads };

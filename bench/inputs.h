@@ -7,7 +7,7 @@
 enum {
     BUFFER = 40000, /* bytes, for a set, a list or a sheet */
     MOST_CONTENT = 60, /* bytes, of a field that has no other bound */
-    LONGEST_CONTENT = 990, /* bytes: a line has at most 999 */
+    LONGEST_CONTENT = GDT_MOST_LINE - LINE_FRAME, /* bytes */
     SUM_LINE = 2,
     FIXED_LINE = 3,
     PATIENT_LINE = 4,

@@ -8,7 +8,6 @@ extern __typeof__(gdt_to_1252) second_to_1252;
 
 enum {
     ADDED_LINE = 10, /* bytes of a line 9206 */
-    MOST_LINES = 512, /* of a set, with the line that it gains */
     UMLAUTS_EACH = 4, /* of so many lines one has umlauts */
     PI = 0xE3, /* of 437; not in 1252 */
     EURO = 0x80 /* of 1252; not in 437 */
@@ -37,18 +36,18 @@ static void umlauts_77(struct input *input)
     }
 }
 
-/* Lines of 40 bytes, as many as leave room for one more. */
+/* Lines of 40 bytes, as many as leave room for the line that a set gains. */
 static void plain_512(struct input *input)
 {
     begin(input);
-    lines(input, MOST_LINES - 1 - input->lines, 6220, forty);
+    lines(input, GDT_MOST_LINES - 1 - input->lines, 6220, forty);
 }
 
 /* The same, one in four with two umlauts. */
 static void umlauts_512(struct input *input)
 {
     begin(input);
-    while (input->lines < MOST_LINES - 1) {
+    while (input->lines < GDT_MOST_LINES - 1) {
         line(input, 6220, input->lines % UMLAUTS_EACH == 0 ? "abcdefghij\x81lmnopqrstuvwxyzabcdefghi\x84klmn" : forty);
     }
 }
@@ -63,7 +62,7 @@ static void high_512(struct input *input)
     line(input, 9218, "02.10");
     line(input, 3000, "\x81\x84\x94\x8E\x99\x9A");
     line(input, 8402, "\x81\x84\x94\x8E\x99");
-    lines(input, MOST_LINES - 1 - input->lines, 6220, text);
+    lines(input, GDT_MOST_LINES - 1 - input->lines, 6220, text);
 }
 
 /* ---- Sets in 1252, and refused ones ------------------------------------------------------------------------------------------ */

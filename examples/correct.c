@@ -6,10 +6,10 @@
 #include <unistd.h>
 #include "gdt.h"
 
-enum { ROOM = 65536, LINES = 512 };
+enum { ROOM = 65536 };
 
 static uint8_t buffer[ROOM];
-static struct gdt_entry entries[LINES];
+static struct gdt_entry entries[GDT_MOST_LINES];
 
 /* Reads standard input up to its end, as far as there is room. */
 static size_t read_input(void)
@@ -38,7 +38,7 @@ int main(int count, char **words)
         return 2;
     }
     size_t used = read_input();
-    struct gdt_made made = gdt_index(buffer, used, entries, LINES);
+    struct gdt_made made = gdt_index(buffer, used, entries, GDT_MOST_LINES);
     if (made.no != 0) {
         return refused("the set", made);
     }

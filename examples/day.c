@@ -33,11 +33,9 @@
 enum { DONE = 0, REFUSED = 1, WRONG_USAGE = 2 };
 
 enum {
-    MOST_SETS = 2048, /* of a day file: the room for an index, so that no call is refused by GDT_NO_ROOM */
-    MOST_LINES = 512, /* of a set */
-    ANY_USER = 0666,  /* who may use a new file; the umask takes from that */
-    STEP = 65536,     /* bytes that are read at once, at least */
-    START = 7         /* bytes of a line before its content: its length in three, its label in four */
+    ANY_USER = 0666, /* who may use a new file; the umask takes from that */
+    STEP = 65536,    /* bytes that are read at once, at least */
+    START = 7        /* bytes of a line before its content: its length in three, its label in four */
 };
 
 enum { LABEL_PATIENT = 3000, LABEL_TYPE = 8000, LABEL_SUM = 8100, LABEL_VERSION = 9218 };
@@ -57,8 +55,9 @@ struct bytes {
     size_t used, room;
 };
 
+/* There is room for every day file: no call is refused by GDT_NO_ROOM. */
 struct index {
-    size_t numbers[MOST_SETS * NUMBERS];
+    size_t numbers[GDT_MOST_SETS * NUMBERS];
     size_t count;
 };
 
@@ -227,7 +226,7 @@ static const char *unpack(const struct bytes *kept, struct index *index)
         return "is no index of this version";
     }
     size_t sets = (kept->used - HEAD - CHECK) / ENTRY, last = kept->used - CHECK;
-    if (number_at(kept->at + 2 * WIDTH) != sets || HEAD + sets * ENTRY != last || sets > MOST_SETS) {
+    if (number_at(kept->at + 2 * WIDTH) != sets || HEAD + sets * ENTRY != last || sets > GDT_MOST_SETS) {
         return "is cut or damaged";
     }
     if (number_at(kept->at + last) != check_value(kept->at, last)) {
@@ -367,7 +366,7 @@ static void tell_rest(size_t whole)
 static void tell_damage(struct gdt_made made)
 {
     size_t sets = 0, whole = 0;
-    for (size_t length = set_length(0); length > 0 && sets < MOST_SETS; length = set_length(whole)) {
+    for (size_t length = set_length(0); length > 0 && sets < GDT_MOST_SETS; length = set_length(whole)) {
         sets++;
         whole += length;
     }
@@ -383,7 +382,7 @@ static void tell_damage(struct gdt_made made)
 
 static bool build_index(void)
 {
-    struct gdt_made made = gdt_day_build(day.file.at, day.file.used, day.index.numbers, MOST_SETS * NUMBERS);
+    struct gdt_made made = gdt_day_build(day.file.at, day.file.used, day.index.numbers, GDT_MOST_SETS * NUMBERS);
     if (made.no != 0) {
         tell_damage(made);
         return false;
@@ -530,7 +529,7 @@ static int add(const char *path, const char *set_path)
     }
     size_t old = day.file.used;
     join(&day.file, set.at, set.used);
-    struct gdt_made made = gdt_day_append(day.file.at, day.file.used, old, day.index.numbers, MOST_SETS * NUMBERS, day.index.count);
+    struct gdt_made made = gdt_day_append(day.file.at, day.file.used, old, day.index.numbers, GDT_MOST_SETS * NUMBERS, day.index.count);
     if (made.no != 0) {
         tell_refusal(path, made);
         dprintf(2, "day: nothing was added: start a new day file\n");
@@ -562,10 +561,10 @@ static bool is_hidden(size_t label)
 /* Prints a set as a reader wants it, the members of a group deeper. The bytes of a content are in the code that 9206 names. */
 static void print_set(size_t number)
 {
-    static struct gdt_entry lines[MOST_LINES];
+    static struct gdt_entry lines[GDT_MOST_LINES];
     const size_t *entry = entry_of(number);
     const char *set = (const char *)day.file.at + entry[OFFSET];
-    size_t count = gdt_index(day.file.at + entry[OFFSET], entry[LENGTH], lines, MOST_LINES).count;
+    size_t count = gdt_index(day.file.at + entry[OFFSET], entry[LENGTH], lines, GDT_MOST_LINES).count;
     print_entry(number);
     for (size_t i = 0; i < count; i++) {
         if (!is_hidden(lines[i].label)) {
@@ -585,7 +584,7 @@ static bool is_right(size_t number)
 
 static int find(const char *path, const char *patient)
 {
-    static size_t found[MOST_SETS];
+    static size_t found[GDT_MOST_SETS];
     if (!open_day(path, O_RDONLY, F_RDLCK) || !take_index()) {
         return REFUSED;
     }
@@ -593,7 +592,7 @@ static int find(const char *path, const char *patient)
         keep_anew();
     }
     size_t count = gdt_day_find(day.file.at, day.file.used, day.index.numbers, day.index.count * NUMBERS, (const uint8_t *)patient,
-                                strlen(patient), found, MOST_SETS).count;
+                                strlen(patient), found, GDT_MOST_SETS).count;
     for (size_t i = 0; i < count; i++) {
         if (!is_right(found[i])) {
             dprintf(2, "day: set %zu of %s is not what %s says: call `day check` for it, then ask again\n", found[i], path,

@@ -31,8 +31,7 @@ struct gdt_received second_receive(struct gdt_receiver receiver, uint8_t *buffer
 #endif
 
 enum {
-    ROOM = 36000, /* the largest set has 35,058 bytes */
-    SET_LINES = 512,
+    ROOM = 36000, /* more than GDT_LARGEST_SET */
     SUM_AT = 20, /* the place of the sum's digits */
     SUM_DIGITS = 5,
     MOST_CONTENT = 60,
@@ -80,7 +79,7 @@ static void make_set(void)
 {
     size_t more = chance(60) ? roll(4) : roll(40), sum_at = SUM_AT;
     if (roll(300) == 0) {
-        more = SET_LINES - 5;
+        more = GDT_MOST_LINES - 5;
     }
     set_length = 0;
     put_line(set, &set_length, 8000, more == 0 ? "6300" : "6310", 4);

@@ -24,7 +24,7 @@
    label (in a sheet the line number, from 1) in two bytes, both little-endian, then the content. A list has no entry for 8100: gdt_write
    adds it as line 2. In a sheet the last entry for a line counts.
 
-   A day file is set after set with nothing between, at most 2,048 sets. Its index has four numbers a set, in file order: the set's offset in
+   A day file is set after set with nothing between, at most GDT_MOST_SETS. Its index has four numbers a set, in file order: the set's offset in
    the file, its length, the number of its type, and the place in the file of its 3000 content, the patient's number. It is kept beside
    the file by whoever calls. `numbers` says how many numbers a slice has, four for each entry; one to three numbers after the last four
    are no entry. A count, and the need of GDT_NO_ROOM, are entries, not numbers.
@@ -37,7 +37,14 @@
    the calls leave in it. A record may hold any numbers: nothing is assumed of it.
 
    A pointer must not be null, also if its length is 0. What is lent to be written overlaps nothing else that is lent.
-   No call keeps a pointer, allocates, or uses more than 8 KiB of stack.
+   No call keeps a pointer, allocates, or uses more than 8 KiB of stack. There is no other state than what is lent: calls may run in any
+   threads at once, each on buffers of its own.
+
+   Versions: docs/CHANGES.md says what each brought. Compile and link with the header and the archives of one version. While the major number
+   is 0, a new minor number may bring refusal numbers, calls and constants, and fields at the end of a record; and it may refuse what was
+   accepted before, if a new rule does. A new patch number moves no answer, no byte and no name. In every version `no` is 0 if and only if the
+   call was done: so take any other number for a refusal, also one that you do not know. A refusal number keeps its meaning, a constant its
+   name, a record the order of its fields, and a refused call leaves what was lent as it was.
 
    Two programs stand behind this header: the proved library, in five archives (`rt staticlib gdt`; `rt staticlib gdtwrite` for
    gdt_write; `rt staticlib gdtday` for the three day calls; `rt staticlib gdtcable` for the three calls of the cable;
@@ -48,6 +55,27 @@
 #include <stddef.h>
 #include <stdint.h>
 
+#ifdef __cplusplus
+extern "C" {
+#endif
+
+/* The version, as numbers for #if and as text. */
+#define GDT_VERSION_MAJOR 0
+#define GDT_VERSION_MINOR 2
+#define GDT_VERSION_PATCH 0
+#define GDT_VERSION "0.2.0"
+
+/* The limits, for the sizes of buffers. */
+enum {
+    GDT_MOST_LINES = 512,                  /* lines of a set, and entries of its index */
+    GDT_MOST_LINE = 999,                   /* bytes of a line, its 0Dh 0Ah included */
+    GDT_MOST_ENTRIES = GDT_MOST_LINES - 1, /* entries of a field list: 8100 has none */
+    GDT_MOST_SETS = 2048,                  /* sets of a day file */
+    GDT_LARGEST_SET = 35058,               /* bytes: no accepted set has more, whatever its lines */
+    GDT_BLOCK = 137                        /* bytes: the greatest length of a block of the cable */
+};
+
+/* The refusals, by their numbers. */
 enum {
     GDT_EMPTY = 1,           /* a set or list of no bytes; in a day file nothing after `old` */
     GDT_BAD_LENGTH = 2,      /* a line's length is not three digits, or under 010 */
@@ -55,8 +83,8 @@ enum {
     GDT_BAD_END = 4,         /* a line does not end in 0Dh 0Ah */
     GDT_BAD_LABEL = 5,       /* a label is not four digits */
     GDT_BAD_BYTE = 6,        /* a content byte is under 20h */
-    GDT_TOO_MANY_LINES = 7,  /* a 513th line, or a 512th entry of a list, starts; or recoding would add a 513th line (place: the set's
-                                length) */
+    GDT_TOO_MANY_LINES = 7,  /* line GDT_MOST_LINES + 1 of a set, or entry GDT_MOST_ENTRIES + 1 of a list, starts; or recoding would add
+                                such a line (place: the set's length) */
     GDT_NO_START = 8,        /* line 1 is not 8000 */
     GDT_UNKNOWN_SET = 9,     /* 8000 names none of 6300, 6301, 6302, 6310, 6311 */
     GDT_NO_SUM = 10,         /* line 2 is not 8100, or there is none (place: the set's length) */
@@ -73,15 +101,12 @@ enum {
     GDT_FIXED_LINE = 20,     /* lines 8000, 8100, 9206 and 9218 cannot be corrected, whatever they hold */
     GDT_BAD_LIST = 21,       /* an entry is cut, or its label is over 9999 */
     GDT_NO_ROOM = 22,        /* more room is needed; place: how many bytes, entries or found sets */
-    GDT_TOO_MANY_SETS = 23,  /* a 2,049th set of a day file (place: its offset in the file) */
+    GDT_TOO_MANY_SETS = 23,  /* set GDT_MOST_SETS + 1 of a day file (place: its offset in the file) */
     GDT_HIGH_BYTE = 24,      /* a content byte is over 7Fh, and the set has 9206 with content 1 (place: the first such byte; label 0) */
     GDT_BAD_BLOCK = 25,      /* received bytes have not the form of a block, or its count or its label is not in turn (place: 0) */
     GDT_BAD_CRC = 26,        /* the four hex digits of a block are not its CRC (place: 0) */
     GDT_NO_SUCH_CHARACTER = 27 /* a content byte has no character, or one that the wanted code page has not (place: the first such byte; label 0) */
 };
-
-/* The greatest length of a block. */
-enum { GDT_BLOCK = 137 };
 
 /* What judging a set answers: its length in bytes, its lines, and the number of its type, as 6310. */
 struct gdt_judged {
@@ -131,7 +156,7 @@ struct gdt_made gdt_correct(uint8_t *buffer, size_t room, size_t used, size_t li
    9206 is `1`, only that content changes, to `2` or `3`. In every other set each content byte becomes that of the same character in the wanted code page,
    and 9206 names it; a set without 9206, if 1252 is wanted, gains the line 9206 with content `3` as line 3, and 8100 counts it too.
    In this order: GDT_BAD_USE if `used` is over `room` (place: room); the set's own refusals; GDT_BAD_USE if another set follows (place: the
-   first one's length); GDT_TOO_MANY_LINES if a line would be added to 512 lines (place: the set's length); GDT_NO_SUCH_CHARACTER, if contents
+   first one's length); GDT_TOO_MANY_LINES if a line would be added to GDT_MOST_LINES (place: the set's length); GDT_NO_SUCH_CHARACTER, if contents
    are recoded, at the first byte that has no character, or one that the wanted code page has not; GDT_NO_ROOM if the new length is over `room` (place: that
    length). */
 struct gdt_made gdt_to_437(uint8_t *buffer, size_t room, size_t used);
@@ -145,15 +170,15 @@ struct gdt_viewed gdt_view(const uint8_t *set, size_t set_length, const uint8_t 
 size_t gdt_view_copy(const uint8_t *set, size_t set_length, const uint8_t *sheet, size_t sheet_length, size_t line, uint8_t *out, size_t room);
 
 /* Writes the index of a day file, an entry for each of its sets; a file of no bytes has none. Set by set, in file order: refused as that
-   set is, with the place in the file; then by GDT_TOO_MANY_SETS if it is the 2,049th, and sets after that one are not looked at. After
-   the last set GDT_NO_ROOM, with the sets as the need. Numbers after the last entry stay as they were. */
+   set is, with the place in the file; then by GDT_TOO_MANY_SETS if it is set GDT_MOST_SETS + 1, and sets after it are not looked at.
+   After the last set GDT_NO_ROOM, with the sets as the need. Numbers after the last entry stay as they were. */
 struct gdt_made gdt_day_build(const uint8_t *file, size_t file_length, size_t *index, size_t numbers);
 
 /* Adds the entry of the one set that stands in the file after its first `old` bytes to an index of `count` entries, and answers
    count + 1. If that was the index of the file's first `old` bytes, it is then the index of the whole file, just as gdt_day_build
    gives it; the first `count` entries are not looked at. In this order: GDT_BAD_USE if `old` is over the file's length (place: that
    length); the set's own refusals, placed in the file; GDT_BAD_USE if another set follows (place: the appended set's length);
-   GDT_TOO_MANY_SETS at `old` if `count` is 2,048 or more; GDT_NO_ROOM if there is no room for count + 1 entries (place: count + 1).
+   GDT_TOO_MANY_SETS at `old` if `count` is GDT_MOST_SETS or more; GDT_NO_ROOM if there is no room for count + 1 entries (place: count + 1).
    Only the four numbers of the new entry are written. */
 struct gdt_made gdt_day_append(const uint8_t *file, size_t file_length, size_t old, size_t *index, size_t numbers, size_t count);
 
@@ -227,7 +252,7 @@ struct gdt_received {
 /* The receiver: takes a block, all bytes up to and with its 0Dh, and puts the bytes of the set that it stands for into the buffer: 0Dh 0Ah
    for each 1Ch, and once more after the data of a B02. If the block is taken, the bytes after the used ones become zero; else no byte
    changes. In this order:
-   GDT_BAD_BLOCK for the form: 9 to 137 bytes, a digit, B00, B01 or B02, data bytes 1Ch or 20h to FFh (there may be none), four upper-case
+   GDT_BAD_BLOCK for the form: 9 to GDT_BLOCK bytes, a digit, B00, B01 or B02, data bytes 1Ch or 20h to FFh (there may be none), four upper-case
    hex digits, 0Dh. GDT_BAD_CRC. Count 0 with B00 starts a set at the front, whatever the record says; with another label it is
    GDT_BAD_BLOCK. If `started` is 0 there is neither a last count nor a next one. The last count again is acknowledged again, whatever its
    label and data. The next count (as at gdt_send) is taken: B01 and B02 in an open set, after the used bytes; B00 if none is open, at the
@@ -235,5 +260,9 @@ struct gdt_received {
    lead to; 2^64 - 1 if they are more).
    B00 is put at the front: take a whole set out of the buffer before the next block. What was received is not judged; gdt_judge does that. */
 struct gdt_received gdt_receive(struct gdt_receiver receiver, uint8_t *buffer, size_t room, const uint8_t *block, size_t block_length);
+
+#ifdef __cplusplus
+}
+#endif
 
 #endif

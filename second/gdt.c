@@ -12,22 +12,20 @@
 
 /* ---- Limits and records ---------------------------------------------------------------------------------------------------- */
 
+/* Beside those that gdt.h names: "A set has at most 512 lines", a list one entry fewer, a line 999 bytes, a day file "at most 2,048
+   sets". */
 enum {
-    SET_LINES = 512,              /* "A set has at most 512 lines" */
-    LIST_ENTRIES = SET_LINES - 1, /* 8100 has no entry */
-    LINE_BYTES = 999,             /* three digits */
-    LINE_LEAST = 10,              /* "lengths run 010 to 999" */
-    LINE_HEAD = 7,                /* length and label stand before the content */
-    LINE_FRAME = 9,               /* "Length = content + 9" */
-    LINE_END = 2,                 /* 0Dh 0Ah stand after the content */
-    SET_BYTES = 99999,            /* 8100 has five digits */
-    SUM_LINE = 14,                /* the length of line 2 */
-    SUM_DIGITS = 20,              /* the place of the digits of 8100: line 1 has 13 bytes */
+    LINE_LEAST = 10,   /* "lengths run 010 to 999" */
+    LINE_HEAD = 7,     /* length and label stand before the content */
+    LINE_FRAME = 9,    /* "Length = content + 9" */
+    LINE_END = 2,      /* 0Dh 0Ah stand after the content */
+    SET_BYTES = 99999, /* 8100 has five digits */
+    SUM_LINE = 14,     /* the length of line 2 */
+    SUM_DIGITS = 20,   /* the place of the digits of 8100: line 1 has 13 bytes */
     SUM_WIDTH = 5,
-    THIRD_LINE = 27,              /* the place of line 3: lines 1 and 2 have 13 and 14 bytes */
-    ENTRY_HEAD = 4,               /* content length and label of a list entry */
-    ENTRY_BYTES = ENTRY_HEAD + 65535,
-    DAY_SETS = 2048               /* "at most 2,048 sets" in a day file */
+    THIRD_LINE = 27,   /* the place of line 3: lines 1 and 2 have 13 and 14 bytes */
+    ENTRY_HEAD = 4,    /* content length and label of a list entry */
+    ENTRY_BYTES = ENTRY_HEAD + 65535
 };
 
 /* An entry of a day file's index: "for each set its offset, length, type and place of the 3000 content". Four numbers (E1i). */
@@ -40,14 +38,14 @@ struct line {
     uint16_t label, length, header, row;
 };
 
-_Static_assert((uint64_t)SET_LINES * LINE_BYTES <= 0xFFFFFFFFu, "a place in a set fits");
-_Static_assert((uint64_t)SET_LINES * ENTRY_BYTES <= 0xFFFFFFFFu, "a place in a list fits");
-_Static_assert(SET_LINES * sizeof(struct line) <= 6144, "the stack stays within its 8 KiB");
+_Static_assert((uint64_t)GDT_MOST_LINES * GDT_MOST_LINE <= 0xFFFFFFFFu, "a place in a set fits");
+_Static_assert((uint64_t)GDT_MOST_LINES * ENTRY_BYTES <= 0xFFFFFFFFu, "a place in a list fits");
+_Static_assert(GDT_MOST_LINES * sizeof(struct line) <= 6144, "the stack stays within its 8 KiB");
 
 /* The lines of a set or the entries of a list, and the bytes they stand in. `head` bytes stand before each content. `seven_bits` is
    1 if one of them is "9206 with content 1", else 0. */
 struct lines {
-    struct line of[SET_LINES];
+    struct line of[GDT_MOST_LINES];
     const uint8_t *bytes;
     size_t head, count, length;
     unsigned type;
@@ -454,7 +452,7 @@ static struct refusal split_set(struct lines *set, const uint8_t *bytes, size_t 
     }
     while (at < length && (at == 0 || !starts_set(bytes + at, length - at))) {
         struct refusal refusal;
-        if (count == SET_LINES) {
+        if (count == GDT_MOST_LINES) {
             return refuse(GDT_TOO_MANY_LINES, at, 0);
         }
         refusal = split_line(&set->of[count], bytes, length, at);
@@ -492,7 +490,7 @@ static struct refusal split_list(struct lines *list, const uint8_t *bytes, size_
     while (at < length) {
         const uint8_t *p = bytes + at;
         size_t size, low;
-        if (count == LIST_ENTRIES) {
+        if (count == GDT_MOST_ENTRIES) {
             return refuse(GDT_TOO_MANY_LINES, at, 0);
         }
         if (cut_entry(p, length - at) || little_endian(p + 2) > 9999) {
@@ -1060,7 +1058,7 @@ struct gdt_made gdt_day_build(const uint8_t *file, size_t file_length, size_t *i
     size_t at = 0, count = 0;
     while (at < file_length) {
         struct refusal refusal = in_file(read_set(&set, file + at, file_length - at), at);
-        if (refusal.no == 0 && count == DAY_SETS) {
+        if (refusal.no == 0 && count == GDT_MOST_SETS) {
             refusal = refuse(GDT_TOO_MANY_SETS, at, 0);
         }
         if (refusal.no != 0) {
@@ -1092,7 +1090,7 @@ struct gdt_made gdt_day_append(const uint8_t *file, size_t file_length, size_t o
     if (refusal.no != 0) {
         return refused(refusal);
     }
-    if (count >= DAY_SETS) {
+    if (count >= GDT_MOST_SETS) {
         return refused(refuse(GDT_TOO_MANY_SETS, old, 0));
     }
     if (count >= entries_of(numbers)) {
@@ -1556,7 +1554,7 @@ static size_t first_unknown(const uint8_t *p, size_t n, const uint8_t *table)
 static struct refusal judge_recoding(const struct lines *set, const uint8_t *table, size_t more, size_t room)
 {
     size_t need = set->length + more;
-    if (more > 0 && set->count == SET_LINES) {
+    if (more > 0 && set->count == GDT_MOST_LINES) {
         return refuse(GDT_TOO_MANY_LINES, set->length, 0);
     }
     for (size_t i = 0; i < set->count; i++) {

@@ -36,7 +36,7 @@
 enum { GUARD = 64, CAP = 120000 };
 
 /* The most sets of a day file, and the most numbers that a test lends: an entry more, and a rest of three. */
-enum { SETS = 2048, NUMBERS = 4 * (SETS + 1) + 3 };
+enum { SETS = GDT_MOST_SETS, NUMBERS = 4 * (SETS + 1) + 3 };
 
 static int failures;
 
@@ -1608,7 +1608,7 @@ static void test_blocks(void)
         add_line(&set, "6220123456789012345678901234567890123456789012345678901234567890", 64);
     }
     add_sum(&set);
-    report("E3b the largest set has 270 blocks", (set.n == 35058) & cut_into(&set, 270));
+    report("E3b the largest set has 270 blocks", (set.n == GDT_LARGEST_SET) & cut_into(&set, 270));
 }
 
 static const char ack_1[] = "\x06" "1", ack_0[] = "\x06" "0";

@@ -10,7 +10,6 @@ struct gdt_made second_index(const uint8_t *set, size_t set_length, struct gdt_e
 
 enum {
     BYTES = 40000,
-    LINES = 512,
     GUARDS = 4,       /* entries before and after those that are lent */
     SUM_AT = 20,      /* the place of the sum's digits */
     SUM_DIGITS = 5,
@@ -167,14 +166,14 @@ static void make_longest(void)
     line(9218, "02.10");
     line(3000, "7");
     line(8402, "EKG01");
-    while (lines + 9 <= LINES) test_part();
-    while (lines < LINES) words(6220, 40);
+    while (lines + 9 <= GDT_MOST_LINES) test_part();
+    while (lines < GDT_MOST_LINES) words(6220, 40);
     finish();
 }
 
 /* ---- calls ------------------------------------------------------------------------------------------------------------------ */
 
-static struct gdt_entry proved_out[GUARDS + LINES + 2 + GUARDS], second_out[GUARDS + LINES + 2 + GUARDS];
+static struct gdt_entry proved_out[GUARDS + GDT_MOST_LINES + 2 + GUARDS], second_out[GUARDS + GDT_MOST_LINES + 2 + GUARDS];
 static size_t calls, headed;
 
 /* Calls both with this room: the same answer, the same entries, and nothing else written. */
@@ -265,10 +264,10 @@ int main(void)
     report("sets with a changed byte", calls, "calls", passed);
     make_longest();
     calls = 0;
-    passed = same_rooms(LINES - 2);
+    passed = same_rooms(GDT_MOST_LINES - 2);
     report("512 lines", calls, "calls", passed);
 
-    size_t most = stack_of(LINES);
+    size_t most = stack_of(GDT_MOST_LINES);
     make(3);
     for (size_t room = 0; room <= lines; room++) {
         size_t stack = stack_of(room);
