@@ -1,5 +1,5 @@
 """programs.py: an example built over the proved library and over the second program, each run in a folder of its own, and the lines of what is tried.
-Shared by tests/day and tests/cable. Assumes the Rattle kit and gcc, and that the working folder is the project's."""
+Shared by tests/day, tests/cable and tests/header. Assumes the Rattle kit and gcc, and that the working folder is the project's."""
 import contextlib
 import os
 import resource
@@ -71,12 +71,17 @@ def answer(process, given=b""):
     return process.returncode, (out or b"").decode("latin-1"), told.decode("latin-1")
 
 
-def built(room, example):
-    """The example over the proved library, with the kit's compiler, and over the second program, with gcc, its headers and its sanitizers."""
+def put_stand_ins(room):
+    """Stand-ins in this folder for the headers of C that the kit's compiler has not."""
     os.mkdir(os.path.join(room, "sys"))
     for header in HEADERS:
         with open(os.path.join(room, header), "w") as stand_in:
             stand_in.write('#include "x86.h"\n')
+
+
+def built(room, example):
+    """The example over the proved library, with the kit's compiler, and over the second program, with gcc, its headers and its sanitizers."""
+    put_stand_ins(room)
     archives = subprocess.run(["sh", "tools/library"], check=True, stdout=subprocess.PIPE, text=True).stdout.split()
     own = ["-DX86_OWN_NAMES", "-I", room, *STRICT, "-o", os.path.join(room, "proved"), example]
     subprocess.run(["sh", "tools/x86cc", *own, *archives], check=True)
