@@ -36,7 +36,7 @@
 enum { DONE = 0, REFUSED = 1, WRONG_USAGE = 2 };
 
 enum {
-    ROOM = 65536,          /* bytes for a set; an accepted one has at most 35,328 */
+    ROOM = 65536,          /* bytes for a set; an accepted one has at most GDT_LARGEST_SET */
     RUN = GDT_BLOCK + 1,   /* bytes that are kept of what comes up to a 0Dh: one more than a block has at most */
     REPLY = 2,             /* bytes of a reply */
     BLOCK_END = 0x0D,
