@@ -30,6 +30,7 @@
 #include <termios.h>
 #include <time.h>
 #include <unistd.h>
+#include "files.h"
 #include "gdt.h"
 #include "reasons.h"
 
@@ -114,19 +115,6 @@ static size_t read_some(int in, uint8_t *out, size_t room)
         got = read(in, out, room);
     } while (got < 0 && errno == EINTR);
     return got > 0 ? (size_t)got : 0;
-}
-
-static bool write_all(int to, const uint8_t *bytes, size_t length)
-{
-    while (length > 0) {
-        long put = write(to, bytes, length);
-        if (put < 0 && errno != EINTR) {
-            return false;
-        }
-        bytes += put > 0 ? put : 0;
-        length -= put > 0 ? (size_t)put : 0;
-    }
-    return true;
 }
 
 /* Reads the file of a set, and answers its length; 0 if it cannot be read, is empty, or is longer than any set. */

@@ -27,6 +27,7 @@
 #include <stdlib.h>
 #include <string.h>
 #include <unistd.h>
+#include "files.h"
 #include "gdt.h"
 #include "reasons.h"
 
@@ -136,19 +137,6 @@ static bool read_file(const char *path, struct bytes *bytes)
     bool done = read_all(from, bytes);
     close(from);
     return done;
-}
-
-static bool write_all(int to, const uint8_t *bytes, size_t length)
-{
-    while (length > 0) {
-        long put = write(to, bytes, length);
-        if (put <= 0) {
-            return false;
-        }
-        bytes += put;
-        length -= (size_t)put;
-    }
-    return true;
 }
 
 /* The path with an end joined to it. */

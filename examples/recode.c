@@ -12,6 +12,7 @@
 #include <stdlib.h>
 #include <string.h>
 #include <unistd.h>
+#include "files.h"
 #include "gdt.h"
 #include "reasons.h"
 
@@ -170,17 +171,9 @@ static bool read_all(struct bytes *in)
     }
 }
 
-static bool write_all(const struct bytes *out)
+static bool write_sets(const struct bytes *out)
 {
-    size_t put = 0;
-    while (put < out->used) {
-        long more = write(1, out->at + put, out->used - put);
-        if (more < 0 && errno != EINTR) {
-            return tell_failure("standard output cannot be written");
-        }
-        put += more > 0 ? (size_t)more : 0;
-    }
-    return true;
+    return write_all(1, out->at, out->used) || tell_failure("standard output cannot be written");
 }
 
 /* ---- The command ------------------------------------------------------------------------------------------------------------- */
@@ -192,7 +185,7 @@ static int run(const struct page *page)
     int status = TROUBLE;
     if (read_all(&in) && grow(&out, 2 * in.used + ADDED)) {
         bool recoded = recode_all(page, &in, &out);
-        status = !recoded ? REFUSED : write_all(&out) ? DONE : TROUBLE;
+        status = !recoded ? REFUSED : write_sets(&out) ? DONE : TROUBLE;
     }
     free(in.at);
     free(out.at);
