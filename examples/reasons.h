@@ -1,5 +1,5 @@
-/* reasons.h: why a call refused, in words, by the number: those that the calls of examples/day.c, examples/cable.c and
-   examples/recode.c can give. */
+/* reasons.h: why a call refused, in words, by the number: those that the calls of examples/day.c, examples/cable.c,
+   examples/recode.c and examples/pipeline.c can give. */
 #ifndef REASONS_H
 #define REASONS_H
 #include "gdt.h"
@@ -23,6 +23,8 @@ static const char *const reasons[GDT_NO_SUCH_CHARACTER + 1] = {
     [GDT_MISSING] = "the label is required and missing",
     [GDT_BAD_SUM] = "8100 is not the length of the set",
     [GDT_BAD_USE] = "another set follows",
+    [GDT_NO_SUCH_LINE] = "the set has no line of this number",
+    [GDT_FIXED_LINE] = "lines 8000, 8100, 9206 and 9218 cannot be corrected",
     [GDT_NO_ROOM] = "the set is too long for the buffer",
     [GDT_TOO_MANY_SETS] = "a day file has at most 2,048 sets",
     [GDT_HIGH_BYTE] = "a content byte is over 7Fh, and 9206 says that the set is in the 7-bit code",
