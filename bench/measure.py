@@ -18,6 +18,7 @@ EACH = "judge"  # it stands among the calls on a day file: each of its sets is j
 BOTH = "judge_both"  # it stands beside recoding: the set of each of the two calls is judged by itself, in their order
 INTO = "to_437", "to_1252"  # the calls of recoding
 JUDGED = "77x6", "512x40"  # the loads on which recoding is held to what judging takes
+UMLAUTS = "77x6-umlauts", "512x40-umlauts"  # those with bytes over 7Fh in one line of four: this is shown beside it
 STACK, JUDGING, LINEAR, MOVING, GROWTH, ENTRY = NO_LOADS = "stack", "judging", "linear", "moving", "growth", "entry"  # they stand among the loads of the bounds
 REFUSED = "refused"  # the load of each program that has each refusal number once
 LONGER, SHORTER = WAYS = "longer", "shorter"  # a correction makes a line so: the name of its load ends with it, after that of its set
@@ -117,10 +118,10 @@ def judging(days):
     return proved(days["day64"]["day_build"]) / proved(days["day64"][EACH])
 
 
-def recoding(recodes, call):
-    """For each of the loads JUDGED what recoding takes over judging the same set."""
+def recoding(recodes, call, loads):
+    """For each of the loads what recoding takes over judging the same set."""
     at = INTO.index(call)
-    return {load: proved(recodes[load][call]) / recodes[load][BOTH][at].proved for load in JUDGED}
+    return {load: proved(recodes[load][call]) / recodes[load][BOTH][at].proved for load in loads}
 
 
 def linear(days):

@@ -120,8 +120,8 @@ def recode_lines(recodes, bounds):
     """What recoding is held to beside the second program's instructions."""
     out = []
     for call in measure.INTO:
-        each = " and ".join("%.2f on %s" % (ratio, load) for load, ratio in measure.recoding(recodes, call).items())
-        out.append("`gdt_%s` takes %s times the instructions of judging the same set (at most %.2f)." % (call, each, bounds[call][measure.JUDGING]))
+        held, shown = [" and ".join("%.2f on %s" % (ratio, load) for load, ratio in measure.recoding(recodes, call, loads).items()) for loads in (measure.JUDGED, measure.UMLAUTS)]
+        out.append("`gdt_%s` takes %s times the instructions of judging the same set (at most %.2f), %s." % (call, held, bounds[call][measure.JUDGING], shown))
     return [*out, ""]
 
 
