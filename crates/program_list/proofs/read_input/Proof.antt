@@ -3,14 +3,14 @@ use mathlib.Core.Path.{_≡_}
 use Prim.Native.Nat.{_-_}
 use borrow.Author.Needs.{needs}
 use lib.ListN.{length}
-use Rattle.gdtlist.proofs.read_input.Statement.{statement}
-use Rattle.gdtlist.proofs.read_input.Tie as tie
+use Rattle.program_list.proofs.read_input.Statement.{statement}
+use Rattle.program_list.proofs.read_input.Tie as tie
 
 abbrev Inv-loop : tie.InvT-loop
-Inv-loop room₀ at₀ room at = length room ≡ length room₀
+Inv-loop fd room₀ at₀ room at = length room ≡ length room₀
 
 abbrev μ-loop : tie.MeasureT-loop
-μ-loop room₀ at₀ room at = length room₀ - at
+μ-loop fd room₀ at₀ room at = length room₀ - at
 
 loop-holds : tie.Need-loop-holds Inv-loop μ-loop
 loop-holds c = search needs

@@ -1,14 +1,15 @@
--- `print_entries` ends: the measure is the number of lines that are left. Nothing has to hold from turn to turn.
+-- `put_entries` ends: the measure is the number of lines that are left. The block stays whole from turn to turn.
 use Prim.Native.Nat.{_-_}
 use borrow.Author.Needs.{needs}
-use Rattle.gdtlist.proofs.print_entries.Statement.{statement}
-use Rattle.gdtlist.proofs.print_entries.Tie as tie
+use Rattle.program_list.specs.OutBlock.{Holds}
+use Rattle.program_list.proofs.sets.put_entries.Statement.{statement}
+use Rattle.program_list.proofs.sets.put_entries.Tie as tie
 
 abbrev Inv-loop : tie.InvT-loop
-Inv-loop s n walk₀ k₀ walk k = Unit {0}
+Inv-loop block₀ s n held₀ walk₀ k₀ block held walk k = Holds block held
 
 abbrev μ-loop : tie.MeasureT-loop
-μ-loop s n walk₀ k₀ walk k = n - k
+μ-loop block₀ s n held₀ walk₀ k₀ block held walk k = n - k
 
 start-requires : tie.Need-start-requires Inv-loop μ-loop
 start-requires c κs = search needs
@@ -22,8 +23,8 @@ next-entry-requires c κs = search needs
 add-k : tie.Need-add-k Inv-loop μ-loop
 add-k c = search needs
 
-print-entry-requires : tie.Need-print-entry-requires Inv-loop μ-loop
-print-entry-requires c κs = search needs
+put-entry-requires : tie.Need-put-entry-requires Inv-loop μ-loop
+put-entry-requires c κs = search needs
 
 loop-less : tie.Need-loop-less Inv-loop μ-loop
 loop-less c = search needs
@@ -31,11 +32,14 @@ loop-less c = search needs
 loop-again : tie.Need-loop-again Inv-loop μ-loop
 loop-again c = search needs
 
+same-length : tie.Need-same-length Inv-loop μ-loop
+same-length c = search needs
+
 returns : tie.Need-returns Inv-loop μ-loop
 returns c = search needs
 
-pub print-entries-spec : {M : Type 1} → statement M
-print-entries-spec =
+pub put-entries-spec : {M : Type 1} → statement M
+put-entries-spec =
     tie.close
     (tie.spec
     Inv-loop
@@ -44,7 +48,8 @@ print-entries-spec =
     loop-holds
     next-entry-requires
     add-k
-    print-entry-requires
+    put-entry-requires
     loop-less
     loop-again
+    same-length
     returns)
