@@ -25,7 +25,7 @@ use Rattle.meaning.proofs.Bools.{none-of-length}
 use Rattle.meaning.proofs.LineLaws.{length-render}
 use Rattle.meaning.proofs.RuleLaws.{ruled}
 use Rattle.meaning.proofs.SetLaws.{Standing, accepted}
-use Rattle.meaning.proofs.SizeLaws.{ruled-size}
+use Rattle.meaning.proofs.SizeLaws.{mostBytes, ruled-size}
 use Rattle.meaning.proofs.SevenLaws.{seven-none, seven-digit}
 use Rattle.meaning.proofs.Demands.{judge-read}
 use Rattle.meaning_recode.specs.declared.Code.{Code}
@@ -57,7 +57,7 @@ module _ (fs : List Field) (st : Standing fs) (room : ℕ) (w : Code) (fit : siz
   abbrev outcome : Plan
   outcome = unless (thenTo (verdict (inSet fs) (recodeFaults w fs) (recodeLines w fs)) (λ gs. setWithRoom gs room)) (doing w fs)
 
-  few-bytes : size fs ≤ 35328
+  few-bytes : size fs ≤ mostBytes
   few-bytes = ruled-size fs (ruled fs (st .right) .0) (st .few)
 
   stays : inCode w fs ≡ true → outcome ≡ Stays
