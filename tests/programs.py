@@ -1,5 +1,5 @@
 """programs.py: an example built over the proved library and over the second program, each run in a folder of its own, and the lines of what is tried.
-Shared by tests/day, tests/cable, tests/header and tests/pipeline. Assumes the Rattle kit and gcc, and that the working folder is the project's."""
+Shared by tests/day, tests/cable, tests/header, tests/pipeline and tests/release. Assumes the Rattle kit and gcc, and that the working folder is the project's."""
 import contextlib
 import os
 import resource
