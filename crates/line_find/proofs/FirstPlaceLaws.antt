@@ -3,7 +3,7 @@ use mathlib.Core.Path.{_≡_, refl, sym, ap, _∙_}
 use mathlib.Core.Bool.{Bool, true, false, _&&_}
 use mathlib.Core.List.{List, [], _∷_, _++_}
 use mathlib.Core.Logic.{_⊎_, inl, inr, _≢_}
-use Prim.Native.Nat.{ℕ, zero, suc, _+_, _-_, _/_, _%_, _≤_, _<_}
+use Prim.Native.Nat.{ℕ, zero, suc, _+_, _-_, _/_, _%_, _^_, _≤_, _<_}
 use native.Mathlib.Omega.{arith}
 use native.Mathlib.Nat.{add-zero, zero-add}
 use lib.Dec.{eqb}
@@ -125,7 +125,7 @@ first-or-none l (f ∷ fs) = go (eqb (f .label) l) refl (first-or-none l fs)
         none (suc j) h = x j (omega arith)
 
 -- digits are the same if their numbers are
-same-digits : (a l : ℕ) → a < 10000 → l < 10000 → sameBytes (digits labelDigits a) (digits labelDigits l) ≡ eqb a l
+same-digits : (a l : ℕ) → a < 10 ^ labelDigits → l < 10 ^ labelDigits → sameBytes (digits labelDigits a) (digits labelDigits l) ≡ eqb a l
 same-digits a l h g = go (eqb a l) refl (sameBytes (digits labelDigits a) (digits labelDigits l)) refl
   where
     go : (b : Bool) → eqb a l ≡ b → (c : Bool) → sameBytes (digits labelDigits a) (digits labelDigits l) ≡ c → c ≡ b
@@ -135,7 +135,7 @@ same-digits a l h g = go (eqb a l) refl (sameBytes (digits labelDigits a) (digit
         absurd (eqb-false a l e (sym (number-digits labelDigits a h) ∙ (ap number (same-bytes _ _ q) ∙ number-digits labelDigits l g)))
 
 -- the lines fs are written from offset `at` on
-module _ (l : ℕ) (small : l < 10000) (s : List ℕ) where
+module _ (l : ℕ) (small : l < 10 ^ labelDigits) (s : List ℕ) where
   -- a line says its label
   stands-is : (f : Field) (u : List ℕ) (at : ℕ) → Sound f → drop at s ≡ render (f ∷ []) u → labelStands l s at ≡ eqb (f .label) l
   unfolding labelStands
@@ -184,11 +184,11 @@ module _ (l : ℕ) (small : l < 10000) (s : List ℕ) where
       ∙ none-from fs (at + lineSize f) n (h .1) (reads-on s at f (render fs []) (h .0) w) (read-back s at (read-line s at f (render fs []) w (h .0)) .within) (λ k q. x (suc k) (omega arith))
 
 -- the walk over a set: where the content of the first line with the label stands
-pub place-is : (l : ℕ) → l < 10000 → (fs : List Field) (t : List ℕ) (k : ℕ) → Every Sound fs → length fs ≤ maxLines → FirstLine l fs k → firstPlace (render fs t) l ≡ offset fs k + lineLead
+pub place-is : (l : ℕ) → l < 10 ^ labelDigits → (fs : List Field) (t : List ℕ) (k : ℕ) → Every Sound fs → length fs ≤ maxLines → FirstLine l fs k → firstPlace (render fs t) l ≡ offset fs k + lineLead
 place-is l small fs t k h c x = place-from l small (render fs t) fs t 0 maxLines k h refl c x ∙ zero-add (offset fs k + lineLead)
 
 -- and 0 if no line has it, and the set stands alone
-pub place-absent : (l : ℕ) → l < 10000 → (fs : List Field) → Every Sound fs → NoLine l fs → firstPlace (render fs []) l ≡ 0
+pub place-absent : (l : ℕ) → l < 10 ^ labelDigits → (fs : List Field) → Every Sound fs → NoLine l fs → firstPlace (render fs []) l ≡ 0
 place-absent l small fs h x = none-from l small (render fs []) fs 0 maxLines h refl (omega arith) x
 
 -- the first byte of a line's content stands after its lead

@@ -10,7 +10,7 @@ use Rattle.meaning.specs.Kinds.{sameBytes}
 use Rattle.meaning.specs.Lines.{lengthDigits, labelDigits, lineLead, lineEnd}
 use Rattle.line_read.specs.Told.{toldLength}
 
--- the digits of label l stand in the line at an offset
+-- the last four digits of number l stand as the label of the line at an offset
 unfoldable pub labelStands : ℕ → List ℕ → ℕ → Bool
 labelStands l s at = sameBytes (take labelDigits (drop (at + lengthDigits) s)) (digits labelDigits l)
 

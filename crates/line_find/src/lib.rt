@@ -16,7 +16,7 @@ fn last_digit(n: usize) -> u8
     (n % 10) as u8 + meaning::DIGIT_ZERO
 }
 
-// The line at an offset says this label: its four digits, of which most often the first one differs.
+// The line at an offset says this label: the last four digits of the number, of which most often the first one differs.
 fn label_stands(set: &[u8], at: usize, label: usize) -> bool
     requires { ⌜ at + lineLead ≤ length (now set) ⌝ }
     ensures { λ r. ⌜ r ≡ labelStands label (now (set .entry)) at ⌝ }
@@ -36,7 +36,7 @@ fn label_stands(set: &[u8], at: usize, label: usize) -> bool
     set[i + 3] == last_digit(label)
 }
 
-// The place of the content of the first line with this label; 0 if no line has it.
+// The place of the content of the first line with this label, a number of at most four digits (of a larger one the last four count); 0 if no line has it.
 pub fn first_place(set: &[u8], label: usize) -> usize
     ensures { λ r. ⌜ (r ≡ firstPlace (now (set .entry)) label) × (r ≤ length (now (set .entry))) ⌝ }
 {

@@ -75,7 +75,8 @@ fn tell_refused(no: usize, at: usize) {
 
 // ---- what goes to standard output
 
-// What is left is written, and standard output closed, since some systems tell only then that a write failed. Answers whether all went well.
+// What is left is written, and standard output closed, since some systems tell only then that a write failed. Answers whether all went well; the contract says it of what was
+// written before.
 fn finish(block: &[u8], out: Out) -> bool
     requires { ⌜ Holds (now block) out ⌝ }
     ensures { λ r. ⌜ (r ≡ true → out .failed ≡ false) ⌝ }

@@ -9,7 +9,7 @@ ghost use Rattle.byte_high.specs.High.{plainFront};
 ghost use Rattle.recode_bytes.specs.Mapped.{CodeTable, firstWithout, mapped, mappedAt};
 use recode_table::NO_BYTE;
 
-// Where bytes over 7Fh begin, this many bytes are taken one by one; and more where such bytes follow upon each other.
+// After blocks that were passed over this many bytes are taken one by one; else, and so at the first byte over 7Fh, more: others may follow.
 const PART: usize = 8;
 
 const LONG_PART: usize = 8 * PART;
