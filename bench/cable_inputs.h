@@ -10,7 +10,6 @@ enum {
     SHORT_LINE = 20, /* a 1Ch stands after this many bytes */
     OPEN_BYTES = 1150, /* of a set, that the buffer has before a block is received */
     SPARE_BYTES = 2 * MOST_DATA, /* that it has after them: all data may be 1Ch */
-    GREATEST_SET = 35328,
     CABLE_TURNS = 24 /* inputs of a load for a call */
 };
 

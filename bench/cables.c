@@ -5,7 +5,7 @@
 #include "gdt.h"
 #include "cable_inputs.h"
 
-enum { OUT = GREATEST_SET };
+enum { OUT = GDT_LARGEST_SET };
 #include "tasks.h"
 
 /* ---- The calls --------------------------------------------------------------------------------------------------------------- */
@@ -79,7 +79,7 @@ static void of_lines(int call)
 
 static void of_great(int call)
 {
-    receive_load(call, SHORT_LINE, GREATEST_SET);
+    receive_load(call, SHORT_LINE, GDT_LARGEST_SET);
 }
 
 /* The block that was taken last, again. */

@@ -128,7 +128,7 @@ pub fn pass_plain(s: &[u8], at: usize) -> usize
     pass_blocks(s, i)
 }
 
-// How many bytes are in front of the first one over 7Fh, among all of these: exactly, where `pass_plain` may stop before it.
+// How many bytes are in front of the first one over 7Fh, among all of these; `pass_plain` may stop before it.
 pub fn plain_front(s: &[u8]) -> usize
     ensures { λ r. ⌜ r ≡ plainFront (now (s .entry)) ⌝ }
 {

@@ -10,7 +10,7 @@ use Rattle.meaning.specs.Answers.{judgedShape, judgedRefusal}
 use Rattle.byte_put.proofs.LendLaws.{mid-tail}
 use Rattle.program_list.specs.Stops.{Stop, lengthAt, noAt, stopFrom, stop}
 
--- So many sets may still come, and the list stops where it stops from `at` on.
+-- This many sets may still come, and the list stops where it stops from `at` on.
 pub record Ahead (s : List ℕ) (at : ℕ) : Type 0 where
   pub most : ℕ
   pub enough : length s - at ≤ most

@@ -27,9 +27,9 @@ pub enum Plan {
     Stays,
     // "Sets with 9206 = 1 only change that content": it stands at this place.
     Marks { place: usize },
-    // Every content is recoded, and 9206, whose content stands at this place, names the wanted code page. So many bytes of the set are in front of its first one over 7Fh.
+    // Every content is recoded, and 9206, whose content stands at this place, names the wanted code page. `plain` bytes of the set are in front of its first one over 7Fh.
     Recodes { plain: usize, place: usize },
-    // Every content is recoded, and the set gains 9206 as line 3.
+    // Every content is recoded, and the set gains 9206 as line 3. `plain` is as above.
     Gains { plain: usize },
 }
 

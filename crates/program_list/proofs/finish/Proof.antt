@@ -1,4 +1,4 @@
--- `finish` answers true only if no write failed: `flush` keeps in mind what failed before it.
+-- `finish` answers true only if no write had failed before it: `flush` keeps that in mind.
 use mathlib.Core.Path.{sym}
 use mathlib.Core.Bool.{true≢false}
 use borrow.Author.Needs.{needs}
