@@ -1,10 +1,12 @@
-"""programs.py: an example built over the proved library and over the second program, each run in a folder of its own, and the lines of what is tried.
-Shared by tests/day, tests/cable, tests/header, tests/pipeline and tests/release. Assumes the Rattle kit and gcc, and that the working folder is the project's."""
+"""programs.py: an example built over the proved library and over the second program, each run in a folder of its own, the second program as a library, and the lines of what is tried.
+Shared by tests/day, tests/cable, tests/gdtlist, tests/header, tests/pipeline, tests/release and tests/sets. Assumes gcc, for the proved library the Rattle kit, and that the working folder is the project's."""
 import contextlib
+import ctypes
 import os
 import resource
 import signal
 import subprocess
+import tempfile
 
 HEADERS = "errno.h fcntl.h poll.h signal.h stdbool.h stddef.h stdint.h stdio.h stdlib.h string.h sys/wait.h termios.h time.h unistd.h".split()
 STRICT = ["-Wall", "-Wextra", "-Werror", "-I", "include"]
@@ -87,6 +89,29 @@ def built(room, example):
     subprocess.run(["sh", "tools/x86cc", *own, *archives], check=True)
     subprocess.run(["gcc", *SANITIZED, *STRICT, example, "second/gdt.c", "-o", os.path.join(room, "second")], check=True)
     return Program(room, "proved", ["sh", os.path.abspath("tools/x86run")]), Program(room, "second", [])
+
+
+class Judged(ctypes.Structure):
+    _fields_ = [(name, ctypes.c_size_t) for name in ("no", "place", "label", "length", "lines", "type")]
+
+
+class Made(ctypes.Structure):
+    _fields_ = [(name, ctypes.c_size_t) for name in ("no", "place", "label", "count")]
+
+
+class Entry(ctypes.Structure):
+    _fields_ = [(name, ctypes.c_size_t) for name in ("label", "place", "length", "header")]
+
+
+def second_program(*more):
+    """The second program as a library of this process, with more files of C."""
+    with tempfile.TemporaryDirectory() as folder:
+        path = os.path.join(folder, "second.so")
+        subprocess.run(["gcc", "-std=c11", "-O2", "-shared", "-fPIC", "-I", "include", "second/gdt.c", *more, "-o", path], check=True)
+        library = ctypes.CDLL(path)
+    library.gdt_judge.restype = Judged
+    library.gdt_index.restype = Made
+    return library
 
 
 class Trial:
