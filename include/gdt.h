@@ -12,6 +12,14 @@
    offset in the file to the place of what they find wrong in a set (GDT_EMPTY to GDT_BAD_SUM, and GDT_HIGH_BYTE); so GDT_MISSING at set level
    is at the set's offset.
 
+   A set starts at the first byte given. It ends before the first later line start at which seven or more bytes remain and the fourth to the
+   seventh are `8000`; if there is none, with the last byte given. Whatever else follows is read as its next line, and refused if it is none:
+   a NUL, 1Ah, an empty line, a part of a line. gdt_judge, gdt_index and gdt_list take the set at the front of the bytes, and gdt_day_build
+   set after set; all other calls that are given a set take one that must be alone: GDT_BAD_USE if another follows.
+   The first fault of a set in this order is the answer: GDT_EMPTY; all lines, one after the other, each by GDT_TOO_MANY_LINES and
+   GDT_BAD_LENGTH to GDT_BAD_BYTE; GDT_NO_START, GDT_UNKNOWN_SET, GDT_NO_SUM; all lines again, each by GDT_NOT_IN_SET to GDT_OTHER_VERSION;
+   GDT_MISSING; GDT_HIGH_BYTE; GDT_BAD_SUM.
+
    A content byte is 20h to FFh. A set that has 9206 with content `1` is in the 7-bit code: there no content byte is over 7Fh, else it is
    refused by GDT_HIGH_BYTE. Of a set this is asked after GDT_MISSING and before GDT_BAD_SUM; of a list after GDT_MISSING and before
    GDT_NO_ROOM; of the new content of a correction after GDT_BAD_CONTENT and before GDT_NO_ROOM; of an entry of a sheet after
@@ -29,16 +37,16 @@
    the file by whoever calls. `numbers` says how many numbers a slice has, four for each entry; one to three numbers after the last four
    are no entry. A count, and the need of GDT_NO_ROOM, are entries, not numbers.
 
-   The serial cable (appendix A of the description; docs/CABLE.md has what it leaves open). The data of a set are its lines joined by one
-   1Ch in the place of their 0Dh 0Ah, none after the last; the three digits of a line still count both. They are cut every 128 bytes; data
-   of at most 128 bytes are cut once, after their first 1Ch: so a set has two blocks or more. A block is the sequence count, a digit; the
-   label, B00 for the first block, B02 for the last, B01 between; the data; four upper-case hex digits, the CRC-16 of all before them, by
-   the program of appendix C; and 0Dh. ACK 1 is 06h 31h, ACK 0 is 06h 30h. Each end keeps a record of its own: zeros at the start, then what
-   the calls leave in it. A record may hold any numbers: nothing is assumed of it.
+   The serial cable (appendix A of the QMS description of GDT, version 2.1; docs/CABLE.md has what it leaves open). The data of a set are its
+   lines joined by one 1Ch in the place of their 0Dh 0Ah, none after the last; the three digits of a line still count both. They are cut every
+   128 bytes; data of at most 128 bytes are cut once, after their first 1Ch: so a set has two blocks or more. A block is the sequence count, a
+   digit; the label, B00 for the first block, B02 for the last, B01 between; the data; four upper-case hex digits, the CRC-16 of all before
+   them, by the program of appendix C; and 0Dh. ACK 1 is 06h 31h, ACK 0 is 06h 30h. Each end keeps a record of its own: zeros at the start,
+   then what the calls leave in it. A record may hold any numbers: nothing is assumed of it.
 
    A pointer must not be null, also if its length is 0. What is lent to be written overlaps nothing else that is lent.
-   No call keeps a pointer, allocates, or uses more than 8 KiB of stack. There is no other state than what is lent: calls may run in any
-   threads at once, each on buffers of its own.
+   No call keeps a pointer, allocates, or uses more than 8 KiB of stack (that of the dynamic linker not counted, see docs/C.md). There is no
+   other state than what is lent: calls may run in any threads at once, each on buffers of its own.
 
    Versions: docs/CHANGES.md says what each brought. Compile and link with the header and the archives of one version. While the major number
    is 0, a new minor number may bring refusal numbers, calls and constants, and fields at the end of a record; and it may refuse what was
@@ -46,14 +54,18 @@
    call was done: so take any other number for a refusal, also one that you do not know. A refusal number keeps its meaning, a constant its
    name, a record the order of its fields, and a refused call leaves what was lent as it was.
 
-   Two programs stand behind this header: the proved library, in five archives (`rt staticlib gdt`; `rt staticlib gdtwrite` for
-   gdt_write; `rt staticlib gdtday` for the three day calls; `rt staticlib gdtcable` for the three calls of the cable;
-   `rt staticlib gdtrecode` for gdt_to_437 and gdt_to_1252), and the second, independent program in second/. */
+   The proved library is five archives: libgdt.a; libgdtwrite.a for gdt_write; libgdtday.a for the three day calls; libgdtcable.a for the
+   three calls of the cable; libgdtrecode.a for gdt_to_437 and gdt_to_1252. docs/C.md says how to link them. They are x86-64 code for Linux, in
+   which size_t has 64 bits. The sources also have a second, independent program for this header, with which it is compared. */
 #ifndef GDT_H
 #define GDT_H
 
 #include <stddef.h>
 #include <stdint.h>
+
+#if SIZE_MAX != UINT64_MAX
+#error "gdt.h: size_t must have 64 bits, as in the archives: no -m32, no -mx32"
+#endif
 
 #ifdef __cplusplus
 extern "C" {
@@ -78,8 +90,8 @@ enum {
 /* The refusals, by their numbers. */
 enum {
     GDT_EMPTY = 1,           /* a set or list of no bytes; in a day file nothing after `old` */
-    GDT_BAD_LENGTH = 2,      /* a line's length is not three digits, or under 010 */
-    GDT_CUT_LINE = 3,        /* a line runs past the end of the bytes */
+    GDT_BAD_LENGTH = 2,      /* a line's length is not three digits (also if fewer than three bytes remain), or under 010 */
+    GDT_CUT_LINE = 3,        /* a line's length is good, and runs past the end of the bytes */
     GDT_BAD_END = 4,         /* a line does not end in 0Dh 0Ah */
     GDT_BAD_LABEL = 5,       /* a label is not four digits */
     GDT_BAD_BYTE = 6,        /* a content byte is under 20h */
@@ -97,7 +109,7 @@ enum {
     GDT_BAD_SUM = 17,        /* 8100 is not the set's length (place: line 2) */
     GDT_BAD_USE = 18,        /* the used length is over the buffer, or the old length over the day file (place: its length); or another set follows the
                                 one that must be alone (place: that one's length) */
-    GDT_NO_SUCH_LINE = 19,   /* line number 0, or beyond the set (place: the set's length) */
+    GDT_NO_SUCH_LINE = 19,   /* line number 0, or beyond the set (place: the set's length; for an entry of a sheet that entry) */
     GDT_FIXED_LINE = 20,     /* lines 8000, 8100, 9206 and 9218 cannot be corrected, whatever they hold */
     GDT_BAD_LIST = 21,       /* an entry is cut, or its label is over 9999 */
     GDT_NO_ROOM = 22,        /* more room is needed; place: how many bytes, entries or found sets */
@@ -134,7 +146,7 @@ struct gdt_viewed {
     size_t flag, at, length;
 };
 
-/* Judges the set at the front of the bytes. Bytes after the set are not judged. */
+/* Judges the set at the front of the bytes. Another set after it is not judged; its answer `length` says where that starts. */
 struct gdt_judged gdt_judge(const uint8_t *set, size_t set_length);
 
 /* Writes an entry for each line of the set at the front of the bytes; entries after the count stay as they were. */
@@ -143,11 +155,15 @@ struct gdt_made gdt_index(const uint8_t *set, size_t set_length, struct gdt_entr
 /* Writes the field list of the set at the front of the bytes; bytes of `out` after the count become zero. */
 struct gdt_made gdt_list(const uint8_t *set, size_t set_length, uint8_t *out, size_t room);
 
-/* Writes the set of a field list; bytes of `out` after the count become zero. */
+/* Writes the set of a field list; bytes of `out` after the count become zero. In this order: GDT_EMPTY; all entries, one after the other, each by
+   GDT_TOO_MANY_LINES, GDT_BAD_LIST, GDT_BAD_BYTE; GDT_NO_START, GDT_UNKNOWN_SET; all entries again, each by GDT_NOT_IN_SET to
+   GDT_OTHER_VERSION; GDT_MISSING; GDT_HIGH_BYTE; GDT_NO_ROOM. */
 struct gdt_made gdt_write(const uint8_t *list, size_t list_length, uint8_t *out, size_t room);
 
-/* Gives line number `line` of the set in the first `used` bytes of the buffer a new content, inside the buffer; bytes after the
-   new used length become zero. */
+/* Gives line number `line` of the one set in the first `used` bytes of the buffer a new content, inside the buffer; bytes after the
+   new used length become zero. In this order: GDT_BAD_USE if `used` is over `room` (place: room); the set's own refusals; GDT_BAD_USE if another
+   set follows (place: the first one's length); GDT_NO_SUCH_LINE; GDT_FIXED_LINE; GDT_BAD_BYTE and GDT_BAD_CONTENT of the new content, the
+   latter also if it is empty; GDT_HIGH_BYTE; GDT_NO_ROOM (place: the new length). */
 struct gdt_made gdt_correct(uint8_t *buffer, size_t room, size_t used, size_t line, const uint8_t *content, size_t content_length);
 
 /* Brings the one set in the first `used` bytes of the buffer into code page 437, or into code page 1252, inside the buffer, and answers its new
@@ -162,7 +178,10 @@ struct gdt_made gdt_correct(uint8_t *buffer, size_t room, size_t used, size_t li
 struct gdt_made gdt_to_437(uint8_t *buffer, size_t room, size_t used);
 struct gdt_made gdt_to_1252(uint8_t *buffer, size_t room, size_t used);
 
-/* Says where the content of line number `line` stands under a sheet of pending corrections. */
+/* Says where the content of line number `line` of the one set in the bytes stands under a sheet of pending corrections, which may be empty.
+   In this order: the set's own refusals; GDT_BAD_USE if another set follows (place: the first one's length); GDT_NO_SUCH_LINE of the asked line
+   (place: the set's length); then entry after entry of the sheet, also one that a later one replaces, each by GDT_BAD_LIST if it is cut,
+   GDT_NO_SUCH_LINE, GDT_FIXED_LINE, GDT_BAD_BYTE, GDT_BAD_CONTENT, GDT_HIGH_BYTE (places in the sheet). Line 2 is shown as the set has it. */
 struct gdt_viewed gdt_view(const uint8_t *set, size_t set_length, const uint8_t *sheet, size_t sheet_length, size_t line);
 
 /* Copies that content to `out` and answers its length; 0 for a refusal. If the length is over `room` nothing is written, so that a cut
