@@ -1,43 +1,59 @@
 /* correct.c: lists the lines of the set on standard input, gives one of them a new content, and prints the set that it then is.
-   correct LINE CONTENT <FILE   ends with status 1 if the set or the correction is refused; a buffer has room for 65,536 bytes. */
+     correct LINE CONTENT <FILE
+   Status 0: done. 1: the set or the correction is refused; standard error says by which number. 2: wrong usage, or standard input cannot
+   be read. At most 65,536 bytes are read: no set has so many, so what is longer is refused. */
+#define _POSIX_C_SOURCE 200809L
+#include <errno.h>
+#include <stdbool.h>
 #include <stdio.h>
 #include <stdlib.h>
 #include <string.h>
 #include <unistd.h>
 #include "gdt.h"
 
+enum { DONE = 0, REFUSED = 1, TROUBLE = 2 };
+
 enum { ROOM = 65536 };
 
 static uint8_t buffer[ROOM];
 static struct gdt_entry entries[GDT_MOST_LINES];
 
-/* Reads standard input up to its end, as far as there is room. */
-static size_t read_input(void)
+/* Reads standard input up to its end, as far as there is room; false if it cannot be read. */
+static bool read_input(size_t *used)
 {
-    size_t used = 0;
     long got = 1;
-    while (got > 0 && used < ROOM) {
-        got = read(0, buffer + used, ROOM - used);
-        if (got > 0) {
-            used += (size_t)got;
-        }
+    while (got > 0 && *used < ROOM) {
+        got = read(0, buffer + *used, ROOM - *used);
+        *used += got > 0 ? (size_t)got : 0;
     }
-    return used;
+    return got >= 0;
+}
+
+/* Takes a word for a number; false if it is none. */
+static bool take_number(const char *word, size_t *out)
+{
+    char *end;
+    *out = strtoul(word, &end, 10);
+    return word[0] >= '0' && word[0] <= '9' && *end == '\0';
 }
 
 static int refused(const char *what, struct gdt_made made)
 {
     dprintf(2, "%s: refused by %zu at place %zu, label %zu\n", what, made.no, made.place, made.label);
-    return 1;
+    return REFUSED;
 }
 
 int main(int count, char **words)
 {
-    if (count != 3) {
-        dprintf(2, "usage: correct LINE CONTENT <FILE\n");
-        return 2;
+    size_t line, used = 0;
+    if (count != 3 || !take_number(words[1], &line)) {
+        dprintf(2, "usage: correct LINE CONTENT <FILE   LINE is a number, from 1\n");
+        return TROUBLE;
     }
-    size_t used = read_input();
+    if (!read_input(&used)) {
+        dprintf(2, "correct: standard input cannot be read: %s\n", strerror(errno));
+        return TROUBLE;
+    }
     struct gdt_made made = gdt_index(buffer, used, entries, GDT_MOST_LINES);
     if (made.no != 0) {
         return refused("the set", made);
@@ -46,10 +62,10 @@ int main(int count, char **words)
         printf("%zu: %04zu %.*s\n", i + 1, entries[i].label, (int)entries[i].length, (const char *)buffer + entries[i].place);
     }
     const char *content = words[2];
-    made = gdt_correct(buffer, ROOM, used, (size_t)atoi(words[1]), (const uint8_t *)content, strlen(content));
+    made = gdt_correct(buffer, ROOM, used, line, (const uint8_t *)content, strlen(content));
     if (made.no != 0) {
         return refused("the correction", made);
     }
     printf("%.*s", (int)made.count, (const char *)buffer);
-    return 0;
+    return DONE;
 }
