@@ -97,29 +97,30 @@ module _ (t s : List ℕ) where
   block-over : (b i e found : ℕ) → i + b ≤ e → found ≡ firstWithout t s i b → i + b ≤ found → firstWithout t s (i + b) (e - (i + b)) ≡ firstWithout t s i (e - i)
   block-over b i e found h q l = sym (seek-on (hasCharacter t) s b i e h (omega (arith, q, seek-most (hasCharacter t) s b i)))
 
-  -- those at the front are passed over
+  -- bytes without one over 7Fh are passed over from i on
+  passed : CodeTable t → (i from : ℕ) → i ≤ from → from ≤ length s → firstHigh s i (from - i) ≡ from → firstWithout t s from (length s - from) ≡ firstWithout t s i (length s - i)
+  passed h i from l n p =
+      let a : i + (from - i) ≡ from = omega arith in
+      let q : from ≡ firstWithout t s i (from - i) = sym a ∙ plain-without h i (from - i) (omega arith) (p ∙ sym a) in
+      ap (λ (x : ℕ). firstWithout t s x (length s - x)) (sym a) ∙ block-over (from - i) i (length s) from (omega arith) q (omega arith)
+
   pub plain-front : CodeTable t → (plain : ℕ) → plain ≡ plainFront s → firstWithout t s plain (length s - plain) ≡ firstWithout t s 0 (length s)
   plain-front h plain e =
-      let l = front-most s plain e in
-      let q : plain ≡ firstWithout t s 0 plain = sym (zero-add plain) ∙ plain-without h 0 plain (omega arith) (front-plain s plain e ∙ sym (zero-add plain)) in
-      ap (λ (x : ℕ). firstWithout t s x (length s - x)) (sym (zero-add plain)) ∙ block-over plain 0 (length s) plain (omega arith) q (omega arith) ∙ ap (firstWithout t s 0) (omega arith)
+      passed h 0 plain (omega arith) (front-most s plain e) (ap (firstHigh s 0) (omega arith) ∙ front-plain s plain e) ∙ ap (firstWithout t s 0) (omega arith)
 
-  -- bytes without one over 7Fh are passed over from i on, then those up to the end are asked one by one
+  -- they are passed over from i on, then those up to the end are asked one by one
   module _ (h : CodeTable t) (i from end found : ℕ) (l : i ≤ from) (m : from ≤ end) (n : end ≤ length s) (p : firstHigh s i (from - i) ≡ from)
       (f : found ≡ firstWithout t s from (end - from)) where
-    passed : firstWithout t s from (length s - from) ≡ firstWithout t s i (length s - i)
-    passed =
-        let a : i + (from - i) ≡ from = omega arith in
-        let q : from ≡ firstWithout t s i (from - i) = sym a ∙ plain-without h i (from - i) (omega arith) (p ∙ sym a) in
-        ap (λ (x : ℕ). firstWithout t s x (length s - x)) (sym a) ∙ block-over (from - i) i (length s) from (omega arith) q (omega arith)
+    from-there : firstWithout t s from (length s - from) ≡ firstWithout t s i (length s - i)
+    from-there = passed h i from l (omega arith) p
 
     pub part-stops : found < end → found ≡ firstWithout t s i (length s - i)
-    part-stops g = block-stops (end - from) from (length s) found (omega arith) f (omega arith) ∙ passed
+    part-stops g = block-stops (end - from) from (length s) found (omega arith) f (omega arith) ∙ from-there
 
     pub part-over : end ≤ found → firstWithout t s end (length s - end) ≡ firstWithout t s i (length s - i)
     part-over g =
         let a : from + (end - from) ≡ end = omega arith in
-        ap (λ (x : ℕ). firstWithout t s x (length s - x)) (sym a) ∙ (block-over (end - from) from (length s) found (omega arith) f (omega arith) ∙ passed)
+        ap (λ (x : ℕ). firstWithout t s x (length s - x)) (sym a) ∙ (block-over (end - from) from (length s) found (omega arith) f (omega arith) ∙ from-there)
 
 -- ---- the mapping
 
