@@ -1,4 +1,4 @@
--- The walks of `first_without` and `map_bytes`, over the bytes of a set. What they are for the lines of a set is in proofs/BytesMeaning.
+-- The walks of `first_without` and `map_bytes`, over the bytes of a set. What they are for its lines is in proofs/RecodedLaws of `recode_plan` and in proofs/RecodedLines of `recode`.
 use mathlib.Core.Path.{_≡_}
 use mathlib.Core.Bool.{Bool, not}
 use mathlib.Core.List.{List, map}
