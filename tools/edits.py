@@ -1,4 +1,5 @@
 """The must-fail edits and their controls: what stands in their files, and one of them tried. For tools/loop, tools/controls and tests/promises.
+A file of edits has one slip, of the file's name, or several, each after a line `slip: NAME`; the gate tries a file as a whole. A control is that of one slip.
 Every path is from the repository's root, at which the caller stands."""
 import concurrent.futures
 import difflib
@@ -48,12 +49,12 @@ def stored(folder, suffix):
     return sorted(name.removesuffix(suffix) for name in os.listdir(folder) if name.endswith(suffix)) if os.path.isdir(folder) else []
 
 
-def edits(crate):
+def edit_files(crate):
     return stored(os.path.join("crates", crate, "must-fail"), ".edit")
 
 
 def controlled(crate):
-    """The edits of a crate that have a control."""
+    """The slips of a crate that have a control."""
     return stored(os.path.join(CONTROLS, crate), ".control")
 
 
@@ -78,23 +79,52 @@ def worded(line):
     return word, text.removeprefix(" ")
 
 
-def pairs(crate, edit):
-    """The pairs of an edit: a file of the crate, the text that stands in it once, and the new text."""
-    found, values = [], {}
-    for line in file_lines(os.path.join("crates", crate, "must-fail", edit + ".edit")):
-        word, values[word] = worded(line)
-        if word == "new":
-            if not values.get("file", "").startswith(tuple(part + "/" for part in PARTS)) or not values.get("old"):
-                raise NotTried("pair %d of %s has no 'file:' under src/, specs/ or proofs/, or no 'old:'" % (len(found) + 1, edit))
-            found.append((values["file"], values.pop("old"), values["new"]))
-    if not found:
-        raise NotTried("%s has no pair of 'old:' and 'new:'" % edit)
+def slips_in(crate, file):
+    """The slips of a file of edits by name, each with its pairs: a file of the crate, the text that stands in it once, and the new text."""
+    found, name, values = {}, file, {}
+    lines = file_lines(os.path.join("crates", crate, "must-fail", file + ".edit"))
+    several = any(line.startswith("slip:") for line in lines)
+    for line in lines:
+        word, text = worded(line)
+        if word == "slip":
+            if not re.fullmatch("[a-z_0-9]+", text) or text in found or values.get("old"):
+                raise NotTried("%s: 'slip: %s' names no new slip, or stands within a pair" % (file, text))
+            found[text], name, values = [], text, {}
+        elif word in ("file", "old"):
+            values[word] = text
+        elif word == "new":
+            if several and not found or not values.get("file", "").startswith(tuple(part + "/" for part in PARTS)) or not values.get("old"):
+                raise NotTried("pair %d of %s has no 'file:' under src/, specs/ or proofs/, no 'old:', or no 'slip:' before it" % (len(found.get(name, [])) + 1, name))
+            found.setdefault(name, []).append((values["file"], values.pop("old"), text))
+    if not found or not all(found.values()):
+        raise NotTried("%s has no pair of 'old:' and 'new:', or a slip of it has none" % file)
     return found
 
 
-def control(crate, edit):
-    """The stored control of an edit: for each pair of the edit the text that is put in the place of its old text."""
-    path, texts, why = os.path.join(CONTROLS, crate, edit + ".control"), [], False
+def slips(crate):
+    """The slips of a crate by name, each with the file that it stands in and its pairs."""
+    found = {}
+    for file in edit_files(crate):
+        for name, of in slips_in(crate, file).items():
+            if name in found:
+                raise NotTried("%s has two slips %s, in %s and in %s" % (crate, name, found[name][0], file))
+            found[name] = (file, of)
+    return found
+
+
+def pairs(crate, slip):
+    known = slips(crate)
+    return known[chosen("slip of %s named" % crate, slip, known)][1]
+
+
+def file_pairs(crate, file):
+    """All pairs of a file of edits, in their order."""
+    return [pair for of in slips_in(crate, file).values() for pair in of]
+
+
+def control(crate, slip):
+    """The stored control of a slip: for each of its pairs the text that is put in the place of its old text."""
+    path, texts, why = os.path.join(CONTROLS, crate, slip + ".control"), [], False
     for line in file_lines(path):
         if line.startswith("new:"):
             texts.append(worded(line)[1])
@@ -103,17 +133,17 @@ def control(crate, edit):
         why |= line.startswith("#") and bool(line.strip("# "))
     if not why:
         raise NotTried("%s: no line '# ..' says why it is harmless" % path)
-    if len(texts) != len(pairs(crate, edit)):
-        raise NotTried("%s: %d lines 'new:' for %d pair(s) of the edit" % (path, len(texts), len(pairs(crate, edit))))
+    if len(texts) != len(pairs(crate, slip)):
+        raise NotTried("%s: %d lines 'new:' for %d pair(s) of the slip" % (path, len(texts), len(pairs(crate, slip))))
     return texts
 
 
 # ---- One tried ---------------------------------------------------------------------------------------------------------------------
 
 
-def changed(crate, edit, controls):
-    """The files of a crate that an edit changes, or its control, each with its new text."""
-    changes, texts = pairs(crate, edit), {}
+def changed(crate, edit, changes, controls=()):
+    """The files of a crate that these pairs change, or the texts of a control in the place of their new ones, each with its new text."""
+    texts = {}
     if len(controls) > len(changes):
         raise NotTried("%s has %d pair(s), and --control is given %d times" % (edit, len(changes), len(controls)))
     for number, (name, old, new) in enumerate(changes):
@@ -165,10 +195,10 @@ def log_of(crate, edit):
     return os.path.join(LOGS, crate, edit + ".log")
 
 
-def tried(crate, edit, controls=()):
-    """Whether an edit is refused, or its control proved, and the line that says so; after it all complaints, if a control is not proved."""
+def tried(crate, edit, pairs_of, controls=()):
+    """Whether a slip or a file of edits is refused, or a slip's control proved, and the line that says so; after it all complaints, if a control is not proved."""
     try:
-        status, said, took = checked(crate, edit, changed(crate, edit, controls))
+        status, said, took = checked(crate, edit, changed(crate, edit, pairs_of(crate, edit), controls))
     except NotTried as why:
         return False, "NOT TRIED: %s" % why
     name, log = "the control of " + edit if controls else edit, log_of(crate, edit)
@@ -180,13 +210,44 @@ def tried(crate, edit, controls=()):
     first = "first at %s (%s)" % (place[1] if place else "?", took)
     if controls:
         return False, "%s is NOT PROVED, see %s, %s\n%s" % (name, log, first, complaints(said))
-    return True, "%s is refused, %s" % (name, first)
+    if senseless(said):
+        return False, "%s is REFUSED FOR NO FACT, see %s: %s" % (name, log, senseless(said)[0])
+    every, itself = failed(said, crate)
+    return True, "%s is refused, %s; by itself failed: %s" % (name, first, shortened(sorted(itself or every)))
+
+
+def shortened(names):
+    return ", ".join(names[:4] + ["and %d more" % (len(names) - 4)] * (len(names) > 4))
 
 
 def tried_all(wanted):
-    """What became of each (crate, edit, controls), in their order; as many at a time as rt does."""
+    """What became of each (crate, edit, pairs_of, controls), in their order; as many at a time as rt does."""
     with concurrent.futures.ThreadPoolExecutor(int(os.environ.get("RT_JOBS") or min(os.cpu_count(), 4))) as workers:
         yield from workers.map(lambda one: tried(*one), wanted)
+
+
+# ---- What the prover said ----------------------------------------------------------------------------------------------------------
+
+
+def failed(log, crate):
+    """What failed in a prover's log: all of it by name, and what failed by itself, not because it rests on another that failed."""
+    every, itself = set(), set()
+    for module, name, why in re.findall(r"(?:^|/)(?:proofs|specs)/(\w+)\.antt:\d+:\d+: error: `(\S+)`: (.*)", log, re.M):
+        label = "%s:%s.%s" % (crate, module, name)
+        every.add(label)
+        itself |= set() if "was not admitted" in why else {label}
+    for name, why in re.findall(r"^fn %s::(?:\w+::)*(\w+): (not proved.*|no proof.*)$" % crate, log, re.M):
+        label = "%s::%s" % (crate, name)
+        own = re.findall(r"(?:^|/)proofs/(?:\w+/)*%s/Proof\.antt:\d+:\d+: error: `\S+`: (.*)" % name, log, re.M)
+        every.add(label)
+        itself |= {label} if "it calls" not in why or any("was not admitted" not in line for line in own) else set()
+    return every, itself
+
+
+def senseless(log):
+    """What in a prover's log shows that an edit is no statement that could be wrong: an error in the changed definitions or code themselves, or a name that nothing has."""
+    errors = re.findall(r"^(\S+?\.(?:rt|antt):\d+:\d+): error\b(.*)", log, re.M)
+    return ["%s%s" % error for error in errors if re.search(r"(^|/)(specs|src)/", error[0]) or "not in scope" in error[1]]
 
 
 def proved(crate):
