@@ -245,9 +245,10 @@ def failed(log, crate):
 
 
 def senseless(log):
-    """What in a prover's log shows that an edit is no statement that could be wrong: an error in the changed definitions or code themselves, or a name that nothing has."""
-    errors = re.findall(r"^(\S+?\.(?:rt|antt):\d+:\d+): error\b(.*)", log, re.M)
-    return ["%s%s" % error for error in errors if re.search(r"(^|/)(specs|src)/", error[0]) or "not in scope" in error[1]]
+    """What in a prover's log shows that an edit says nothing that could be wrong: an error in the changed definitions or code themselves, a name that nothing has, or an error
+    of a whole file, as a name that it cannot import. A fact that does not hold is an error of one declaration of proofs/, or none in a file of it."""
+    errors = re.findall(r"^(\S+?\.(?:rt|antt):\d+:\d+): error(.*)", log, re.M)
+    return [place + why for place, why in errors if re.search(r"(^|/)(specs|src)/", place) or "not in scope" in why or not re.match(": `[^`]+`: ", why)]
 
 
 def proved(crate):
