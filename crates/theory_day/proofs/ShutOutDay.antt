@@ -13,6 +13,7 @@ use Rattle.meaning.specs.declared.Made.the-variants.{Done, Refused}
 use Rattle.meaning.specs.Field.{Field}
 use Rattle.meaning.specs.Refusals.{Reply, refused, done, refusal}
 use Rattle.meaning.specs.Pieces.{parsed}
+use Rattle.meaning.specs.Lines.{startsSet}
 use Rattle.meaning.specs.Reading.{read}
 use Rattle.meaning.specs.Lists.{list, write}
 use Rattle.meaning.specs.Answers.{Call, madeCount}
@@ -33,7 +34,7 @@ use Rattle.meaning_day.specs.DayComputes.{dayComputes}
 use Rattle.meaning_day.proofs.DayDemands.{refused-build, refused-append, refused-lookup}
 use Rattle.meaning_day.proofs.DayLaws.{built-sets}
 use Rattle.meaning_day.proofs.BuiltLaws.{partOf}
-use Rattle.meaning_day.proofs.AppendLaws.{OneSet, append-as-built, Built, built-by-call, built-entries, append-stays-built, built-empty}
+use Rattle.meaning_day.proofs.AppendLaws.{OneSet, append-as-built, refused-alike, append-exactly, Built, built-by-call, built-entries, append-stays-built, built-empty}
 use Rattle.meaning_day.proofs.WrittenLaws.{list-set-list-in-file}
 use Rattle.meaning_day.proofs.LookupLaws.{patientOf, match-exact}
 use Rattle.theory_day.specs.DayRules.{noEntry, Builds, Appends, Finds, FindsPatient}
@@ -335,6 +336,86 @@ append-as-built-met-by-refusing r f s room es lent b h o = refl
 
 append-as-built-met-by-none : SaysAppendAsBuilt (λ f room. done []) (λ f old lent n. done [])
 append-as-built-met-by-none f s room es lent b h o = refl
+
+-- append-exactly: given an index that was built, which the lent entries start with. Its two halves as one
+abbrev SaysAppendExactly : Builder → Appender → Type 0
+SaysAppendExactly build append =
+    (f s : List ℕ) (room : ℕ) (es lent xs : List DayEntry) → build f room ≡ done es → take (length es) lent ≡ es
+    → (append (f ++ s) (length f) lent (length es) ≡ done xs) ↔ ((build (f ++ s) (length lent) ≡ done xs) × (length xs ≡ length es + 1))
+
+append-exactly-says : SaysAppendExactly build append
+append-exactly-says = append-exactly
+
+-- what it asks of the two appendings
+exactly-two : (A : Appender) → SaysAppendExactly build A → A two 51 lent 1 ≡ done twoIndex
+unfolding computes dayComputes p q two
+exactly-two A h = h p q 8 pIndex lent twoIndex build-p refl .1 (refl, refl)
+
+exactly-p : (A : Appender) → SaysAppendExactly build A → A p 0 lent 0 ≡ done pIndex
+unfolding computes dayComputes p
+exactly-p A h = h [] p 8 [] lent pIndex build-none refl .1 (refl, refl)
+
+append-exactly-not-refusing : (r : List ℕ → ℕ → List DayEntry → ℕ → Refusal) → SaysAppendExactly build (λ f old lent n. refused (r f old lent n)) → ⊥
+append-exactly-not-refusing r h = refused-done (exactly-p (λ f old lent n. refused (r f old lent n)) h)
+
+append-exactly-not-same : (a : Reply (List DayEntry)) → SaysAppendExactly build (λ f old lent n. a) → ⊥
+append-exactly-not-same a h = longer (omega arith) (sym (exactly-p (λ f old lent n. a) h) ∙ exactly-two (λ f old lent n. a) h)
+
+append-exactly-not-idle : SaysAppendExactly build (λ f old lent n. idle (take n lent) (append f old lent n)) → ⊥
+append-exactly-not-idle h =
+    longer (omega arith) (sym (ap (idle (take 1 lent)) append-two) ∙ exactly-two (λ f old lent n. idle (take n lent) (append f old lent n)) h)
+
+-- It does not say by which number is refused else. Shut out by `append-refused-with`.
+append-exactly-met-by-one-number : SaysAppendExactly build (λ f old lent n. byOne (append f old lent n))
+append-exactly-met-by-one-number f s room es lent xs b h =
+    let x = append-exactly f s room es lent xs b h in
+    let y = done-by-one (append (f ++ s) (length f) lent (length es)) xs in
+    (λ e. x .0 (y .0 e), λ e. y .1 (x .1 e))
+
+-- refused-alike: given an index that was built, and bytes that start a set and are refused by themselves
+abbrev SaysRefusedAlike : Builder → Appender → Type 0
+SaysRefusedAlike build append =
+    (f s : List ℕ) (room room′ : ℕ) (es lent : List DayEntry) (count : ℕ) (r : Refusal) → build f room ≡ done es → startsSet s ≡ true → read s ≡ refused r
+    → (append (f ++ s) (length f) lent count ≡ refused (refusal (r .no) (length f + r .place) (r .label)))
+    × (build (f ++ s) room′ ≡ refused (refusal (r .no) (length f + r .place) (r .label)))
+
+refused-alike-says : SaysRefusedAlike build append
+refused-alike-says = refused-alike
+
+-- what it asks of bytes without a length: after P, and after nothing
+alike-cut : (A : Appender) → SaysRefusedAlike build A → A cut 51 lent 1 ≡ refused (refusal 2 51 0)
+unfolding computes dayComputes p cut
+alike-cut A h = h p (text "xyz8000") 8 8 pIndex lent 1 (refusal 2 0 0) build-p refl refl .0
+
+alike-alone : (A : Appender) → SaysRefusedAlike build A → A (text "xyz8000") 0 lent 0 ≡ refused (refusal 2 0 0)
+unfolding computes dayComputes
+alike-alone A h = h [] (text "xyz8000") 8 8 [] lent 0 (refusal 2 0 0) build-none refl refl .0
+
+refused-alike-not-same : (a : Reply (List DayEntry)) → SaysRefusedAlike build (λ f old lent n. a) → ⊥
+refused-alike-not-same a h =
+    let e = sym (alike-alone (λ f old lent n. a) h) ∙ alike-cut (λ f old lent n. a) h in
+    let z : _≡_ {A = ℕ} 0 51 = ap (λ (y : Refusal). y .place) (refused-same e) in
+    omega arith
+
+-- nor one that appends whatever is given, or places refusals in the appended bytes
+refused-alike-not-lenient : (x : List ℕ → ℕ → List DayEntry → ℕ → List DayEntry) → SaysRefusedAlike build (λ f old lent n. done (x f old lent n)) → ⊥
+refused-alike-not-lenient x h = refused-done (sym (alike-cut (λ f old lent n. done (x f old lent n)) h))
+
+refused-alike-not-at-zero : SaysRefusedAlike build (λ f old lent n. atZero (append f old lent n)) → ⊥
+refused-alike-not-at-zero h =
+    let e = sym (ap atZero append-cut) ∙ alike-cut (λ f old lent n. atZero (append f old lent n)) h in
+    let z : _≡_ {A = ℕ} 0 51 = ap (λ (y : Refusal). y .place) (refused-same e) in
+    omega arith
+
+-- One that makes no entry of an accepted set meets it. Shut out by `append-as-built`.
+abbrev onlyRefused : Reply (List DayEntry) → Reply (List DayEntry)
+onlyRefused (refused r) = refused r
+onlyRefused (done es) = done []
+
+refused-alike-met-by-none : SaysRefusedAlike build (λ f old lent n. onlyRefused (append f old lent n))
+refused-alike-met-by-none f s room room′ es lent count r b st e =
+    let x = refused-alike f s room room′ es lent count r b st e in
+    (ap onlyRefused (x .0), x .1)
 
 -- append-stays-built: given numbers that start with an index of the bytes before the old length, and an appending that answers a count
 abbrev SaysAppendStaysBuilt : (List ℕ → ℕ → List ℕ → ℕ → Call ℕ) → Type 0
