@@ -43,15 +43,31 @@ use Rattle.keeps.proofs.Exact.{every-of, accepted-keeps, keeps-standing, keeps-
 use Rattle.keeps.proofs.TableFacts.{or-cases}
 use Rattle.keeps.proofs.CorrectionExact.{not-fixed, fixed-not, changed-new, new-changed}
 use Rattle.keeps.proofs.ListExact.{list-listed, listed-list}
+use Rattle.breaches.specs.Breaches.{FirstBreach}
 use Rattle.breaches.specs.CallBreaches.{IndexRefused, ListRefused, as-the-set, no-room, FixedLabel, ChangeRefused, another-set, no-line, fixed-line, low-byte, bad-content}
 use Rattle.breaches.specs.CallBreaches.{high-byte, CorrectionRefused, used-over, of-change}
 use Rattle.breaches.proofs.FirstHigh.{HighIn, high-in, high-found}
 use Rattle.breaches.proofs.FirstOnly.{refused-exactly-with}
 
--- ---- index and list: "Index and list refuse as the set does, then by 22", with the need as its place
+-- ---- what every call has that is given a set
 
 pub refused-same : {A : Type 0} {r y : Refusal} → _≡_ {A = Reply A} (refused r) (refused y) → r ≡ y
 refused-same e = cc
+
+-- "refuse as the set does": reading refuses exactly with the set's first breach
+pub read-refused : (s : List ℕ) (r : Refusal) → (read s ≡ refused r) ↔ FirstBreach s r
+unfolding judge
+read-refused s r = (λ e. refused-exactly-with s r .0 (ap judged e), λ x. go (read s) refl (refused-exactly-with s r .1 x))
+  where
+    go : (y : Reply Parsed) → read s ≡ y → judged y ≡ Refused r → read s ≡ refused r
+    go (refused y) q f = q ∙ ap refused (refusal-same f)
+    go (done d) q f = refused-accepted (sym f)
+
+-- "place: set length": a fault that is placed after the last line stands there
+pub whole-set : (fs : List Field) → offset fs (length fs) + 0 ≡ size fs
+whole-set fs = omega (arith, ap size (take-all (length fs) fs (omega arith)))
+
+-- ---- index and list: "Index and list refuse as the set does, then by 22", with the need as its place
 
 -- both make something of the lines, for which they need this much
 module _ {A : Type 0} (need : Parsed → ℕ) (made : Parsed → A) (s : List ℕ) (room : ℕ) (r : Refusal) where
@@ -60,11 +76,10 @@ module _ {A : Type 0} (need : Parsed → ℕ) (made : Parsed → A) (s : List �
 
   -- the set is refused, or there is too little room
   data Lacks : Type 0 where
-    set-refused : judge s ≡ Refused r → Lacks
+    set-refused : read s ≡ refused r → Lacks
     too-small : (d : Parsed) → read s ≡ done d → room < need d → r ≡ refusal noRoom (need d) 0 → Lacks
 
   reply-lacks : reply ≡ refused r → Lacks
-  unfolding judge
   reply-lacks e = go (read s) refl e
     where
       room-lacks : (d : Parsed) → read s ≡ done d → (t : Bool) → leb (need d) room ≡ t → withRoom t (need d) (made d) ≡ refused r → Lacks
@@ -72,16 +87,11 @@ module _ {A : Type 0} (need : Parsed → ℕ) (made : Parsed → A) (s : List �
       room-lacks d q false f g = too-small d q (leb-false (need d) room f) (sym (refused-same g))
 
       go : (y : Reply Parsed) → read s ≡ y → thenTo y (λ d. withRoom (leb (need d) room) (need d) (made d)) ≡ refused r → Lacks
-      go (refused y) q f = set-refused (ap judged q ∙ ap Refused (refused-same f))
+      go (refused y) q f = set-refused (q ∙ ap refused (refused-same f))
       go (done d) q f = room-lacks d q (leb (need d) room) refl f
 
   lacks-reply : Lacks → reply ≡ refused r
-  unfolding judge
-  lacks-reply (set-refused e) = go (read s) refl e
-    where
-      go : (y : Reply Parsed) → read s ≡ y → judged y ≡ Refused r → reply ≡ refused r
-      go (refused y) q f = rw q (ap refused (refusal-same f))
-      go (done d) q f = refused-accepted (sym f)
+  lacks-reply (set-refused e) = rw e refl
   lacks-reply (too-small d q l e) = rw (q, lt-leb (need d) room l) (ap refused (sym e))
 
 pub index-refused-with : (s : List ℕ) (room : ℕ) (r : Refusal) → (index s room ≡ refused r) ↔ IndexRefused s room r
@@ -92,11 +102,11 @@ index-refused-with s room r = (
 )
   where
     to : Lacks (λ d. length (d .fields)) (λ d. indexOf (d .fields)) s room r → IndexRefused s room r
-    to (set-refused e) = as-the-set (refused-exactly-with s r .0 e)
+    to (set-refused e) = as-the-set (read-refused s r .0 e)
     to (too-small d q l e) = no-room (shape (d .fields)) (accepted-exactly s (shape (d .fields)) .0 (read-judge s d q)) l e
 
     from : IndexRefused s room r → Lacks (λ d. length (d .fields)) (λ d. indexOf (d .fields)) s room r
-    from (as-the-set f) = set-refused (refused-exactly-with s r .1 f)
+    from (as-the-set f) = set-refused (read-refused s r .1 f)
     from (no-room x f l e) =
         let d = judge-read s x (accepted-exactly s x .1 f) in
         let n : x .lines ≡ length (d .0 .fields) = ap (λ (y : Shape). y .lines) (d .2) in
@@ -110,14 +120,14 @@ unfolding list
 list-refused-with s room r = (λ e. to (reply-lacks listNeed (λ d. listOf (d .fields)) s room r e), λ x. lacks-reply listNeed (λ d. listOf (d .fields)) s room r (from x))
   where
     to : Lacks listNeed (λ d. listOf (d .fields)) s room r → ListRefused s room r
-    to (set-refused e) = as-the-set (refused-exactly-with s r .0 e)
+    to (set-refused e) = as-the-set (read-refused s r .0 e)
     to (too-small d q l e) =
         let m : listNeed d ≡ length (listOf (d .fields)) = omega (arith, length-entries (withoutSum (d .fields))) in
         let k : list s (length (listOf (d .fields))) ≡ done (listOf (d .fields)) = list-makes s d (length (listOf (d .fields))) q (omega (arith, m)) in
         no-room (listOf (d .fields)) (list-listed s (length (listOf (d .fields))) (listOf (d .fields)) k) (subst (λ (n : ℕ). room < n) m l) (e ∙ ap (λ (n : ℕ). refusal noRoom n 0) m)
 
     from : ListRefused s room r → Lacks listNeed (λ d. listOf (d .fields)) s room r
-    from (as-the-set f) = set-refused (refused-exactly-with s r .1 f)
+    from (as-the-set f) = set-refused (read-refused s r .1 f)
     from (no-room x f l e) =
         let o = list-only s (length x) x (listed-list s (length x) x f) in
         let m : length x ≡ listNeed (o .what) = omega (arith, ap length (o .made), length-entries (withoutSum (o .what .fields))) in
@@ -292,9 +302,6 @@ module _ (room n : ℕ) (c : List ℕ) (fs : List Field) (rest : List ℕ) (r : 
   abbrev from19 : List Fault
   from19 = ask (leb 1 n && leb n (length fs)) (atLine noSuchLine (length fs) 0) ++ from20
 
-  whole-set : offset fs (length fs) ≡ size fs
-  whole-set = ap size (take-all (length fs) fs (omega arith))
-
   -- "over 99,999" never decides
   total : (1 ≤ n) × (n ≤ length fs) → NotFixed label → NoLowByte c → fitsLabel label c ≡ true → (HasSevenBits fs → NoHighByte c) → size new ≤ maxSetBytes
   unfolding fits
@@ -344,11 +351,11 @@ module _ (room n : ℕ) (c : List ℕ) (fs : List Field) (rest : List ℕ) (r : 
       by20 a w (passed p q) = by6 a w (free-so label .0 p) (lows (inChange fs) new put r (pred n) 0 c from14 q)
 
       by19 : rest ≡ [] → Asked (inChange fs) new put r (leb 1 n && leb n (length fs)) (atLine noSuchLine (length fs) 0) from20 → ChangeRefused room fs rest n c r
-      by19 a (failed p q) = no-line a (line-not n (length fs) .0 p) (q ∙ ap (λ (z : ℕ). refusal noSuchLine z 0) whole-set)
+      by19 a (failed p q) = no-line a (line-not n (length fs) .0 p) (q ∙ ap (λ (z : ℕ). refusal noSuchLine z 0) (omega (arith, whole-set fs)))
       by19 a (passed p q) = by20 a (line-so n (length fs) .0 p) (asked (inChange fs) new put r (not (fixed label)) (atLine fixedLine (pred n) label) from6 q)
 
       by18 : Asked (inChange fs) new put r (isNil rest) (atLine badUse (length fs) 0) from19 → ChangeRefused room fs rest n c r
-      by18 (failed p q) = another-set (nil-not rest .0 p) (q ∙ ap (λ (z : ℕ). refusal badUse z 0) (omega (arith, whole-set)))
+      by18 (failed p q) = another-set (nil-not rest .0 p) (q ∙ ap (λ (z : ℕ). refusal badUse z 0) (omega (arith, whole-set fs)))
       by18 (passed p q) = by19 (nil-so rest .0 p) (asked (inChange fs) new put r (leb 1 n && leb n (length fs)) (atLine noSuchLine (length fs) 0) from20 q)
 
   refused-change : ChangeRefused room fs rest n c r → correctLines room n c (parsed fs rest) ≡ refused r
@@ -375,11 +382,11 @@ module _ (room n : ℕ) (c : List ℕ) (fs : List Field) (rest : List ℕ) (r : 
 
       go : ChangeRefused room fs rest n c r → correctLines room n c (parsed fs rest) ≡ refused r
       go (another-set a q) =
-          ask-failed (inChange fs) new put r (isNil rest) (atLine badUse (length fs) 0) from19 (nil-not rest .1 a) (q ∙ ap (λ (z : ℕ). refusal badUse z 0) (omega (arith, whole-set)))
+          ask-failed (inChange fs) new put r (isNil rest) (atLine badUse (length fs) 0) from19 (nil-not rest .1 a) (q ∙ ap (λ (z : ℕ). refusal badUse z 0) (omega (arith, whole-set fs)))
       go (no-line a w q) =
           after18 a
           (ask-failed (inChange fs) new put r (leb 1 n && leb n (length fs)) (atLine noSuchLine (length fs) 0) from20 (line-not n (length fs) .1 w)
-          (q ∙ ap (λ (z : ℕ). refusal noSuchLine z 0) (sym whole-set)))
+          (q ∙ ap (λ (z : ℕ). refusal noSuchLine z 0) (omega (arith, whole-set fs))))
       go (fixed-line a w f q) = after19 a w (ask-failed (inChange fs) new put r (not (fixed label)) (atLine fixedLine (pred n) label) from6 (fixed-so label .1 f) q)
       go (low-byte a w f i l y h q) =
           after20 a w f
@@ -392,21 +399,13 @@ module _ (room n : ℕ) (c : List ℕ) (fs : List Field) (rest : List ℕ) (r : 
           (no-high-answers (inChange fs) new put r fs (pred n) c v
           (so-room-lacks (subst (λ (x : List Field). room < size x) e l) (q ∙ ap (λ (x : List Field). refusal noRoom (size x) 0) e)))
 
-read-refused : (s : List ℕ) (r : Refusal) → judge s ≡ Refused r → read s ≡ refused r
-unfolding judge
-read-refused s r e = go (read s) refl e
-  where
-    go : (y : Reply Parsed) → read s ≡ y → judged y ≡ Refused r → read s ≡ refused r
-    go (refused y) q f = q ∙ ap refused (refusal-same f)
-    go (done d) q f = refused-accepted (sym f)
-
 -- a correction is refused with number, place and label r exactly when they are those of the first reason in the paper's order: "18 (used length), the set's own refusals, .."
 pub correction-refused-with : (b : List ℕ) (used n : ℕ) (c : List ℕ) (r : Refusal) → (correct b used n c ≡ refused r) ↔ CorrectionRefused b used n c r
-unfolding correct judge
+unfolding correct
 correction-refused-with b used n c r = (λ e. within (leb used (length b)) refl e, from)
   where
     of-set : used ≤ length b → (y : Reply Parsed) → read (take used b) ≡ y → thenTo y (λ d. correctLines (length b) n c d) ≡ refused r → CorrectionRefused b used n c r
-    of-set l (refused y) q f = as-the-set l (refused-exactly-with (take used b) r .0 (ap judged q ∙ ap Refused (refused-same f)))
+    of-set l (refused y) q f = as-the-set l (read-refused (take used b) r .0 (q ∙ ap refused (refused-same f)))
     of-set l (done d) q f =
         let k = accepted-keeps (take used b) d q in
         of-change l (k .0) (d .fields) (d .rest) (k .1)
@@ -419,7 +418,7 @@ correction-refused-with b used n c r = (λ e. within (leb used (length b)) refl 
 
     from : CorrectionRefused b used n c r → correct b used n c ≡ refused r
     from (used-over l f) = rw (lt-leb used (length b) l) (ap refused (sym f))
-    from (as-the-set l f) = rw (le-leb used (length b) l, read-refused (take used b) r (refused-exactly-with (take used b) r .1 f)) refl
+    from (as-the-set l f) = rw (le-leb used (length b) l, read-refused (take used b) r .1 f) refl
     from (of-change l t fs rest k x) =
         rw (le-leb used (length b) l, keeps-accepted (take used b) t fs rest k)
         (refused-change (length b) n c fs rest r (keeps-standing (take used b) t fs rest k) (k .rules .starts .0) (k .rules .second-8100) x)

@@ -1,16 +1,18 @@
--- What the theorems that say "exactly" shut out, tried, as in ShutOut of crate `examples`: `SaysX` is the statement of theorem x with any function in the place of the definition,
--- `x-says` the theorem itself; then trivial functions are put in. docs/PROMISES.md has the table of it: "What each theorem asks, and what it shuts out".
+-- What the theorems that say "exactly" shut out, and those on calls that refuse, tried, as in ShutOut of crate `examples`: `SaysX` is the statement of theorem x with any function in the place of the
+-- definition, `x-says` the theorem itself; then trivial functions are put in. docs/PROMISES.md has the table of it: "What each theorem asks, and what it shuts out".
 use mathlib.Core.Path.{_≡_, refl, sym, ap, _∙_}
 use mathlib.Core.List.{List, [], _∷_, _++_}
 use mathlib.Core.Logic.{_↔_}
 use Prim.Native.Nat.{ℕ}
 use native.Mathlib.Omega.{arith}
-use lib.ListN.{length, take, replicate}
+use lib.ListN.{length, take, getD, replicate}
 use Rattle.meaning.specs.declared.Refusal.{Refusal}
 use Rattle.meaning.specs.declared.Shape.{Shape}
 use Rattle.meaning.specs.declared.Entry.{Entry}
 use Rattle.meaning.specs.declared.Judged.{Judged}
 use Rattle.meaning.specs.declared.Judged.the-variants.{Accepted, Refused}
+use Rattle.meaning.specs.declared.Made.{Made}
+use Rattle.meaning.specs.declared.Made.the-variants.{Done, Refused as RefusedCall}
 use Rattle.meaning.specs.declared.Viewed.{Viewed}
 use Rattle.meaning.specs.declared.Viewed.the-variants.{Set}
 use Rattle.meaning.specs.Field.{Field}
@@ -20,13 +22,15 @@ use Rattle.meaning.specs.Index.{indexOf, index}
 use Rattle.meaning.specs.Lists.{list, write}
 use Rattle.meaning.specs.Corrections.{correct}
 use Rattle.meaning.specs.Views.{viewing}
+use Rattle.meaning.specs.Answers.{Call, madeCount, indexCall, listCall, writeCall, correctCall}
 use Rattle.meaning.specs.Computes.{computes}
 use Rattle.meaning.proofs.Asking.{text, line}
 use Rattle.meaning.proofs.Bools.{Every}
 use Rattle.meaning.proofs.FaultLaws.{refused-done, done-same}
-use Rattle.meaning.proofs.AnswerLaws.{refused-accepted}
+use Rattle.meaning.proofs.AnswerLaws.{refused-accepted, refused-made}
 use Rattle.meaning.proofs.EntryLaws.{Byte}
 use Rattle.meaning.proofs.WriterLaws.{listOf}
+use Rattle.meaning.proofs.Demands.{refused-index, refused-list, refused-write, refused-correct}
 use Rattle.keeps.specs.Keeps.{SetAtFront}
 use Rattle.keeps.specs.Makes.{Indexes, Lists, Writes, Corrects, Views}
 use Rattle.keeps.proofs.Exact.{accepted-exactly, refused-exactly}
@@ -438,3 +442,32 @@ correction-refused-with-not-one-number : SaysCorrectionRefusedWith (λ b used n 
 unfolding computes
 correction-refused-with-not-one-number h =
     let z : _≡_ {A = ℕ} 1 18 = ap (λ (y : Refusal). y .no) (refused-same (h [] 1 4 (text "0") (refusal 18 0 0) .1 used-over-0)) in omega arith
+
+-- ---- "After a refusal every lent buffer holds what it held before."
+
+-- refused-index, refused-list, refused-write and refused-correct in the same words; X is what the call is given beside what is lent to it. Given a call that answers a refusal
+abbrev pub SaysRefusedCall : {X A : Type 0} → (X → List A → Call A) → Type 0
+SaysRefusedCall {X} {A} C = (x : X) (out : List A) (r : Refusal) → C x out .answer ≡ RefusedCall r → (madeCount (C x out .answer) ≡ 0) × (C x out .buffer ≡ out)
+
+refused-call-says : SaysRefusedCall indexCall × SaysRefusedCall listCall × SaysRefusedCall writeCall × SaysRefusedCall {X = ℕ × ℕ × List ℕ} (λ (used, n, c) b. correctCall b used n c)
+refused-call-says = (refused-index, refused-list, refused-write, λ (used, n, c) b r. refused-correct b used n c r)
+
+module _ {X : Type 0} (x : X) where
+  -- one that refuses all, each with whatever refusal, and clears what is lent
+  pub refused-call-not-clearing : (r : X → List ℕ → Refusal) → SaysRefusedCall (λ (y : X) (out : List ℕ). record { answer = RefusedCall (r y out); buffer = replicate (length out) 0 }) → ⊥
+  refused-call-not-clearing r h =
+      let z : _≡_ {A = ℕ} 0 7 = ap (λ (b : List ℕ). getD b 0 0) (h x (7 ∷ []) (r x (7 ∷ [])) refl .1) in
+      omega arith
+
+  -- one that leaves always the same
+  pub refused-call-not-same : {A : Type 0} (a : A) (r : Refusal) (o : List A) → SaysRefusedCall (λ (y : X) (out : List A). record { answer = RefusedCall r; buffer = o }) → ⊥
+  refused-call-not-same a r o h =
+      let z : _≡_ {A = ℕ} 0 1 = ap length (sym (h x [] r refl .1) ∙ h x (a ∷ []) r refl .1) in
+      omega arith
+
+-- One that never writes meets it, whatever it answers, and so does one that refuses all and never writes; and one that never refuses. Shut out by the contracts.
+pub refused-call-met-by-idle : {X A : Type 0} (a : X → List A → Made) → SaysRefusedCall (λ (x : X) (out : List A). record { answer = a x out; buffer = out })
+refused-call-met-by-idle a x out r e = (ap madeCount e, refl)
+
+pub refused-call-met-by-same : {X A : Type 0} (n : ℕ) (o : List A) → SaysRefusedCall (λ (x : X) (out : List A). record { answer = Done n; buffer = o })
+refused-call-met-by-same n o x out r e = refused-made (sym e)

@@ -5,7 +5,7 @@
 -- `x-not-idle`: nor one that leaves every lent buffer as it was, whatever it answers. `x-met-by-..`: this trivial function meets it; the comment names what shuts that one out.
 use mathlib.Core.Path.{_≡_, refl, sym, ap, ap₂, _∙_, subst}
 use mathlib.Core.Bool.{true, cond, true≢false}
-use mathlib.Core.List.{List, [], _∷_, _++_}
+use mathlib.Core.List.{List, [], _∷_, _++_, cons≢nil}
 use Prim.Native.Nat.{ℕ, pred, _+_, _-_, _≤_, _<_}
 use native.Mathlib.Omega.{arith}
 use lib.Dec.{eqb}
@@ -13,6 +13,7 @@ use lib.ListN.{length, take, drop, getD, replicate, length-replicate}
 use Rattle.meaning.specs.declared.Refusal.{Refusal}
 use Rattle.meaning.specs.declared.Shape.{Shape}
 use Rattle.meaning.specs.declared.Entry.{Entry}
+use Rattle.meaning.specs.declared.Part.{Part}
 use Rattle.meaning.specs.declared.Judged.{Judged}
 use Rattle.meaning.specs.declared.Judged.the-variants.{Accepted, Refused as RefusedSet}
 use Rattle.meaning.specs.declared.Made.{Made}
@@ -34,7 +35,7 @@ use Rattle.meaning.specs.Rules.{setFaults}
 use Rattle.meaning.specs.Lists.{withoutSum, withSum, list, write}
 use Rattle.meaning.specs.Corrections.{resum, changed, correct}
 use Rattle.meaning.specs.Views.{sheet, viewing, viewed, view}
-use Rattle.meaning.specs.Answers.{made, bytesLeft, entriesLeft, Call, indexCall, listCall, writeCall, correctCall}
+use Rattle.meaning.specs.Answers.{made, bytesLeft, entriesLeft, Call, indexCall, listCall, writeCall, correctCall, judgedRefusal, judgedShape, viewedFlag, viewedPart}
 use Rattle.meaning.specs.Computes.{computes}
 use Rattle.meaning.proofs.Asking.{text, line}
 use Rattle.meaning.proofs.Bools.{Every}
@@ -44,7 +45,8 @@ use Rattle.meaning.proofs.EntryLaws.{Byte}
 use Rattle.meaning.proofs.SetLaws.{Standing, accepted, read-render, sum-back, Accepted as AcceptedSet}
 use Rattle.meaning.proofs.WriterLaws.{listOf, ListMade, list-only}
 use Rattle.meaning.proofs.NumberLaws.{Numbered, OneOf, readNumbers, writeNumbers, read-numbers, index-numbers, list-numbers, write-numbers, correct-numbers, view-numbers}
-use Rattle.meaning.proofs.Demands.{refused-keeps-bytes, refused-keeps-entries, list-write, list-there, write-list, write-judge, bothReplaced, either-order}
+use Rattle.meaning.proofs.Demands.{refused-keeps-bytes, refused-keeps-entries, refused-shape, refused-view as view-refused, accepted-no-refusal}
+use Rattle.meaning.proofs.Demands.{list-write, list-there, write-list, write-judge, bothReplaced, either-order}
 use Rattle.meaning.proofs.CallLaws.{set-list-set, list-set-list, either-call}
 use Rattle.meaning.proofs.FieldLaws.{Short}
 use Rattle.meaning.proofs.RuleLaws.{Ruled, ruled}
@@ -338,6 +340,63 @@ keeps-not-clearing h = let z : _≡_ {A = ℕ} 0 7 = ap (λ (b : List ℕ). getD
 -- A call that never writes meets them. Shut out by the contracts: `index-not-idle`, `list-not-idle`, `write-not-idle`, `correct-not-idle`.
 keeps-met-by-idle : {A : Type 0} → SaysKeeps {A = A} (λ r b. b)
 keeps-met-by-idle r b = refl
+
+-- refused-shape: given a set that is refused. Any function for `judge`, and any for the values of its answer
+abbrev SaysRefusedShape : (List ℕ → Judged) → (Judged → Shape) → Type 0
+SaysRefusedShape J G = (s : List ℕ) (r : Refusal) → J s ≡ RefusedSet r → G (J s) ≡ shaped 0 0 0
+
+refused-shape-says : SaysRefusedShape judge judgedShape
+refused-shape-says = refused-shape
+
+-- values that are always the same, and not all 0
+refused-shape-not-same : (x : Shape) → (x ≡ shaped 0 0 0 → ⊥) → SaysRefusedShape judge (λ j. x) → ⊥
+refused-shape-not-same x n h = n (h [] (refusal 1 0 0) judge-none)
+
+-- It says nothing of how is judged, and values that are always 0 meet it. Shut out by the contract of `judge`, and of `gdt_judge`.
+refused-shape-met-by-any : (J : List ℕ → Judged) → SaysRefusedShape J judgedShape
+refused-shape-met-by-any J s r e = ap judgedShape e
+
+refused-shape-met-by-zeros : (J : List ℕ → Judged) → SaysRefusedShape J (λ j. shaped 0 0 0)
+refused-shape-met-by-zeros J s r e = refl
+
+-- accepted-no-refusal: given a set that is accepted
+abbrev SaysAcceptedNoRefusal : (List ℕ → Judged) → (Judged → Refusal) → Type 0
+SaysAcceptedNoRefusal J G = (s : List ℕ) (x : Shape) → J s ≡ Accepted x → G (J s) ≡ refusal 0 0 0
+
+accepted-no-refusal-says : SaysAcceptedNoRefusal judge judgedRefusal
+accepted-no-refusal-says = accepted-no-refusal
+
+accepted-no-refusal-not-same : (r : Refusal) → (r ≡ refusal 0 0 0 → ⊥) → SaysAcceptedNoRefusal judge (λ j. r) → ⊥
+accepted-no-refusal-not-same r n h = n (h p (shaped 51 4 6300) judge-p)
+
+-- the same as above
+accepted-no-refusal-met-by-any : (J : List ℕ → Judged) → SaysAcceptedNoRefusal J judgedRefusal
+accepted-no-refusal-met-by-any J s x e = ap judgedRefusal e
+
+accepted-no-refusal-met-by-zeros : (J : List ℕ → Judged) → SaysAcceptedNoRefusal J (λ j. refusal 0 0 0)
+accepted-no-refusal-met-by-zeros J s x e = refl
+
+-- refused-view: given a view that is refused. Any function for `viewed`, for `view`, and for flag and part of the answer
+abbrev SaysRefusedView : (List ℕ → List ℕ → ℕ → Viewed) → (List ℕ → List ℕ → ℕ → List ℕ) → (Viewed → ℕ) → (Viewed → Part) → Type 0
+SaysRefusedView A W F P = (s h : List ℕ) (n : ℕ) (r : Refusal) → A s h n ≡ RefusedView r → (F (A s h n) ≡ 0) × (P (A s h n) ≡ record { place = 0; length = 0 }) × (W s h n ≡ [])
+
+refused-view-says : SaysRefusedView viewed view viewedFlag viewedPart
+refused-view-says = view-refused
+
+viewed-none : viewed [] [] 1 ≡ RefusedView (refusal 1 0 0)
+unfolding computes
+viewed-none = refl
+
+-- a part that is always flagged as the sheet's, and a view that always shows a byte
+refused-view-not-flagged : (W : List ℕ → List ℕ → ℕ → List ℕ) (P : Viewed → Part) → SaysRefusedView viewed W (λ v. 1) P → ⊥
+refused-view-not-flagged W P h = omega (arith, h [] [] 1 (refusal 1 0 0) viewed-none .0)
+
+refused-view-not-same : (b : ℕ) (bs : List ℕ) → SaysRefusedView viewed (λ s h n. b ∷ bs) viewedFlag viewedPart → ⊥
+refused-view-not-same b bs h = cons≢nil (h [] [] 1 (refusal 1 0 0) viewed-none .2)
+
+-- A view that is never shown, and always flagged as the set's: shut out by the contracts of `viewed` and `view`, and by `view-shows`.
+refused-view-met-by-none : (A : List ℕ → List ℕ → ℕ → Viewed) → SaysRefusedView A (λ s h n. []) (λ v. 0) (λ v. record { place = 0; length = 0 })
+refused-view-met-by-none A s h n r e = (refl, refl, refl)
 
 -- ---- demand 2: reading
 

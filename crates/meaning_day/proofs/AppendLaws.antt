@@ -81,7 +81,7 @@ build-joined f s es h st =
     let z : 0 + length f ≡ length f = omega arith in
     rw z at (sets-joined maxSets 0 f s es h (starts-over s st))
 
-build-one : (f s : List ℕ) (room : ℕ) (es : List DayEntry) (fs : List Field) → setsFrom maxSets 0 f ≡ done es → read s ≡ done (parsed fs [])
+pub build-one : (f s : List ℕ) (room : ℕ) (es : List DayEntry) (fs : List Field) → setsFrom maxSets 0 f ≡ done es → read s ≡ done (parsed fs [])
     → build (f ++ s) room ≡ oneMore (length f) fs es (length es) room
 unfolding build
 build-one f s room es fs h e = go (leb (length es + 1) maxSets) refl

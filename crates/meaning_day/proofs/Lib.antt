@@ -8,4 +8,5 @@ pub mod BuiltLaws
 pub mod DayAsking
 pub mod DayDecided
 pub mod LookupLaws
+pub mod WrittenLaws
 pub mod GrownLaws

@@ -1,4 +1,4 @@
--- What follows from the rules of sender and receiver.
+-- What follows from the rules of sender and receiver; what of them is exact, the refusals of a set, the form of a block, the cuts; and what the theorems shut out.
 pub mod DamageLaws
 pub mod ArrivalLaws
 pub mod SetBlockLaws
@@ -7,4 +7,7 @@ pub mod LossLaws
 pub mod CarriedExample
 pub mod TransferLaws
 pub mod CableNumbers
+pub mod SendExact
+pub mod FormExact
+pub mod CutExact
 pub mod ShutOutCable

@@ -6,14 +6,14 @@
 use mathlib.Core.Path.{_≡_, refl, sym, ap, _∙_, subst}
 use mathlib.Core.Bool.{Bool, true, false, cond, _&&_, true≢false}
 use mathlib.Core.List.{List, [], _∷_, _++_, cons≢nil}
-use mathlib.Core.Logic.{_⊎_, inl, inr, _≢_}
+use mathlib.Core.Logic.{_⊎_, inl, inr, _≢_, _↔_}
 use Prim.Native.Nat.{ℕ, zero, suc, _+_, _-_, _*_, _/_, _≤_, _<_}
 use native.Mathlib.Omega.{arith}
 use native.Mathlib.Numerals.{add-one}
 use lib.ListN.{length, take, drop, getD, set, replicate, length-replicate}
 use lib.Seq.{take-at, take-add, take-all}
 use lib.Dec.{leb, eqb}
-use borrow.Author.Tests.{leb-true, leb-false, eqb-true, eqb-false, ne-eqb}
+use borrow.Author.Tests.{leb-true, leb-false, le-leb, eqb-true, eqb-false, ne-eqb}
 use Rattle.meaning.specs.declared.Refusal.{Refusal}
 use Rattle.meaning.specs.declared.Made.{Made}
 use Rattle.meaning.specs.declared.Made.the-variants.{Done as MadeDone, Refused}
@@ -63,6 +63,12 @@ use Rattle.theory_cable.proofs.DamageLaws.{one-byte, one-byte-seen}
 use Rattle.theory_cable.proofs.LossLaws.{delivered-arrived, delivered-room, arrived-or-given-up, agree-again}
 use Rattle.theory_cable.proofs.TransferLaws.{cableOf, Told, transfer-carried, transfer-arrived, transfer-ends}
 use Rattle.theory_cable.proofs.CableNumbers.{senderNumbers, receiverNumbers, send-numbers, block-numbers, receive-numbers}
+use Rattle.meaning_cable.specs.Stream.{separator}
+use Rattle.meaning_cable.specs.Blocks.{maxData}
+use Rattle.theory_cable.specs.CableBreaches.{SendRefused}
+use Rattle.theory_cable.proofs.SendExact.{alone-refused-with, send-refused-with, begin-refused-with, block-refused-with}
+use Rattle.theory_cable.proofs.FormExact.{form-exactly}
+use Rattle.theory_cable.proofs.CutExact.{full-blocks, short-blocks}
 
 -- ---- the inputs
 
@@ -2142,3 +2148,154 @@ one-byte-refused-met-by-refusing-receive B s h i c bs e k v l vb n st buf = inl 
 
 one-byte-refused-met-by-refusing-block : (r : List ℕ → ℕ → ℕ → Refusal) (R : Taker) → SaysOneByteRefused (λ s i c. refused (r s i c)) R
 one-byte-refused-met-by-refusing-block r R s h i c bs e k v l vb n st buf = refused-done e
+
+-- ---- the refusals of a set, exactly
+
+-- alone-refused-with, and in the same words send-refused-with, begin-refused-with for any record and block-refused-with for any block: nothing given
+abbrev SaysSendRefusedWith : {A : Type 0} → (List ℕ → Reply A) → Type 0
+SaysSendRefusedWith B = (s : List ℕ) (r : Refusal) → (B s ≡ refused r) ↔ SendRefused s r
+
+send-refused-with-says : SaysSendRefusedWith setAlone × SaysSendRefusedWith blocksOf × ((l : Link) → SaysSendRefusedWith (send l true)) × ((i c : ℕ) → SaysSendRefusedWith (λ s. block s i c))
+send-refused-with-says = (alone-refused-with, send-refused-with, begin-refused-with, λ i c s. block-refused-with s i c)
+
+send-refused-with-at : {A : Type 0} (B : List ℕ → Reply A) → SaysSendRefusedWith B → (s : List ℕ) (r : Refusal) → (B s ≡ refused r) ↔ (blocksOf s ≡ refused r)
+send-refused-with-at B h s r = (λ e. send-refused-with s r .1 (h s r .0 e), λ e. h s r .1 (send-refused-with s r .0 e))
+
+send-refused-with-not-refusing : {A : Type 0} (r : List ℕ → Refusal) → SaysSendRefusedWith {A = A} (λ s. refused (r s)) → ⊥
+send-refused-with-not-refusing r h = refused-done (sym (send-refused-with-at (λ s. refused (r s)) h p (r p) .0 refl) ∙ blocks-p)
+
+send-refused-with-not-same : {A : Type 0} (a : Reply A) → SaysSendRefusedWith (λ s. a) → ⊥
+send-refused-with-not-same (refused r) h = send-refused-with-not-refusing (λ s. r) h
+send-refused-with-not-same (done x) h = refused-done (sym (send-refused-with-at (λ s. done x) h [] (refusal 1 0 0) .1 blocks-none))
+
+-- nor one that refuses what it should, all by 1
+abbrev allByOne : {A : Type 0} → Reply A → Reply A
+allByOne (refused r) = refused (refusal 1 0 0)
+allByOne (done x) = done x
+
+send-refused-with-not-one-number : SaysSendRefusedWith (λ s. allByOne (blocksOf s)) → ⊥
+send-refused-with-not-one-number h =
+    let e = sym (ap allByOne blocks-two-sets) ∙ send-refused-with-at (λ s. allByOne (blocksOf s)) h (p ++ p) (refusal 18 51 0) .1 blocks-two-sets in
+    let z : _≡_ {A = ℕ} 1 18 = ap (λ (y : Refusal). y .no) (refused-same e) in
+    omega arith
+
+-- nor one that does not look at what follows the set
+read-two-sets : read (p ++ p) ≡ done (parsed pLines p)
+unfolding computes p pLines
+read-two-sets = refl
+
+send-refused-with-not-first-set : SaysSendRefusedWith read → ⊥
+send-refused-with-not-first-set h = refused-done (sym (send-refused-with-at read h (p ++ p) (refusal 18 51 0) .1 blocks-two-sets) ∙ read-two-sets)
+
+-- It does not say how many blocks there are else. Shut out by `cuts`.
+abbrev twoAlways : Reply ℕ → Reply ℕ
+twoAlways (refused r) = refused r
+twoAlways (done n) = done 2
+
+send-refused-with-met-by-two : SaysSendRefusedWith (λ s. twoAlways (blocksOf s))
+send-refused-with-met-by-two s r = (λ e. send-refused-with s r .0 (to (blocksOf s) e), λ x. ap twoAlways (send-refused-with s r .1 x))
+  where
+    to : (y : Reply ℕ) → twoAlways y ≡ refused r → y ≡ refused r
+    to (refused y) e = e
+    to (done n) e = refused-done (sym e)
+
+-- ---- the form of a block, exactly
+
+-- form-exactly: nothing given
+abbrev SaysFormExactly : (List ℕ → List Fault) → Type 0
+SaysFormExactly F = (b : List ℕ) → (F b ≡ []) ↔ ((c l : ℕ) × (x : List ℕ) × Writable c l x × (b ≡ blockBytes c l x))
+
+form-exactly-says : SaysFormExactly blockFaults
+form-exactly-says = form-exactly
+
+form-exactly-at : (F : List ℕ → List Fault) → SaysFormExactly F → (b : List ℕ) → F b ≡ [] → blockFaults b ≡ []
+form-exactly-at F h b e = form-exactly b .1 (h b .0 e)
+
+-- a fault in every block
+form-exactly-not-refusing : (f : List ℕ → Fault) → SaysFormExactly (λ b. f b ∷ []) → ⊥
+form-exactly-not-refusing f h = cons≢nil (h (blockBytes 0 0 []) .1 (0, 0, [], empty-writable 0 (omega arith), refl))
+
+-- no fault in any
+form-exactly-not-faultless : SaysFormExactly (λ b. []) → ⊥
+unfolding computes cableComputes
+form-exactly-not-faultless h = cons≢nil (form-exactly-at (λ b. []) h [] refl)
+
+-- a look at the form alone: 0B00 without data has the CRC 6582h
+form-exactly-not-skipping : SaysFormExactly (λ b. ask (formOk b) (atLine badBlock 0 0)) → ⊥
+unfolding computes cableComputes
+form-exactly-not-skipping h = cons≢nil (form-exactly-at (λ b. ask (formOk b) (atLine badBlock 0 0)) h (text "0B006583\r") refl)
+
+-- It does not say which fault there is. Shut out by `receive-follows`, whose rows name 25 and 26.
+abbrev asForm : List Fault → List Fault
+asForm [] = []
+asForm (f ∷ fs) = atLine badBlock 0 0 ∷ []
+
+form-exactly-met-by-one-number : SaysFormExactly (λ b. asForm (blockFaults b))
+form-exactly-met-by-one-number b = (λ e. form-exactly b .0 (to (blockFaults b) e), λ x. ap asForm (form-exactly b .1 x))
+  where
+    to : (fs : List Fault) → asForm fs ≡ [] → fs ≡ []
+    to [] e = refl
+    to (f ∷ fs) e = absurd (cons≢nil e)
+
+-- ---- the cuts, in the words of blocks
+
+-- full-blocks: given data of more than 128 bytes
+abbrev SaysFullBlocks : Counter → Cutter → Type 0
+SaysFullBlocks C D = (x : List ℕ) → maxData < length x → (i : ℕ) → i + 1 < C x → length (D x i) ≡ maxData
+
+full-blocks-says : SaysFullBlocks blockCount blockData
+full-blocks-says = full-blocks
+
+-- a cut every 64 bytes, though the data of all blocks are the data, and no block has more than 128
+full-blocks-not-halves : SaysFullBlocks (λ x. (length x + 63) / 64) (λ x i. take 64 (drop (64 * i) x)) → ⊥
+full-blocks-not-halves h = let z : _≡_ {A = ℕ} 64 128 = h (replicate 129 0) (omega arith) 0 (omega arith) in omega arith
+
+-- no data in any block, or any other number of bytes
+full-blocks-not-none : SaysFullBlocks blockCount (λ x i. []) → ⊥
+unfolding computes cableComputes
+full-blocks-not-none h = let z : _≡_ {A = ℕ} 0 128 = h (replicate 129 0) (omega arith) 0 (omega arith) in omega arith
+
+-- All data in one block: shut out by `data-length`, `count-least`. As many zeros in each: shut out by `blocks-join`.
+full-blocks-met-by-one-block : SaysFullBlocks (λ x. 1) (λ x i. x)
+full-blocks-met-by-one-block x h i l = absurd (omega arith)
+
+full-blocks-met-by-zeros : (C : Counter) → SaysFullBlocks C (λ x i. replicate maxData 0)
+full-blocks-met-by-zeros C x h i l = length-replicate {A = ℕ} maxData 0
+
+-- short-blocks: given two lines or more that can be written, whose data fit one block
+abbrev SaysShortBlocks : Counter → Cutter → Type 0
+SaysShortBlocks C D =
+    (f g : Field) (fs : List Field) → Every Sound (f ∷ g ∷ fs) → length (stream (f ∷ g ∷ fs)) ≤ maxData
+    → (C (stream (f ∷ g ∷ fs)) ≡ 2) × (D (stream (f ∷ g ∷ fs)) 0 ≡ bareThen f (separator ∷ [])) × (D (stream (f ∷ g ∷ fs)) 1 ≡ stream (g ∷ fs))
+
+short-blocks-says : SaysShortBlocks blockCount blockData
+short-blocks-says = short-blocks
+
+-- what it asks of P
+short-p : (C : Counter) (D : Cutter) → SaysShortBlocks C D → (C (stream pLines) ≡ 2) × (length (D (stream pLines) 0) ≡ 12) × (length (D (stream pLines) 1) ≡ 34)
+unfolding computes cableComputes pLines
+short-p C D h =
+    let x = h (line 8000 "6300") (line 8100 "00051") (drop 2 pLines) sound-p (omega arith) in
+    (x .0, ap length (x .1), ap length (x .2))
+
+-- all data in one block, or a cut in the middle
+short-blocks-not-one-block : SaysShortBlocks (λ x. 1) (λ x i. x) → ⊥
+short-blocks-not-one-block h = omega (arith, short-p (λ x. 1) (λ x i. x) h .0)
+
+short-blocks-not-halves : SaysShortBlocks (λ x. 2) (λ x i. take 23 (drop (23 * i) x)) → ⊥
+unfolding computes cableComputes pLines
+short-blocks-not-halves h = let z : _≡_ {A = ℕ} 23 12 = short-p (λ x. 2) (λ x i. take 23 (drop (23 * i) x)) h .1 in omega arith
+
+-- the same in every block
+short-blocks-not-same : (C : Counter) (y : List ℕ) → SaysShortBlocks C (λ x i. y) → ⊥
+short-blocks-not-same C y h = let z = short-p C (λ x i. y) h in omega (arith, z .1, z .2)
+
+-- Of data that do not fit one block it says nothing. Shut out by the one above, with `blocks-join`.
+abbrev onlyShort : Counter → Counter
+onlyShort C x = cond (leb (length x) maxData) (C x) 0
+
+short-blocks-met-by-none-else : SaysShortBlocks (onlyShort blockCount) blockData
+short-blocks-met-by-none-else f g fs h l =
+    let x = short-blocks f g fs h l in
+    let e : onlyShort blockCount (stream (f ∷ g ∷ fs)) ≡ blockCount (stream (f ∷ g ∷ fs)) = rw (le-leb (length (stream (f ∷ g ∷ fs))) maxData l) in
+    (e ∙ x .0, x .1, x .2)

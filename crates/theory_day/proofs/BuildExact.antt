@@ -21,13 +21,13 @@ use Rattle.meaning.proofs.FaultLaws.{refused-done}
 use Rattle.meaning.proofs.Demands.{judge-read, read-judge}
 use Rattle.keeps.specs.Keeps.{SetAtFront}
 use Rattle.keeps.proofs.Exact.{accepted-exactly}
-use Rattle.breaches.proofs.CallExact.{refused-same}
+use Rattle.breaches.proofs.CallExact.{refused-same, read-refused}
 use Rattle.meaning_day.specs.declared.DayEntry.{DayEntry}
 use Rattle.meaning_day.specs.Days.{maxSets, dayEntry, setsFrom, build}
 use Rattle.meaning_day.proofs.DayLaws.{then-same, then-twice, no-sets, set-before, set-refused, set-too-many, built-sets}
 use Rattle.theory_day.specs.DayRules.{entryAt, SetOf, startOf, SetsUpTo, Builds}
 use Rattle.theory_day.specs.DayBreaches.{OwnRefusal, BuildRefused, own-refusal, too-many, no-room}
-use Rattle.theory_day.proofs.SetInFile.{starts-within, ends-within, rest-is, set-of, set-read, set-entry, read-refused}
+use Rattle.theory_day.proofs.SetInFile.{starts-within, ends-within, rest-is, set-of, set-read, set-entry}
 
 -- ---- set after set
 

@@ -12,7 +12,6 @@ use lib.Seq.{drop-drop}
 use borrow.Author.Tests.{leb-false, eqb-true, eqb-false}
 use Rattle.meaning.specs.declared.Refusal.{Refusal}
 use Rattle.meaning.specs.declared.Row.{Row}
-use Rattle.meaning.specs.declared.Judged.the-variants.{Refused}
 use Rattle.meaning.specs.declared.SetType.{SetType}
 use Rattle.meaning.specs.declared.SetType.the-variants.{T6300, T6301, T6302, T6310, T6311}
 use Rattle.meaning.specs.Field.{Field, labelAtLine}
@@ -21,19 +20,16 @@ use Rattle.meaning.specs.Refusals.{Reply, refused, done}
 use Rattle.meaning.specs.Pieces.{Parsed, parsed}
 use Rattle.meaning.specs.Lines.{lineLead, size, offset, render}
 use Rattle.meaning.specs.Rules.{profile}
-use Rattle.meaning.specs.Reading.{read, knownNumber, judged, judge}
+use Rattle.meaning.specs.Reading.{read, knownNumber}
 use Rattle.meaning.proofs.Bools.{end-is}
 use Rattle.meaning.proofs.FaultLaws.{refused-done}
-use Rattle.meaning.proofs.AnswerLaws.{refused-accepted, refusal-same}
 use Rattle.meaning.proofs.LineLaws.{take-render}
 use Rattle.meaning.proofs.RowLaws.{some-same}
 use Rattle.meaning.proofs.SetLaws.{accepted, read-render}
 use Rattle.keeps.specs.Keeps.{HasRow, AtSetLevel, Repeats, KeepsRules}
 use Rattle.keeps.proofs.RulesExact.{profile-typed}
 use Rattle.keeps.proofs.Exact.{accepted-keeps, keeps-standing, keeps-accepted}
-use Rattle.breaches.specs.Breaches.{FirstBreach}
-use Rattle.breaches.proofs.FirstOnly.{refused-exactly-with}
-use Rattle.breaches.proofs.CallExact.{refused-same}
+use Rattle.breaches.proofs.CallExact.{refused-same, read-refused}
 use Rattle.meaning_day.specs.declared.DayEntry.{DayEntry}
 use Rattle.meaning_day.specs.Days.{patientLabel, linesBefore, dayEntry, placed}
 use Rattle.meaning_day.proofs.PatientLaws.{patient-there}
@@ -133,15 +129,6 @@ module _ (f : List ℕ) (e : DayEntry) (x : SetOf f e) where
       ap read bytes ∙ read-render (x .lines) [] (keeps-standing (drop (e .offset) f) (x .set-type) (x .lines) (x .rest) (x .keeps)) refl
 
 -- ---- what is refused at an offset
-
--- reading refuses with the first breach
-pub read-refused : (s : List ℕ) (r : Refusal) → (read s ≡ refused r) ↔ FirstBreach s r
-unfolding judge
-read-refused s r = (λ e. refused-exactly-with s r .0 (ap judged e), λ b. go (read s) refl (refused-exactly-with s r .1 b))
-  where
-    go : (y : Reply Parsed) → read s ≡ y → judged y ≡ Refused r → read s ≡ refused r
-    go (refused y) q f = q ∙ ap refused (refusal-same f)
-    go (done d) q f = refused-accepted (sym f)
 
 -- "the set's own, placed in the file"
 pub own-refused : (f : List ℕ) (at : ℕ) (r : Refusal) → (placed at (read (drop at f)) ≡ refused r) ↔ OwnRefusal f at r

@@ -4,28 +4,38 @@ use mathlib.Core.Path.{_≡_, refl, sym, ap, _∙_}
 use mathlib.Core.Bool.{Bool, true, false, true≢false}
 use mathlib.Core.List.{List, [], _∷_, _++_}
 use mathlib.Core.Logic.{_↔_}
-use Prim.Native.Nat.{ℕ, suc, _*_, _≤_, _<_}
+use Prim.Native.Nat.{ℕ, suc, _+_, _*_, _≤_, _<_}
 use native.Mathlib.Omega.{arith}
-use lib.ListN.{length, take, drop, getD, replicate}
+use lib.ListN.{length, take, drop, getD, replicate, length-append}
 use Rattle.meaning.specs.declared.Refusal.{Refusal}
 use Rattle.meaning.specs.declared.Made.{Made}
-use Rattle.meaning.specs.declared.Made.the-variants.{Done}
+use Rattle.meaning.specs.declared.Made.the-variants.{Done, Refused}
 use Rattle.meaning.specs.Field.{Field}
 use Rattle.meaning.specs.Refusals.{Reply, refused, done, refusal}
 use Rattle.meaning.specs.Pieces.{parsed}
+use Rattle.meaning.specs.Lines.{startsSet}
 use Rattle.meaning.specs.Reading.{read}
+use Rattle.meaning.specs.Lists.{list, write}
 use Rattle.meaning.specs.Answers.{Call, madeCount}
 use Rattle.meaning.specs.Computes.{computes}
 use Rattle.meaning.proofs.Asking.{text, line}
+use Rattle.meaning.proofs.Bools.{Every}
 use Rattle.meaning.proofs.FaultLaws.{refused-done, done-same}
+use Rattle.meaning.proofs.AnswerLaws.{refused-made, made-same}
+use Rattle.meaning.proofs.EntryLaws.{Byte}
+use Rattle.meaning.proofs.WriterLaws.{listOf}
 use Rattle.meaning.proofs.NumberLaws.{Numbered, OneOf}
 use Rattle.breaches.proofs.CallExact.{refused-same}
+use Rattle.breaches.proofs.ShutOutExact.{SaysRefusedCall}
 use Rattle.meaning_day.specs.declared.DayEntry.{DayEntry}
-use Rattle.meaning_day.specs.Days.{build, append, matches, lookup}
-use Rattle.meaning_day.specs.DayCalls.{columns, entriesIn, lookupCall}
+use Rattle.meaning_day.specs.Days.{maxSets, build, append, matches, lookup}
+use Rattle.meaning_day.specs.DayCalls.{columns, entriesIn, buildCall, appendCall, lookupCall}
 use Rattle.meaning_day.specs.DayComputes.{dayComputes}
+use Rattle.meaning_day.proofs.DayDemands.{refused-build, refused-append, refused-lookup}
+use Rattle.meaning_day.proofs.DayLaws.{built-sets}
 use Rattle.meaning_day.proofs.BuiltLaws.{partOf}
-use Rattle.meaning_day.proofs.AppendLaws.{OneSet, append-as-built, Built, built-by-call}
+use Rattle.meaning_day.proofs.AppendLaws.{OneSet, append-as-built, refused-alike, append-exactly, Built, built-by-call, built-entries, append-stays-built, built-empty}
+use Rattle.meaning_day.proofs.WrittenLaws.{list-set-list-in-file}
 use Rattle.meaning_day.proofs.LookupLaws.{patientOf, match-exact}
 use Rattle.theory_day.specs.DayRules.{noEntry, Builds, Appends, Finds, FindsPatient}
 use Rattle.theory_day.specs.DayBreaches.{BuildRefused, AppendRefused, LookupRefused}
@@ -326,6 +336,232 @@ append-as-built-met-by-refusing r f s room es lent b h o = refl
 
 append-as-built-met-by-none : SaysAppendAsBuilt (λ f room. done []) (λ f old lent n. done [])
 append-as-built-met-by-none f s room es lent b h o = refl
+
+-- append-exactly: given an index that was built, which the lent entries start with. Its two halves as one
+abbrev SaysAppendExactly : Builder → Appender → Type 0
+SaysAppendExactly build append =
+    (f s : List ℕ) (room : ℕ) (es lent xs : List DayEntry) → build f room ≡ done es → take (length es) lent ≡ es
+    → (append (f ++ s) (length f) lent (length es) ≡ done xs) ↔ ((build (f ++ s) (length lent) ≡ done xs) × (length xs ≡ length es + 1))
+
+append-exactly-says : SaysAppendExactly build append
+append-exactly-says = append-exactly
+
+-- what it asks of the two appendings
+exactly-two : (A : Appender) → SaysAppendExactly build A → A two 51 lent 1 ≡ done twoIndex
+unfolding computes dayComputes p q two
+exactly-two A h = h p q 8 pIndex lent twoIndex build-p refl .1 (refl, refl)
+
+exactly-p : (A : Appender) → SaysAppendExactly build A → A p 0 lent 0 ≡ done pIndex
+unfolding computes dayComputes p
+exactly-p A h = h [] p 8 [] lent pIndex build-none refl .1 (refl, refl)
+
+append-exactly-not-refusing : (r : List ℕ → ℕ → List DayEntry → ℕ → Refusal) → SaysAppendExactly build (λ f old lent n. refused (r f old lent n)) → ⊥
+append-exactly-not-refusing r h = refused-done (exactly-p (λ f old lent n. refused (r f old lent n)) h)
+
+append-exactly-not-same : (a : Reply (List DayEntry)) → SaysAppendExactly build (λ f old lent n. a) → ⊥
+append-exactly-not-same a h = longer (omega arith) (sym (exactly-p (λ f old lent n. a) h) ∙ exactly-two (λ f old lent n. a) h)
+
+append-exactly-not-idle : SaysAppendExactly build (λ f old lent n. idle (take n lent) (append f old lent n)) → ⊥
+append-exactly-not-idle h =
+    longer (omega arith) (sym (ap (idle (take 1 lent)) append-two) ∙ exactly-two (λ f old lent n. idle (take n lent) (append f old lent n)) h)
+
+-- It does not say by which number is refused else. Shut out by `append-refused-with`.
+append-exactly-met-by-one-number : SaysAppendExactly build (λ f old lent n. byOne (append f old lent n))
+append-exactly-met-by-one-number f s room es lent xs b h =
+    let x = append-exactly f s room es lent xs b h in
+    let y = done-by-one (append (f ++ s) (length f) lent (length es)) xs in
+    (λ e. x .0 (y .0 e), λ e. y .1 (x .1 e))
+
+-- refused-alike: given an index that was built, and bytes that start a set and are refused by themselves
+abbrev SaysRefusedAlike : Builder → Appender → Type 0
+SaysRefusedAlike build append =
+    (f s : List ℕ) (room room′ : ℕ) (es lent : List DayEntry) (count : ℕ) (r : Refusal) → build f room ≡ done es → startsSet s ≡ true → read s ≡ refused r
+    → (append (f ++ s) (length f) lent count ≡ refused (refusal (r .no) (length f + r .place) (r .label)))
+    × (build (f ++ s) room′ ≡ refused (refusal (r .no) (length f + r .place) (r .label)))
+
+refused-alike-says : SaysRefusedAlike build append
+refused-alike-says = refused-alike
+
+-- what it asks of bytes without a length: after P, and after nothing
+alike-cut : (A : Appender) → SaysRefusedAlike build A → A cut 51 lent 1 ≡ refused (refusal 2 51 0)
+unfolding computes dayComputes p cut
+alike-cut A h = h p (text "xyz8000") 8 8 pIndex lent 1 (refusal 2 0 0) build-p refl refl .0
+
+alike-alone : (A : Appender) → SaysRefusedAlike build A → A (text "xyz8000") 0 lent 0 ≡ refused (refusal 2 0 0)
+unfolding computes dayComputes
+alike-alone A h = h [] (text "xyz8000") 8 8 [] lent 0 (refusal 2 0 0) build-none refl refl .0
+
+refused-alike-not-same : (a : Reply (List DayEntry)) → SaysRefusedAlike build (λ f old lent n. a) → ⊥
+refused-alike-not-same a h =
+    let e = sym (alike-alone (λ f old lent n. a) h) ∙ alike-cut (λ f old lent n. a) h in
+    let z : _≡_ {A = ℕ} 0 51 = ap (λ (y : Refusal). y .place) (refused-same e) in
+    omega arith
+
+-- nor one that appends whatever is given, or places refusals in the appended bytes
+refused-alike-not-lenient : (x : List ℕ → ℕ → List DayEntry → ℕ → List DayEntry) → SaysRefusedAlike build (λ f old lent n. done (x f old lent n)) → ⊥
+refused-alike-not-lenient x h = refused-done (sym (alike-cut (λ f old lent n. done (x f old lent n)) h))
+
+refused-alike-not-at-zero : SaysRefusedAlike build (λ f old lent n. atZero (append f old lent n)) → ⊥
+refused-alike-not-at-zero h =
+    let e = sym (ap atZero append-cut) ∙ alike-cut (λ f old lent n. atZero (append f old lent n)) h in
+    let z : _≡_ {A = ℕ} 0 51 = ap (λ (y : Refusal). y .place) (refused-same e) in
+    omega arith
+
+-- One that makes no entry of an accepted set meets it. Shut out by `append-as-built`.
+abbrev onlyRefused : Reply (List DayEntry) → Reply (List DayEntry)
+onlyRefused (refused r) = refused r
+onlyRefused (done es) = done []
+
+refused-alike-met-by-none : SaysRefusedAlike build (λ f old lent n. onlyRefused (append f old lent n))
+refused-alike-met-by-none f s room room′ es lent count r b st e =
+    let x = refused-alike f s room room′ es lent count r b st e in
+    (ap onlyRefused (x .0), x .1)
+
+-- append-stays-built: given numbers that start with an index of the bytes before the old length, and an appending that answers a count
+abbrev SaysAppendStaysBuilt : (List ℕ → ℕ → List ℕ → ℕ → Call ℕ) → Type 0
+SaysAppendStaysBuilt A =
+    (f : List ℕ) (old : ℕ) (index : List ℕ) (n m : ℕ) → Built (take old f) index n → A f old index n .answer ≡ Done m → Built f (A f old index n .buffer) m
+
+append-stays-built-says : SaysAppendStaysBuilt appendCall
+append-stays-built-says = append-stays-built
+
+-- what an index of P is, and one of both sets: so many entries, whose numbers stand at the front
+built-alone : (f : List ℕ) (es : List DayEntry) → build f 8 ≡ done es → (index : List ℕ) (m : ℕ) → Built f index m → (m ≡ length es) × (take (m * 4) index ≡ columns es)
+built-alone f es e index m b =
+    let y = built-entries f index m b in
+    let same : y .1 ≡ es = done-same (sym (built-sets f (y .0) (y .1) (y .2) .0) ∙ built-sets f 8 es e .0) in
+    (sym (y .3) ∙ ap length same, y .5 ∙ ap columns same)
+
+built-p : Built p (columns pIndex) 1
+unfolding computes dayComputes p
+built-p = built-by-call p (replicate 4 7) 1 refl
+
+append-stays-built-not-same : (m : ℕ) (o : List ℕ) → SaysAppendStaysBuilt (λ f old index n. record { answer = Done m; buffer = o }) → ⊥
+unfolding p q two
+append-stays-built-not-same m o h =
+    let a = built-alone p pIndex build-p o m (h p 0 [] 0 m (built-empty []) refl) in
+    let b = built-alone two twoIndex build-two o m (h two 51 (columns pIndex) 1 m built-p refl) in
+    omega (arith, a .0, b .0)
+
+-- nor one that counts the set, and leaves every number as it was
+append-stays-built-not-idle : SaysAppendStaysBuilt (λ f old index n. record { answer = Done (suc n); buffer = index }) → ⊥
+append-stays-built-not-idle h =
+    let a = built-alone p pIndex build-p (7 ∷ 7 ∷ 7 ∷ 7 ∷ []) 1 (h p 0 (7 ∷ 7 ∷ 7 ∷ 7 ∷ []) 0 1 (built-empty (7 ∷ 7 ∷ 7 ∷ 7 ∷ [])) refl) in
+    let z : _≡_ {A = ℕ} 7 0 = ap (λ (ns : List ℕ). getD ns 0 0) (a .1) in
+    omega arith
+
+-- One that refuses all meets it. Shut out by `append-as-built`.
+append-stays-built-met-by-refusing : (r : List ℕ → ℕ → List ℕ → ℕ → Refusal) → SaysAppendStaysBuilt (λ f old index n. record { answer = Refused (r f old index n); buffer = index })
+append-stays-built-met-by-refusing r f old index n m b e = refused-made e
+
+-- built-empty: nothing given. `Built` of any call in the place of `buildCall`
+record BuiltBy (B : List ℕ → List ℕ → Call ℕ) (f index : List ℕ) (n : ℕ) : Type 0 where
+  lent : List ℕ
+  answered : B f lent .answer ≡ Done n
+  front : take (n * 4) index ≡ take (n * 4) (B f lent .buffer)
+
+abbrev SaysBuiltEmpty : (List ℕ → List ℕ → Call ℕ) → Type 0
+SaysBuiltEmpty B = (index : List ℕ) → BuiltBy B [] index 0
+
+built-empty-says : SaysBuiltEmpty buildCall
+built-empty-says index = let b = built-empty index in record { lent = b .lent; answered = b .answered; front = b .front }
+
+built-empty-not-refusing : (r : List ℕ → List ℕ → Refusal) → SaysBuiltEmpty (λ f index. record { answer = Refused (r f index); buffer = index }) → ⊥
+built-empty-not-refusing r h = refused-made (h [] .answered)
+
+-- one that always finds a set
+built-empty-not-some : (n : ℕ) (o : List ℕ) → SaysBuiltEmpty (λ f index. record { answer = Done (suc n); buffer = o }) → ⊥
+built-empty-not-some n o h = omega (arith, made-same (h [] .answered))
+
+-- One that never finds a set meets it. Shut out by `built-exactly`.
+built-empty-met-by-none : (o : List ℕ) → SaysBuiltEmpty (λ f index. record { answer = Done 0; buffer = o })
+built-empty-met-by-none o index = record { lent = []; answered = refl; front = refl }
+
+-- ---- written, appended, and listed again
+
+-- list-set-list-in-file: given a list of bytes that was written, and an index that was built, with fewer sets than may be
+abbrev SaysListSetListInFile : (List ℕ → ℕ → Reply (List ℕ)) → Builder → (List ℕ → ℕ → Reply (List ℕ)) → Type 0
+SaysListSetListInFile W B L =
+    (f l s : List ℕ) (room room′ : ℕ) (es : List DayEntry) → Every Byte l → W l room ≡ done s → B f room′ ≡ done es → length es < maxSets
+    → (e : DayEntry) × (B (f ++ s) (length es + 1) ≡ done (es ++ (e ∷ []))) × (partOf (f ++ s) e ≡ s) × ((n : ℕ) → length l ≤ n → L (partOf (f ++ s) e) n ≡ done l)
+
+list-set-list-in-file-says : SaysListSetListInFile write build list
+list-set-list-in-file-says = list-set-list-in-file
+
+-- the lists of P and of the other set
+pList : List ℕ
+pList = listOf pLines
+
+qList : List ℕ
+qList = listOf (line 8000 "6300" ∷ line 8100 "00055" ∷ line 9218 "02.10" ∷ line 3000 "10027" ∷ [])
+
+bytes-p : Every Byte pList
+unfolding pList pLines
+bytes-p = omega arith
+
+bytes-q : Every Byte qList
+unfolding qList
+bytes-q = omega arith
+
+write-p : write pList 60 ≡ done p
+unfolding computes p pList pLines
+write-p = refl
+
+write-q : write qList 60 ≡ done q
+unfolding computes q qList
+write-q = refl
+
+lists-differ : pList ≡ qList → ⊥
+unfolding computes pList pLines qList
+lists-differ e = let z : _≡_ {A = ℕ} 22 26 = ap length e in omega arith
+
+-- what it asks of a lister: of the list of P, written and put after no bytes
+listed-p : (L : List ℕ → ℕ → Reply (List ℕ)) → SaysListSetListInFile write build L → L p 99 ≡ done pList
+unfolding computes pList pLines
+listed-p L h =
+    let x = h [] pList p 60 8 [] bytes-p write-p build-none (omega arith) in
+    ap (λ (t : List ℕ). L t 99) (sym (x .2)) ∙ x .3 99 (omega arith)
+
+listed-q : (L : List ℕ → ℕ → Reply (List ℕ)) → SaysListSetListInFile write build L → L q 99 ≡ done qList
+unfolding computes qList
+listed-q L h =
+    let x = h [] qList q 60 8 [] bytes-q write-q build-none (omega arith) in
+    ap (λ (t : List ℕ). L t 99) (sym (x .2)) ∙ x .3 99 (omega arith)
+
+list-set-list-in-file-not-refusing-list : (r : List ℕ → ℕ → Refusal) → SaysListSetListInFile write build (λ s n. refused (r s n)) → ⊥
+list-set-list-in-file-not-refusing-list r h = refused-done (listed-p (λ s n. refused (r s n)) h)
+
+list-set-list-in-file-not-same-list : (a : Reply (List ℕ)) → SaysListSetListInFile write build (λ s n. a) → ⊥
+list-set-list-in-file-not-same-list a h = lists-differ (done-same (sym (listed-p (λ s n. a) h) ∙ listed-q (λ s n. a) h))
+
+-- an index that is always the same
+list-set-list-in-file-not-same-build : (es : List DayEntry) → length es < maxSets → SaysListSetListInFile write (λ f room. done es) list → ⊥
+list-set-list-in-file-not-same-build es few h =
+    let x = h [] pList p 60 8 es bytes-p write-p refl few in
+    omega (arith, ap length (done-same (x .1)), length-append es (x .0 ∷ []))
+
+-- a writer that makes always the same set
+list-set-list-in-file-not-same-write : (s : List ℕ) → SaysListSetListInFile (λ l room. done s) build list → ⊥
+list-set-list-in-file-not-same-write s h =
+    let x = h [] pList s 60 8 [] bytes-p refl build-none (omega arith) in
+    let y = h [] qList s 60 8 [] bytes-q refl build-none (omega arith) in
+    lists-differ (done-same
+    (sym (ap (λ (t : List ℕ). list t (length pList + length qList)) (sym (x .2)) ∙ x .3 (length pList + length qList) (omega arith))
+    ∙ (ap (λ (t : List ℕ). list t (length pList + length qList)) (sym (y .2)) ∙ y .3 (length pList + length qList) (omega arith))))
+
+-- A writer that refuses all, or an index that is always refused, meets it. Shut out by `list-write` (Demands), and by `built-exactly`.
+list-set-list-in-file-met-by-refusing-write : (r : List ℕ → ℕ → Refusal) → SaysListSetListInFile (λ l room. refused (r l room)) build list
+list-set-list-in-file-met-by-refusing-write r f l s room room′ es b w = refused-done w
+
+list-set-list-in-file-met-by-refusing-build : (r : List ℕ → ℕ → Refusal) → SaysListSetListInFile write (λ f room. refused (r f room)) list
+list-set-list-in-file-met-by-refusing-build r f l s room room′ es b w h = refused-done h
+
+-- ---- "All lent buffers then keep every byte and entry"
+
+-- refused-build, refused-append and refused-lookup, in the words of `SaysRefusedCall` (ShutOutExact of crate `breaches`, which has the trials): given a call that answers a refusal
+refused-day-call-says : SaysRefusedCall buildCall × SaysRefusedCall {X = List ℕ × ℕ × ℕ} (λ (f, old, count) index. appendCall f old index count)
+    × SaysRefusedCall {X = List ℕ × List ℕ × List ℕ} (λ (f, index, c) out. lookupCall f index c out)
+refused-day-call-says = (refused-build, λ (f, old, count) index r. refused-append f old index count r, λ (f, index, c) out r. refused-lookup f index c out r)
 
 -- ---- found exactly
 

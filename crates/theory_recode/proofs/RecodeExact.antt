@@ -9,26 +9,21 @@ use Prim.Native.Nat.{ℕ, _+_, _≤_, _<_}
 use native.Mathlib.Omega.{arith}
 use lib.Dec.{leb}
 use lib.ListN.{length, take}
-use lib.Seq.{take-all}
 use borrow.Author.Tests.{leb-true, leb-false, le-leb, lt-leb}
 use Rattle.meaning.specs.declared.Refusal.{Refusal}
-use Rattle.meaning.specs.declared.Judged.the-variants.{Refused}
 use Rattle.meaning.specs.Limits.{maxSetBytes}
 use Rattle.meaning.specs.Field.{Field, isNil}
 use Rattle.meaning.specs.Refusals.{Fault, atLine, Reply, refused, done, refusal, thenTo, verdict, withRoom, badUse, tooManyLines, noRoom, noSuchCharacter}
 use Rattle.meaning.specs.Pieces.{Parsed, parsed}
-use Rattle.meaning.specs.Lines.{size, offset, render}
-use Rattle.meaning.specs.Reading.{inSet, read, judged, judge}
+use Rattle.meaning.specs.Lines.{size, render}
+use Rattle.meaning.specs.Reading.{inSet, read}
 use Rattle.meaning.specs.Lists.{setWithRoom}
 use Rattle.meaning.specs.Corrections.{aloneFaults}
 use Rattle.meaning.proofs.Bools.{nil-is, and-left}
-use Rattle.meaning.proofs.AnswerLaws.{refused-accepted, refusal-same}
 use Rattle.meaning.proofs.FaultLaws.{ask-none, refused-done, cond-done, thenTo-done, verdict-done, withRoom-done}
 use Rattle.keeps.specs.Keeps.{Keeps}
 use Rattle.keeps.proofs.Exact.{accepted-keeps, keeps-accepted}
-use Rattle.breaches.specs.Breaches.{FirstBreach}
-use Rattle.breaches.proofs.CallExact.{refused-same}
-use Rattle.breaches.proofs.FirstOnly.{refused-exactly-with}
+use Rattle.breaches.proofs.CallExact.{refused-same, read-refused, whole-set}
 use Rattle.meaning_recode.specs.declared.Code.{Code}
 use Rattle.meaning_recode.specs.Recoding.{recodeFaults, recodeLines, recodeSet, recode}
 use Rattle.theory_recode.specs.RecodeRules.{Recoded, Recodes}
@@ -100,9 +95,6 @@ recoded-exactly b used w out = (recode-recodes b used w out, recodes-recode b us
 
 -- ---- refused
 
-whole-set : (fs : List Field) → offset fs (length fs) + 0 ≡ size fs
-whole-set fs = omega (arith, ap size (take-all (length fs) fs (omega arith)))
-
 module _ (room : ℕ) (w : Code) (fs : List Field) (r : Refusal) (s : OfSet fs) where
   abbrev new : List Field
   new = recodeLines w fs
@@ -151,15 +143,6 @@ module _ (room : ℕ) (w : Code) (fs : List Field) (r : Refusal) (s : OfSet fs) 
       let c = recoded-lines w fs gs s x in
       let q : r ≡ refusal noRoom (size new) 0 = e ∙ ap (λ (y : List Field). refusal noRoom (size y) 0) (c .1) in
       ap answer (c .0) ∙ rw (lt-leb (size new) room (subst (λ (y : List Field). room < size y) (c .1) l)) (ap refused (sym q))
-
--- the set's own refusals
-read-refused : (s : List ℕ) (r : Refusal) → (read s ≡ refused r) ↔ FirstBreach s r
-unfolding judge
-read-refused s r = (λ e. refused-exactly-with s r .0 (ap judged e), λ x. go (read s) refl (refused-exactly-with s r .1 x))
-  where
-    go : (y : Reply Parsed) → read s ≡ y → judged y ≡ Refused r → read s ≡ refused r
-    go (refused y) q f = q ∙ ap refused (refusal-same f)
-    go (done d) q f = refused-accepted (sym f)
 
 -- Recoding is refused with number, place and label r exactly if they are those of the first reason in the request's order.
 pub recode-refused-with : (b : List ℕ) (used : ℕ) (w : Code) (r : Refusal) → (recode b used w ≡ refused r) ↔ RecodeRefused b used w r

@@ -1,5 +1,6 @@
--- The published Unicode mapping files CP437.TXT and CP1252.TXT: the second column of each, the character of each byte by its Unicode number, in the order of the bytes, sixteen in a row.
--- Copied from the files; no definition of recoding is used.
+-- The character of each byte by its Unicode number, in the order of the bytes, sixteen in a row: the second column of two files that Unicode publishes, MAPPINGS/VENDORS/MICSFT/PC/CP437.TXT
+-- (table version 2.00) and MAPPINGS/VENDORS/MICSFT/WINDOWS/CP1252.TXT (table version 2.01). The files are not in the repository, so nothing here can be held against them. Python's codecs cp437 and
+-- cp1252 are made from the same files, and tests/codes compares both columns with these codecs, entry by entry. No definition of recoding is used.
 use mathlib.Core.List.{List, [], _∷_}
 use Prim.Native.Nat.{ℕ}
 use lib.ListN.{getD}
