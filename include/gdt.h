@@ -265,9 +265,9 @@ enum { GDT_TAKEN = 1, GDT_AGAIN = 2, GDT_WHOLE = 3 };
 /* The first byte of a reply. The second one is a digit: '0' + ack of what the receiver answers. */
 enum { GDT_ACK = 0x06 };
 
-/* What the receiver answers: `what`; its record after the call, to be kept; and the number of the reply to send: `ack` is 1 if `no` is 0, for
-   ACK 1, and 0 if the block is refused, for ACK 0. Who cannot store a whole set sends ACK 0 all the same, and keeps the record from before the
-   call: then the sender sends that block again. */
+/* What the receiver answers: `what`; its record after the call, to be kept; and which reply is to be sent: `ack` is 1 if `no` is 0, for ACK 1,
+   and 0 if the block is refused, for ACK 0. A program that cannot store a whole set sends ACK 0 by itself, and keeps the record from before
+   the call: then the sender tries again. */
 struct gdt_received {
     size_t no, place, label;
     size_t what;
@@ -287,8 +287,10 @@ struct gdt_received {
    B00 is put at the front: take a whole set out of the buffer before the next block. What was received is not judged; gdt_judge does that.
 
    Its symbol is gdt_receive_2 since 0.2.1, when `ack` was added to the record: an object that was compiled with an older header has less memory
-   for the record, and does not link. Source code calls gdt_receive, as before. */
+   for the record, and does not link. Source code calls gdt_receive, as before. (Another #define of that name is let stand.) */
+#ifndef gdt_receive
 #define gdt_receive gdt_receive_2
+#endif
 struct gdt_received gdt_receive(struct gdt_receiver receiver, uint8_t *buffer, size_t room, const uint8_t *block, size_t block_length);
 
 #ifdef __cplusplus
