@@ -41,18 +41,19 @@
    lines joined by one 1Ch in the place of their 0Dh 0Ah, none after the last; the three digits of a line still count both. They are cut every
    128 bytes; data of at most 128 bytes are cut once, after their first 1Ch: so a set has two blocks or more. A block is the sequence count, a
    digit; the label, B00 for the first block, B02 for the last, B01 between; the data; four upper-case hex digits, the CRC-16 of all before
-   them, by the program of appendix C; and 0Dh. ACK 1 is 06h 31h, ACK 0 is 06h 30h. Each end keeps a record of its own: zeros at the start,
-   then what the calls leave in it. A record may hold any numbers: nothing is assumed of it.
+   them, by the program of appendix C; and 0Dh. A reply is two bytes, GDT_ACK and a digit: ACK 1 is 06h 31h, ACK 0 is 06h 30h. Each end keeps a
+   record of its own: zeros at the start, then what the calls leave in it. A record may hold any numbers: nothing is assumed of it.
 
    A pointer must not be null, also if its length is 0. What is lent to be written overlaps nothing else that is lent.
    No call keeps a pointer, allocates, or uses more than 8 KiB of stack (that of the dynamic linker not counted, see docs/C.md). There is no
    other state than what is lent: calls may run in any threads at once, each on buffers of its own.
 
    Versions: docs/CHANGES.md says what each brought. Compile and link with the header and the archives of one version. While the major number
-   is 0, a new minor number may bring refusal numbers, calls and constants, and fields at the end of a record; and it may refuse what was
-   accepted before, if a new rule does. A new patch number moves no answer, no byte and no name. In every version `no` is 0 if and only if the
-   call was done: so take any other number for a refusal, also one that you do not know. A refusal number keeps its meaning, a constant its
-   name, a record the order of its fields, and a refused call leaves what was lent as it was.
+   is 0, a new minor number may bring refusal numbers and calls; and it may refuse what was accepted before, if a new rule does. A new patch
+   number moves no answer, no byte and no name. Both may bring constants, and fields at the end of a record: then the calls that fill such a
+   record have another symbol in the archive, by a #define here, so that an object that was compiled with an older header does not link. In
+   every version `no` is 0 if and only if the call was done: so take any other number for a refusal, also one that you do not know. A refusal
+   number keeps its meaning, a constant its name, a record the order of its fields, and a refused call leaves what was lent as it was.
 
    The proved library is five archives: libgdt.a; libgdtwrite.a for gdt_write; libgdtday.a for the three day calls; libgdtcable.a for the
    three calls of the cable; libgdtrecode.a for gdt_to_437 and gdt_to_1252. docs/C.md says how to link them. They are x86-64 code for Linux, in
@@ -74,8 +75,8 @@ extern "C" {
 /* The version, as numbers for #if and as text. */
 #define GDT_VERSION_MAJOR 0
 #define GDT_VERSION_MINOR 2
-#define GDT_VERSION_PATCH 0
-#define GDT_VERSION "0.2.0"
+#define GDT_VERSION_PATCH 1
+#define GDT_VERSION "0.2.1"
 
 /* The limits, for the sizes of buffers. */
 enum {
@@ -261,11 +262,17 @@ struct gdt_receiver {
 /* What became of a block: taken; acknowledged again, and nothing else; taken, and the set of `used` bytes is whole. */
 enum { GDT_TAKEN = 1, GDT_AGAIN = 2, GDT_WHOLE = 3 };
 
-/* What the receiver answers: `what`, and its record after the call, to be kept. The reply to send is ACK 1 if `no` is 0, else ACK 0. */
+/* The first byte of a reply. The second one is a digit: '0' + ack of what the receiver answers. */
+enum { GDT_ACK = 0x06 };
+
+/* What the receiver answers: `what`; its record after the call, to be kept; and which reply is to be sent: `ack` is 1 if `no` is 0, for ACK 1,
+   and 0 if the block is refused, for ACK 0. A program that cannot store a whole set sends ACK 0 by itself, and keeps the record from before
+   the call: then the sender tries again. */
 struct gdt_received {
     size_t no, place, label;
     size_t what;
     struct gdt_receiver receiver;
+    size_t ack;
 };
 
 /* The receiver: takes a block, all bytes up to and with its 0Dh, and puts the bytes of the set that it stands for into the buffer: 0Dh 0Ah
@@ -277,7 +284,13 @@ struct gdt_received {
    label and data. The next count (as at gdt_send) is taken: B01 and B02 in an open set, after the used bytes; B00 if none is open, at the
    front. Anything else is GDT_BAD_BLOCK. If a block that would be taken does not fit, GDT_NO_ROOM (place: the used bytes that it would
    lead to; 2^64 - 1 if they are more).
-   B00 is put at the front: take a whole set out of the buffer before the next block. What was received is not judged; gdt_judge does that. */
+   B00 is put at the front: take a whole set out of the buffer before the next block. What was received is not judged; gdt_judge does that.
+
+   Its symbol is gdt_receive_2 since 0.2.1, when `ack` was added to the record: an object that was compiled with an older header has less memory
+   for the record, and does not link. Source code calls gdt_receive, as before. (Another #define of that name is let stand.) */
+#ifndef gdt_receive
+#define gdt_receive gdt_receive_2
+#endif
 struct gdt_received gdt_receive(struct gdt_receiver receiver, uint8_t *buffer, size_t room, const uint8_t *block, size_t block_length);
 
 #ifdef __cplusplus

@@ -11,7 +11,7 @@ use Rattle.meaning_cable.specs.declared.Sent.the-variants.{Next, Refused as Ref
 use Rattle.meaning_cable.specs.declared.Receiver.{Receiver}
 use Rattle.meaning_cable.specs.declared.Received.{Received}
 use Rattle.meaning_cable.specs.declared.Received.the-variants.{Done, Refused as RefusedBlock}
-use Rattle.meaning_cable.specs.CableCalls.{sendCall, asked, keptBy}
+use Rattle.meaning_cable.specs.CableCalls.{sendCall, asked, keptBy, ackBy}
 use Rattle.gdtcable.specs.declared.SentReply.{SentReply}
 use Rattle.gdtcable.specs.declared.SentTurn.{SentTurn}
 use Rattle.gdtcable.specs.declared.ReceivedReply.{ReceivedReply}
@@ -61,7 +61,7 @@ abbrev pub receivedWhat : Received → ℕ
 receivedWhat (Done t) = t .what
 receivedWhat (RefusedBlock r) = 0
 
--- the refusal's number, place and label, 0 if there is none; what became of the block, 0 if it is refused; the receiver's state to keep
+-- the refusal's number, place and label, 0 if there is none; what became of the block, 0 if it is refused; the receiver's state to keep; the number of the reply to send
 abbrev pub receivedReply : Receiver → Received → ReceivedReply
 receivedReply s a = record {
   no = receivedRefusal a .no;
@@ -69,4 +69,5 @@ receivedReply s a = record {
   label = receivedRefusal a .label;
   what = receivedWhat a;
   receiver = keptBy s a;
+  ack = ackBy a;
 }

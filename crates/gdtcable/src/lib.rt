@@ -27,7 +27,7 @@ pub struct SentReply {
     pub count: usize,
 }
 
-// What the receiver answers: number 0, what became of the block, and its record after it; or the refusal, and the record that was given.
+// What the receiver answers: number 0, what became of the block, and its record after it; or the refusal, and the record that was given. Then the number of the reply to send.
 #[repr(C)]
 pub struct ReceivedReply {
     pub no: usize,
@@ -35,6 +35,7 @@ pub struct ReceivedReply {
     pub label: usize,
     pub what: usize,
     pub receiver: Receiver,
+    pub ack: usize,
 }
 
 // The link's record after a call of the sender, and the answer.
@@ -116,7 +117,7 @@ pub extern "C" fn gdt_block(
 
 // ---- the receiver
 
-// The numbers of what the receiver answers.
+// The numbers of what the receiver answers. "Refusals, answered ACK 0"; all else ACK 1.
 fn received_reply(receiver: Receiver, received: Received) -> ReceivedReply
     ensures { λ r. ⌜ r ≡ receivedReply receiver received ⌝ }
 {
@@ -129,6 +130,7 @@ fn received_reply(receiver: Receiver, received: Received) -> ReceivedReply
                 label: 0,
                 what: taken.what,
                 receiver: after,
+                ack: 1,
             }
         }
         Received::Refused(refusal) => ReceivedReply {
@@ -137,12 +139,18 @@ fn received_reply(receiver: Receiver, received: Received) -> ReceivedReply
             label: refusal.label,
             what: 0,
             receiver,
+            ack: 0,
         },
     }
 }
 
+// C calls it gdt_receive. Its symbol is another one than that of version 0.2.0, whose record had no `ack`: so that what was compiled for the shorter record does not link.
 #[no_mangle]
-pub extern "C" fn gdt_receive(receiver: Receiver, buffer: &mut [u8], block: &[u8]) -> ReceivedReply
+pub extern "C" fn gdt_receive_2(
+    receiver: Receiver,
+    buffer: &mut [u8],
+    block: &[u8],
+) -> ReceivedReply
     ensures { λ r. ⌜ (r ≡ receivedReply receiver (receivedCall (receive receiver (now (buffer .entry)) (now (block .entry))))) × (now (buffer .exit) ≡ receive receiver (now (buffer .entry)) (now (block .entry)) .buffer) ⌝ }
 {
     let received: Received = cable_receive::receive(receiver, buffer, block);

@@ -28,7 +28,7 @@ use Rattle.meaning_cable.specs.Stream.{separator, restored}
 use Rattle.meaning_cable.specs.Blocks.{throughFirst, blockCount, blockData, blockLabel, blockBytes, blockOf, block, blocksOf}
 use Rattle.meaning_cable.specs.Sending.{ack1, ack0, isAck, action, begun, turnOf, after, givenUp}
 use Rattle.meaning_cable.specs.Receiving.{blockFaults, ReceiveCall, ackOf, keeping, receive}
-use Rattle.meaning_cable.specs.CableCalls.{SendCall, sendCall, asked, counted, blockCall, receivedCall}
+use Rattle.meaning_cable.specs.CableCalls.{SendCall, sendCall, asked, counted, blockCall, receivedCall, ackBy}
 use Rattle.meaning_cable.specs.CableComputes.{cableComputes}
 
 -- ---- the CRC
@@ -391,6 +391,21 @@ receive-calls : map receivedCall (called freshReceiver 0 0 "a|b" ∷ called fres
     ≡ Done (record { what = 1; receiver = state 1 0 1 4 }) ∷ RefusedBlock (refusal 25 0 0) ∷ []
 unfolding computes cableComputes freshReceiver state piped called
 receive-calls = refl
+
+-- the number of the reply in the call's own answer: ACK 0 for 25, 26, 25 and 22, ACK 1 for taken, again and whole
+ack-calls :
+    map (λ (c : ReceiveCall). ackBy (receivedCall c)) (
+    receive freshReceiver (replicate 8 7) (text "0B00")  -- 25 for the form
+    ∷ receive freshReceiver (replicate 8 7) (text "0B006583\r")  -- 26
+    ∷ called freshReceiver 1 0 "ab"  -- 25 for the count
+    ∷ called (state 1 3 1 7) 4 1 "ab"  -- 22
+    ∷ called freshReceiver 0 0 "ab"  -- taken
+    ∷ called (state 1 3 1 2) 3 1 "ab"  -- acknowledged again
+    ∷ called (state 1 9 1 2) 1 2 "ab"  -- whole
+    ∷ [])
+    ≡ 0 ∷ 0 ∷ 0 ∷ 0 ∷ 1 ∷ 1 ∷ 1 ∷ []
+unfolding computes cableComputes freshReceiver state piped called
+ack-calls = refl
 
 -- ---- "at most 4n replies or timeouts" is reached: with two blocks seven replies need not be enough, eight always are
 

@@ -7,8 +7,8 @@ use Prim.Native.Nat.{ℕ, zero, suc, _+_, _-_, _≤_, _<_, min}
 use native.Mathlib.Omega.{arith}
 use lib.Dec.{eqb, leb}
 use lib.ListN.{length, take, getD, replicate, length-append, length-take, length-replicate}
-use borrow.Author.Tests.{eq-eqb, ne-eqb, eqb-true, eqb-false, leb-true, leb-false}
-use Rattle.meaning.specs.Refusals.{atLine, ask, refused, done, refusal, noRoom, badBlock, badCrc}
+use borrow.Author.Tests.{eq-eqb, ne-eqb, eqb-true, eqb-false, leb-true, leb-false, le-leb, lt-leb}
+use Rattle.meaning.specs.Refusals.{atLine, ask, Reply, refused, done, refusal, noRoom, badBlock, badCrc}
 use Rattle.meaning.specs.declared.Refusal.{Refusal}
 use Rattle.meaning.specs.Digits.{digit}
 use Rattle.meaning_cable.specs.Stream.{allData}
@@ -16,11 +16,11 @@ use Rattle.meaning.proofs.Bools.{and-left, and-right, and-both, not-true}
 use Rattle.meaning.proofs.FaultLaws.{ask-none, ask-last}
 use Rattle.meaning_cable.specs.declared.Receiver.{Receiver}
 use Rattle.meaning_cable.specs.Blocks.{b00, b01, b02}
-use Rattle.meaning_cable.specs.Sending.{nextCount}
-use Rattle.meaning_cable.specs.CableCalls.{receivedCall, keptBy}
-use Rattle.meaning_cable.specs.Receiving.{countOf, labelOf, dataOf, lengthOk, headOk, endOk, formOk, crcOk, blockFaults, ReceiveCall, isTaken, isAgain, isWhole, keeping, refusing}
-use Rattle.meaning_cable.specs.Receiving.{tookOne, written, maxPlace, putBy, openBy, answerBy, putAt, IsNext, Takes, bad-form, bad-crc, afresh, zero-other, last-again, goes-on, ends}
-use Rattle.meaning_cable.specs.Receiving.{next-set, label-in-set, label-no-set, other-count, isLast, isNext, inTurn, turned, byFaults, receive}
+use Rattle.meaning_cable.specs.Sending.{nextCount, ackBytes}
+use Rattle.meaning_cable.specs.CableCalls.{received, receivedCall, keptBy, ackBy}
+use Rattle.meaning_cable.specs.Receiving.{countOf, labelOf, dataOf, lengthOk, headOk, endOk, formOk, crcOk, blockFaults, ReceiveCall, isTaken, isAgain, isWhole, ackNumber, ackOf}
+use Rattle.meaning_cable.specs.Receiving.{keeping, refusing, maxPlace, written, answerBy, taking, withoutRoom, IsNext, TakenAt, afresh, goes-on, ends, next-set, putOf, usedTo, Takes, bad-form}
+use Rattle.meaning_cable.specs.Receiving.{bad-crc, zero-other, last-again, label-in-set, label-no-set, other-count, fitted, no-room, isLast, isNext, putAt, inTurn, turned, byFaults, receive}
 
 -- ---- the tests say what the rows ask
 
@@ -106,19 +106,27 @@ label-three b e =
 -- ---- the function follows the table
 
 module _ (st : Receiver) (buf b : List ℕ) where
+  -- a block in turn: there is room, or there isn't
+  put-follows : (at : ℕ) → blockFaults b ≡ [] → TakenAt st b at → Takes st buf b (putAt st buf at (countOf b) (labelOf b) (dataOf b))
+  unfolding putAt
+  put-follows at f t = go (leb (usedTo at b) (length buf)) refl
+    where
+      go : (v : Bool) → leb (usedTo at b) (length buf) ≡ v
+          → Takes st buf b (cond v (taking buf at (countOf b) (labelOf b) (putOf b)) (withoutRoom st buf (usedTo at b)))
+      go true e = fitted f t (leb-true (usedTo at b) (length buf) e)
+      go false e = no-room f t (leb-false (usedTo at b) (length buf) e)
+
   -- B01 or B02 of an open set
-  by-label : blockFaults b ≡ [] → countOf b ≢ 0 → IsNext st (countOf b) → st .partial ≢ 0 → labelOf b ≢ b00
-      → Takes st buf b (putAt st buf (st .used) (countOf b) (labelOf b) (dataOf b))
+  by-label : blockFaults b ≡ [] → countOf b ≢ 0 → IsNext st (countOf b) → st .partial ≢ 0 → labelOf b ≢ b00 → TakenAt st b (st .used)
   by-label f z n p h = go (eqb (labelOf b) b02) refl
     where
-      go : (t : Bool) → eqb (labelOf b) b02 ≡ t → Takes st buf b (putAt st buf (st .used) (countOf b) (labelOf b) (dataOf b))
-      go true v =
-          let is : labelOf b ≡ b02 = eqb-true (labelOf b) b02 v in
-          subst (λ (l : ℕ). Takes st buf b (putAt st buf (st .used) (countOf b) l (dataOf b))) (sym is) (ends f z n p is)
-      go false v =
-          let other = eqb-false (labelOf b) b02 v in
-          let is : labelOf b ≡ b01 = middle (labelOf b) (label-three b (faultless-form b f .0)) h other in
-          subst (λ (l : ℕ). Takes st buf b (putAt st buf (st .used) (countOf b) l (dataOf b))) (sym is) (goes-on f z n p is)
+      go : (t : Bool) → eqb (labelOf b) b02 ≡ t → TakenAt st b (st .used)
+      go true v = ends z n p (eqb-true (labelOf b) b02 v)
+      go false v = goes-on z n p (middle (labelOf b) (label-three b (faultless-form b f .0)) h (eqb-false (labelOf b) b02 v))
+
+  -- B00 is put at the front; the function has this label and count 0 as numbers
+  first-follows : (count : ℕ) → blockFaults b ≡ [] → TakenAt st b 0 → countOf b ≡ count → labelOf b ≡ b00 → Takes st buf b (putAt st buf 0 count b00 (dataOf b))
+  first-follows count f t z h = subst (Takes st buf b) (λ i. putAt st buf 0 (z i) (h i) (dataOf b)) (put-follows 0 f t)
 
   turn-follows : blockFaults b ≡ [] → countOf b ≢ 0 → IsNext st (countOf b) → Takes st buf b (inTurn st buf (countOf b) (labelOf b) (dataOf b))
   unfolding inTurn
@@ -127,10 +135,10 @@ module _ (st : Receiver) (buf b : List ℕ) where
       go : (p q : Bool) → eqb (st .partial) 0 ≡ p → eqb (labelOf b) b00 ≡ q
           → Takes st buf b (cond p (cond q (putAt st buf 0 (countOf b) b00 (dataOf b)) (refusing st buf badBlock))
           (cond q (refusing st buf badBlock) (putAt st buf (st .used) (countOf b) (labelOf b) (dataOf b))))
-      go true true u v = next-set f z n (eqb-true (st .partial) 0 u) (eqb-true (labelOf b) b00 v)
+      go true true u v = let h = eqb-true (labelOf b) b00 v in first-follows (countOf b) f (next-set z n (eqb-true (st .partial) 0 u) h) refl h
       go true false u v = label-no-set f z n (eqb-true (st .partial) 0 u) (eqb-false (labelOf b) b00 v)
       go false true u v = label-in-set f z n (eqb-false (st .partial) 0 u) (eqb-true (labelOf b) b00 v)
-      go false false u v = by-label f z n (eqb-false (st .partial) 0 u) (eqb-false (labelOf b) b00 v)
+      go false false u v = put-follows (st .used) f (by-label f z n (eqb-false (st .partial) 0 u) (eqb-false (labelOf b) b00 v))
 
   count-follows : blockFaults b ≡ [] → countOf b ≢ 0
       → Takes st buf b (cond (isLast st (countOf b)) (keeping st buf (done isAgain))
@@ -151,7 +159,7 @@ module _ (st : Receiver) (buf b : List ℕ) where
           → Takes st buf b (cond p (cond q (putAt st buf 0 0 b00 (dataOf b)) (refusing st buf badBlock))
           (cond (isLast st (countOf b)) (keeping st buf (done isAgain))
           (cond (isNext st (countOf b)) (inTurn st buf (countOf b) (labelOf b) (dataOf b)) (refusing st buf badBlock))))
-      go true true u v = afresh f (eqb-true (countOf b) 0 u) (eqb-true (labelOf b) b00 v)
+      go true true u v = let z = eqb-true (countOf b) 0 u in let h = eqb-true (labelOf b) b00 v in first-follows 0 f (afresh z h) z h
       go true false u v = zero-other f (eqb-true (countOf b) 0 u) (eqb-false (labelOf b) b00 v)
       go false q u v = count-follows f (eqb-false (countOf b) 0 u)
 
@@ -184,51 +192,40 @@ module _ (st : Receiver) (buf b : List ℕ) where
   unfolding inTurn
   next-label f z n p h = faultless-turned f ∙ (after-last z n ∙ rw (ne-eqb (st .partial) 0 p, ne-eqb (labelOf b) b00 h))
 
+  -- a block in turn is put in
+  pub taken-put : (at : ℕ) → blockFaults b ≡ [] → TakenAt st b at → receive st buf b ≡ putAt st buf at (countOf b) (labelOf b) (dataOf b)
+  unfolding turned inTurn
+  taken-put at f (afresh z h) =
+      let e : turned st buf (countOf b) (labelOf b) (dataOf b) ≡ putAt st buf 0 0 b00 (dataOf b) = rw (eq-eqb (countOf b) 0 z, eq-eqb (labelOf b) b00 h) in
+      faultless-turned f ∙ (e ∙ (λ i. putAt st buf 0 (sym z i) (sym h i) (dataOf b)))
+  taken-put at f (goes-on z n p h) = next-label f z n p (λ o. let y : _≡_ {A = ℕ} 1 0 = sym h ∙ o in omega arith)
+  taken-put at f (ends z n p h) = next-label f z n p (λ o. let y : _≡_ {A = ℕ} 2 0 = sym h ∙ o in omega arith)
+  taken-put at f (next-set z n p h) =
+      let e : inTurn st buf (countOf b) (labelOf b) (dataOf b) ≡ putAt st buf 0 (countOf b) b00 (dataOf b) = rw (eq-eqb (st .partial) 0 p, eq-eqb (labelOf b) b00 h) in
+      faultless-turned f ∙ (after-last z n ∙ (e ∙ (λ i. putAt st buf 0 (countOf b) (sym h i) (dataOf b))))
+
 -- ---- what follows the table is what the function gives
 
 pub takes-receive : {st : Receiver} {buf b : List ℕ} {r : ReceiveCall} → Takes st buf b r → receive st buf b ≡ r
-unfolding turned inTurn receive blockFaults
+unfolding putAt turned inTurn receive blockFaults
 takes-receive {st} {buf} {b} (bad-form f) = rw f
 takes-receive {st} {buf} {b} (bad-crc f k) = rw (f, k)
-takes-receive {st} {buf} {b} (afresh f z h) = faultless-turned st buf b f ∙ rw (eq-eqb (countOf b) 0 z, eq-eqb (labelOf b) b00 h)
 takes-receive {st} {buf} {b} (zero-other f z h) = faultless-turned st buf b f ∙ rw (eq-eqb (countOf b) 0 z, ne-eqb (labelOf b) b00 h)
 takes-receive {st} {buf} {b} (last-again f z h) = faultless-turned st buf b f ∙ rw (ne-eqb (countOf b) 0 z, at-started st (countOf b) (st .last) h)
-takes-receive {st} {buf} {b} (goes-on f z n p h) =
-    next-label st buf b f z n p (λ o. let y : _≡_ {A = ℕ} 1 0 = sym h ∙ o in omega arith) ∙ ap (λ (l : ℕ). putAt st buf (st .used) (countOf b) l (dataOf b)) h
-takes-receive {st} {buf} {b} (ends f z n p h) =
-    next-label st buf b f z n p (λ o. let y : _≡_ {A = ℕ} 2 0 = sym h ∙ o in omega arith) ∙ ap (λ (l : ℕ). putAt st buf (st .used) (countOf b) l (dataOf b)) h
-takes-receive {st} {buf} {b} (next-set f z n p h) =
-    faultless-turned st buf b f ∙ (after-last st buf b z n ∙ rw (eq-eqb (st .partial) 0 p, eq-eqb (labelOf b) b00 h))
 takes-receive {st} {buf} {b} (label-in-set f z n p h) =
     faultless-turned st buf b f ∙ (after-last st buf b z n ∙ rw (ne-eqb (st .partial) 0 p, eq-eqb (labelOf b) b00 h))
 takes-receive {st} {buf} {b} (label-no-set f z n p h) =
     faultless-turned st buf b f ∙ (after-last st buf b z n ∙ rw (eq-eqb (st .partial) 0 p, ne-eqb (labelOf b) b00 h))
 takes-receive {st} {buf} {b} (other-count f z h n) =
     faultless-turned st buf b f ∙ rw (ne-eqb (countOf b) 0 z, at-not-started st (countOf b) (st .last) h, at-not-started st (countOf b) (nextCount (st .last)) n)
+takes-receive {st} {buf} {b} (fitted {at = at} f t l) = taken-put st buf b at f t ∙ rw (le-leb (usedTo at b) (length buf) l)
+takes-receive {st} {buf} {b} (no-room {at = at} f t l) = taken-put st buf b at f t ∙ rw (lt-leb (usedTo at b) (length buf) l)
 
 -- two answers that follow the table are equal
 pub takes-one : {st : Receiver} {buf b : List ℕ} {r t : ReceiveCall} → Takes st buf b r → Takes st buf b t → r ≡ t
 takes-one f g = sym (takes-receive f) ∙ takes-receive g
 
 -- ---- what a refusal leaves, and which numbers there are
-
--- Putting a block in: there is room, or there isn't.
-pub data Put (st : Receiver) (buf : List ℕ) (at count label : ℕ) (x : List ℕ) (r : ReceiveCall) : Type 0 where
-  fitted : at + length (putBy label x) ≤ length buf
-      → r ≡ record { answer = done (answerBy label); state = tookOne count (openBy label) (at + length (putBy label x)); buffer = written buf at (putBy label x) }
-      → Put st buf at count label x r
-  no-room : length buf < at + length (putBy label x) → r ≡ keeping st buf (refused (refusal noRoom (min (at + length (putBy label x)) maxPlace) 0)) → Put st buf at count label x r
-
-pub put-either : (st : Receiver) (buf : List ℕ) (at count label : ℕ) (x : List ℕ) → Put st buf at count label x (putAt st buf at count label x)
-unfolding putAt
-put-either st buf at count label x = go (leb (at + length (putBy label x)) (length buf)) refl
-  where
-    go : (t : Bool) → leb (at + length (putBy label x)) (length buf) ≡ t
-        → Put st buf at count label x (cond (leb (at + length (putBy label x)) (length buf))
-        (record { answer = done (answerBy label); state = tookOne count (openBy label) (at + length (putBy label x)); buffer = written buf at (putBy label x) })
-        (keeping st buf (refused (refusal noRoom (min (at + length (putBy label x)) maxPlace) 0))))
-    go true e = fitted (leb-true (at + length (putBy label x)) (length buf) e) (rw e)
-    go false e = no-room (leb-false (at + length (putBy label x)) (length buf) e) (rw e)
 
 -- What a call does: it refuses, by 22, 25 or 26, and leaves state and buffer as they were; or it acknowledges again, and leaves them too; or it takes the block, and the buffer is as long as it was.
 pub data Outcome (st : Receiver) (buf : List ℕ) (r : ReceiveCall) : Type 0 where
@@ -244,27 +241,22 @@ answer-either label = go (eqb label b02)
     go true = inr refl
     go false = inl refl
 
-put-outcome : (st : Receiver) (buf : List ℕ) (at count label : ℕ) (x : List ℕ) (r : ReceiveCall) → Put st buf at count label x r → Outcome st buf r
-put-outcome st buf at count label x r (fitted h e) =
-    let new : List ℕ = putBy label x in
-    took (answerBy label) (answer-either label) (ap (λ (y : ReceiveCall). y .answer) e)
-    (ap (λ (y : ReceiveCall). length (y .buffer)) e
-    ∙ (length-append (take at buf) (new ++ replicate (length buf - (at + length new)) 0)
-    ∙ omega (arith, length-take at buf, length-append new (replicate (length buf - (at + length new)) 0), length-replicate {A = ℕ} (length buf - (at + length new)) 0)))
-put-outcome st buf at count label x r (no-room h e) = kept (refusal noRoom (min (at + length (putBy label x)) maxPlace) 0) (inl refl) e
+-- the bytes that are put in take the place of others
+written-length : (buf : List ℕ) (at : ℕ) (new : List ℕ) → at + length new ≤ length buf → length (written buf at new) ≡ length buf
+written-length buf at new h =
+    length-append (take at buf) (new ++ replicate (length buf - (at + length new)) 0)
+    ∙ omega (arith, length-take at buf, length-append new (replicate (length buf - (at + length new)) 0), length-replicate {A = ℕ} (length buf - (at + length new)) 0)
 
 takes-outcome : {st : Receiver} {buf b : List ℕ} {r : ReceiveCall} → Takes st buf b r → Outcome st buf r
 takes-outcome (bad-form f) = kept (refusal badBlock 0 0) (inr (inl refl)) refl
 takes-outcome (bad-crc f k) = kept (refusal badCrc 0 0) (inr (inr refl)) refl
-takes-outcome {st} {buf} {b} (afresh f z h) = put-outcome st buf 0 0 b00 (dataOf b) _ (put-either st buf 0 0 b00 (dataOf b))
 takes-outcome (zero-other f z h) = kept (refusal badBlock 0 0) (inr (inl refl)) refl
 takes-outcome (last-again f z h) = once-more refl
-takes-outcome {st} {buf} {b} (goes-on f z n p h) = put-outcome st buf (st .used) (countOf b) b01 (dataOf b) _ (put-either st buf (st .used) (countOf b) b01 (dataOf b))
-takes-outcome {st} {buf} {b} (ends f z n p h) = put-outcome st buf (st .used) (countOf b) b02 (dataOf b) _ (put-either st buf (st .used) (countOf b) b02 (dataOf b))
-takes-outcome {st} {buf} {b} (next-set f z n p h) = put-outcome st buf 0 (countOf b) b00 (dataOf b) _ (put-either st buf 0 (countOf b) b00 (dataOf b))
 takes-outcome (label-in-set f z n p h) = kept (refusal badBlock 0 0) (inr (inl refl)) refl
 takes-outcome (label-no-set f z n p h) = kept (refusal badBlock 0 0) (inr (inl refl)) refl
 takes-outcome (other-count f z h n) = kept (refusal badBlock 0 0) (inr (inl refl)) refl
+takes-outcome {st} {buf} {b} (fitted {at = at} f t l) = took (answerBy (labelOf b)) (answer-either (labelOf b)) refl (written-length buf at (putOf b) l)
+takes-outcome {st} {buf} {b} (no-room {at = at} f t l) = kept (refusal noRoom (min (usedTo at b) maxPlace) 0) (inl refl) refl
 
 pub receive-outcome : (st : Receiver) (buf b : List ℕ) → Outcome st buf (receive st buf b)
 receive-outcome st buf b = takes-outcome (receive-follows st buf b)
@@ -277,3 +269,13 @@ kept-by st buf b = go (receive st buf b) (receive-outcome st buf b)
     go r (kept x n e) = rw e
     go r (once-more e) = rw e
     go r (took w n e l) = rw e
+
+-- ---- the reply
+
+-- the reply that the call's answer asks for is the one that is to be sent
+pub ack-told : (c : ReceiveCall) → ackBytes (ackBy (receivedCall c)) ≡ ackOf (c .answer)
+ack-told c = go (c .answer)
+  where
+    go : (r : Reply ℕ) → ackBytes (ackBy (received r (c .state))) ≡ ackBytes (ackNumber r)
+    go (refused r) = refl
+    go (done w) = refl

@@ -17,7 +17,7 @@ use Rattle.meaning_cable.specs.declared.Received.{Received}
 use Rattle.meaning_cable.specs.declared.Received.the-variants.{Done, Refused as RefusedBlock}
 use Rattle.meaning_cable.specs.Blocks.{block, blocksOf}
 use Rattle.meaning_cable.specs.Sending.{action, send, linkLeft}
-use Rattle.meaning_cable.specs.Receiving.{ReceiveCall, receive}
+use Rattle.meaning_cable.specs.Receiving.{ReceiveCall, ackNumber}
 
 -- ---- the sender
 
@@ -62,3 +62,8 @@ receivedCall c = received (c .answer) (c .state)
 abbrev pub keptBy : Receiver → Received → Receiver
 keptBy st (Done t) = t .receiver
 keptBy st (RefusedBlock r) = st
+
+-- the number of the reply that this answer asks for
+abbrev pub ackBy : Received → ℕ
+ackBy (Done t) = ackNumber (done (t .what))
+ackBy (RefusedBlock r) = ackNumber (refused r)

@@ -1,10 +1,10 @@
 -- The receiver: "The receiver takes the next count, acknowledges the last one again without taking it, and starts afresh on 0 with B00."
--- The rule table stands twice: as rows (`Takes`) and as the function `receive`; proofs/ReceivingLaws says that they are the same.
+-- The rule table stands twice: as rows (`Takes`, and `TakenAt` for the blocks in turn) and as the function `receive`; proofs/ReceivingLaws says that they are the same.
 use mathlib.Core.Path.{_≡_}
 use mathlib.Core.Bool.{Bool, true, false, cond, not, _&&_, _||_}
 use mathlib.Core.List.{List, [], _∷_, _++_}
 use mathlib.Core.Logic.{_≢_}
-use Prim.Native.Nat.{ℕ, _+_, _-_, _*_, min}
+use Prim.Native.Nat.{ℕ, _+_, _-_, _*_, _≤_, _<_, min}
 use lib.ListN.{length, take, drop, getD, replicate}
 use lib.Dec.{leb, eqb}
 use Rattle.meaning.specs.Digits.{digitZero, digitNine, digit}
@@ -14,7 +14,7 @@ use Rattle.meaning_cable.specs.declared.Receiver.{Receiver}
 use Rattle.meaning_cable.specs.Crc.{crc}
 use Rattle.meaning_cable.specs.Stream.{restored, allData}
 use Rattle.meaning_cable.specs.Blocks.{maxData, b00, b01, b02, letterA, letterB}
-use Rattle.meaning_cable.specs.Sending.{nextCount, ack0, ack1}
+use Rattle.meaning_cable.specs.Sending.{nextCount, ackBytes}
 
 -- ---- the parts of a block
 
@@ -106,10 +106,14 @@ isAgain = 2
 abbrev pub isWhole : ℕ
 isWhole = 3
 
--- "Refusals, answered ACK 0"; all else ACK 1
+-- the number of the reply: "Refusals, answered ACK 0"; all else ACK 1
+abbrev pub ackNumber : Reply ℕ → ℕ
+ackNumber (refused r) = 0
+ackNumber (done w) = 1
+
+-- the reply itself, two bytes
 abbrev pub ackOf : Reply ℕ → List ℕ
-ackOf (refused r) = ack0
-ackOf (done w) = ack1
+ackOf r = ackBytes (ackNumber r)
 
 -- state and buffer as they were
 abbrev pub keeping : Receiver → List ℕ → Reply ℕ → ReceiveCall
@@ -144,13 +148,13 @@ openBy label = cond (eqb label b02) 0 1
 unfoldable pub answerBy : ℕ → ℕ
 answerBy label = cond (eqb label b02) isWhole isTaken
 
--- a block of this count, label and data is put at `at`; NoRoom instead if its bytes don't fit, "place: the need"
-unfoldable pub putAt : Receiver → List ℕ → ℕ → ℕ → ℕ → List ℕ → ReceiveCall
-putAt st buf at count label bytes =
-    let used = at + length (putBy label bytes) in
-    cond (leb used (length buf))
-    (record { answer = done (answerBy label); state = tookOne count (openBy label) used; buffer = written buf at (putBy label bytes) })
-    (keeping st buf (refused (refusal noRoom (min used maxPlace) 0)))
+-- it fits: a block of this count and label is taken, and the bytes `new` are put at `at`
+abbrev pub taking : List ℕ → ℕ → ℕ → ℕ → List ℕ → ReceiveCall
+taking buf at count label new = record { answer = done (answerBy label); state = tookOne count (openBy label) (at + length new); buffer = written buf at new }
+
+-- it does not fit: NoRoom, "place: the need"; state and buffer are as they were
+abbrev pub withoutRoom : Receiver → List ℕ → ℕ → ReceiveCall
+withoutRoom st buf need = keeping st buf (refused (refusal noRoom (min need maxPlace) 0))
 
 -- ---- the rule table, a row each
 
@@ -162,25 +166,33 @@ IsNext st count = (st .started ≢ 0) × (count ≡ nextCount (st .last))
 abbrev pub IsLast : Receiver → ℕ → Type 0
 IsLast st count = (st .started ≢ 0) × (count ≡ st .last)
 
--- The receiver's state, the buffer, the block; what the call leaves. The rows stand in the order of the table.
+-- A block without fault is in turn, and its bytes are put at an offset of the buffer: the receiver's state, the block, the offset.
+pub data TakenAt : Receiver → List ℕ → ℕ → Type 0 where
+  -- "starts afresh on 0 with B00"
+  afresh : {st : Receiver} {b : List ℕ} → countOf b ≡ 0 → labelOf b ≡ b00 → TakenAt st b 0
+  -- "takes the next count": B01 of an open set, put after the bytes that stand
+  goes-on : {st : Receiver} {b : List ℕ} → countOf b ≢ 0 → IsNext st (countOf b) → st .partial ≢ 0 → labelOf b ≡ b01 → TakenAt st b (st .used)
+  -- B02 of an open set: the same, and the set is whole
+  ends : {st : Receiver} {b : List ℕ} → countOf b ≢ 0 → IsNext st (countOf b) → st .partial ≢ 0 → labelOf b ≡ b02 → TakenAt st b (st .used)
+  -- B00 of the next set
+  next-set : {st : Receiver} {b : List ℕ} → countOf b ≢ 0 → IsNext st (countOf b) → st .partial ≡ 0 → labelOf b ≡ b00 → TakenAt st b 0
+
+-- the bytes of the set that a block stands for
+abbrev pub putOf : List ℕ → List ℕ
+putOf b = putBy (labelOf b) (dataOf b)
+
+-- how many bytes are used if they are put at `at`
+abbrev pub usedTo : ℕ → List ℕ → ℕ
+usedTo at b = at + length (putOf b)
+
+-- The receiver's state, the buffer, the block; what the call leaves.
 pub data Takes : Receiver → List ℕ → List ℕ → ReceiveCall → Type 0 where
   bad-form : {st : Receiver} {buf b : List ℕ} → formOk b ≡ false → Takes st buf b (refusing st buf badBlock)
   bad-crc : {st : Receiver} {buf b : List ℕ} → formOk b ≡ true → crcOk b ≡ false → Takes st buf b (refusing st buf badCrc)
-  -- "starts afresh on 0 with B00"
-  afresh : {st : Receiver} {buf b : List ℕ} → blockFaults b ≡ [] → countOf b ≡ 0 → labelOf b ≡ b00 → Takes st buf b (putAt st buf 0 0 b00 (dataOf b))
-  -- count 0 with another label is out of turn
+  -- count 0 with another label than B00 is out of turn
   zero-other : {st : Receiver} {buf b : List ℕ} → blockFaults b ≡ [] → countOf b ≡ 0 → labelOf b ≢ b00 → Takes st buf b (refusing st buf badBlock)
   -- "acknowledges the last one again without taking it"; its label and data are not looked at (E3l)
   last-again : {st : Receiver} {buf b : List ℕ} → blockFaults b ≡ [] → countOf b ≢ 0 → IsLast st (countOf b) → Takes st buf b (keeping st buf (done isAgain))
-  -- "takes the next count": B01 of an open set, put after the bytes that stand
-  goes-on : {st : Receiver} {buf b : List ℕ} → blockFaults b ≡ [] → countOf b ≢ 0 → IsNext st (countOf b) → st .partial ≢ 0 → labelOf b ≡ b01
-      → Takes st buf b (putAt st buf (st .used) (countOf b) b01 (dataOf b))
-  -- B02 of an open set: the same, with the last 0Dh 0Ah, and the set is whole
-  ends : {st : Receiver} {buf b : List ℕ} → blockFaults b ≡ [] → countOf b ≢ 0 → IsNext st (countOf b) → st .partial ≢ 0 → labelOf b ≡ b02
-      → Takes st buf b (putAt st buf (st .used) (countOf b) b02 (dataOf b))
-  -- B00 of the next set
-  next-set : {st : Receiver} {buf b : List ℕ} → blockFaults b ≡ [] → countOf b ≢ 0 → IsNext st (countOf b) → st .partial ≡ 0 → labelOf b ≡ b00
-      → Takes st buf b (putAt st buf 0 (countOf b) b00 (dataOf b))
   -- "25 for .. a label out of turn": B00 in an open set, another label if none is open
   label-in-set : {st : Receiver} {buf b : List ℕ} → blockFaults b ≡ [] → countOf b ≢ 0 → IsNext st (countOf b) → st .partial ≢ 0 → labelOf b ≡ b00
       → Takes st buf b (refusing st buf badBlock)
@@ -189,6 +201,12 @@ pub data Takes : Receiver → List ℕ → List ℕ → ReceiveCall → Type 0 w
   -- "25 for another count"
   other-count : {st : Receiver} {buf b : List ℕ} → blockFaults b ≡ [] → countOf b ≢ 0 → (IsLast st (countOf b) → ⊥) → (IsNext st (countOf b) → ⊥)
       → Takes st buf b (refusing st buf badBlock)
+  -- a block in turn that fits is taken
+  fitted : {st : Receiver} {buf b : List ℕ} {at : ℕ} → blockFaults b ≡ [] → TakenAt st b at → usedTo at b ≤ length buf
+      → Takes st buf b (taking buf at (countOf b) (labelOf b) (putOf b))
+  -- "NoRoom": a block in turn that does not fit
+  no-room : {st : Receiver} {buf b : List ℕ} {at : ℕ} → blockFaults b ≡ [] → TakenAt st b at → length buf < usedTo at b
+      → Takes st buf b (withoutRoom st buf (usedTo at b))
 
 -- ---- the same as a function
 
@@ -197,6 +215,12 @@ isLast st count = not (eqb (st .started) 0) && eqb count (st .last)
 
 abbrev pub isNext : Receiver → ℕ → Bool
 isNext st count = not (eqb (st .started) 0) && eqb count (nextCount (st .last))
+
+-- a block of this count, label and data is put at `at`, or there is no room
+unfoldable pub putAt : Receiver → List ℕ → ℕ → ℕ → ℕ → List ℕ → ReceiveCall
+putAt st buf at count label bytes =
+    let used = at + length (putBy label bytes) in
+    cond (leb used (length buf)) (taking buf at count label (putBy label bytes)) (withoutRoom st buf used)
 
 -- a block with the next count: B00 if no set is open, another label if one is
 unfoldable pub inTurn : Receiver → List ℕ → ℕ → ℕ → List ℕ → ReceiveCall

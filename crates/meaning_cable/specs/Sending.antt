@@ -8,6 +8,7 @@ use mathlib.Core.Logic.{_⊎_, _≢_}
 use Prim.Native.Nat.{ℕ, _+_, _≤_, _<_}
 use lib.ListN.{length, getD}
 use lib.Dec.{leb, eqb}
+use Rattle.meaning.specs.Digits.{digitZero}
 use Rattle.meaning.specs.Refusals.{Reply, refused, done, thenTo}
 use Rattle.meaning_cable.specs.declared.Link.{Link}
 use Rattle.meaning_cable.specs.declared.Action.{Action}
@@ -30,15 +31,25 @@ givenUp = 3
 unfoldable pub nextCount : ℕ → ℕ
 nextCount c = cond (leb maxCount c) 1 (c + 1)
 
--- ACK 1 is 06h 31h. "a timeout or any reply but ACK 1 is an error"; a timeout is a reply of no bytes
+-- the first byte of a reply, 06h
+abbrev pub ackByte : ℕ
+ackByte = 6
+
+-- ACK n, a reply: 06h and the digit n
+abbrev pub ackBytes : ℕ → List ℕ
+ackBytes n = ackByte ∷ (digitZero + n) ∷ []
+
+-- 06h 31h
 abbrev pub ack1 : List ℕ
-ack1 = 6 ∷ 49 ∷ []
+ack1 = ackBytes 1
 
+-- 06h 30h
 abbrev pub ack0 : List ℕ
-ack0 = 6 ∷ 48 ∷ []
+ack0 = ackBytes 0
 
+-- "a timeout or any reply but ACK 1 is an error"; a timeout is a reply of no bytes
 unfoldable pub isAck : List ℕ → Bool
-isAck r = eqb (length r) 2 && (eqb (getD r 0 0) 6 && eqb (getD r 1 0) 49)
+isAck r = eqb (length r) 2 && (eqb (getD r 0 0) ackByte && eqb (getD r 1 0) (digitZero + 1))
 
 -- ---- what the sender has to do next
 

@@ -3,14 +3,14 @@ use mathlib.Core.Path.{_≡_, refl, sym, ap, _∙_, subst}
 use mathlib.Core.Bool.{Bool, true, false, cond}
 use mathlib.Core.List.{List, [], _∷_, _++_, append-assoc, cons≢nil}
 use mathlib.Core.Logic.{_≢_}
-use Prim.Native.Nat.{ℕ, zero, suc, _+_, _-_, _≤_, _<_, min}
+use Prim.Native.Nat.{ℕ, zero, suc, _+_, _-_, _≤_, _<_}
 use native.Mathlib.Omega.{arith}
 use lib.Dec.{leb, eqb}
 use lib.ListN.{length, take, drop, replicate, length-append, length-replicate, take-append-drop}
 use lib.Seq.{take-at, take-all}
 use borrow.Author.Tests.{le-leb, lt-leb, eq-eqb, ne-eqb, leb-false}
 use Rattle.meaning.specs.Field.{Field}
-use Rattle.meaning.specs.Refusals.{refused, done, refusal, noRoom}
+use Rattle.meaning.specs.Refusals.{done}
 use Rattle.meaning.specs.Pieces.{parsed}
 use Rattle.meaning.specs.Lines.{cr, lf, render}
 use Rattle.meaning.specs.Rules.{startFaults}
@@ -24,12 +24,12 @@ use Rattle.meaning_cable.specs.declared.Receiver.{Receiver}
 use Rattle.meaning_cable.specs.Stream.{separator, bareThen, stream, restored}
 use Rattle.meaning_cable.specs.Blocks.{b00, b01, b02, blockCount, cutAt, blockData, blockLabel, blockBytes, blockOf, setAlone, blocksOf, block}
 use Rattle.meaning_cable.specs.Sending.{delivered, nextCount, opened, firstCount, begun, send}
-use Rattle.meaning_cable.specs.Receiving.{ReceiveCall, isTaken, keeping, tookOne, written, maxPlace, putBy, openBy, answerBy, putAt, IsNext, afresh, next-set, receive}
+use Rattle.meaning_cable.specs.Receiving.{isTaken, tookOne, written, putBy, openBy, answerBy, taking, withoutRoom, IsNext, afresh, next-set, putAt, receive}
 use Rattle.theory_cable.specs.Carrying.{Cable, begins, Agree, from-zero, goes-on as agree-on, countAt}
 use Rattle.meaning_cable.proofs.StreamLaws.{bare-end, stream-some, restored-append, stream-back, stream-data, take-data, drop-data}
 use Rattle.meaning_cable.proofs.OneSetLaws.{stream-of, set-alone}
 use Rattle.meaning_cable.proofs.BlockLaws.{data-some, cut-first, cut-end, count-least, data-length, take-on, Writable, block-read}
-use Rattle.meaning_cable.proofs.ReceivingLaws.{next-label, takes-receive, next-least}
+use Rattle.meaning_cable.proofs.ReceivingLaws.{next-label, taken-put, next-least}
 
 -- ---- counts
 
@@ -57,20 +57,15 @@ first-count-most l = go (eqb (l .phase) delivered)
 
 -- ---- one block and the receiver
 
--- the refusal for want of room: state and buffer are as they were
-abbrev pub lacking : Receiver → List ℕ → ℕ → ReceiveCall
-lacking st buf need = keeping st buf (refused (refusal noRoom (min need maxPlace) 0))
-
 -- a block that fits
 pub put-fits : (st : Receiver) (buf : List ℕ) (at count label : ℕ) (x : List ℕ) → at + length (putBy label x) ≤ length buf
-    → putAt st buf at count label x
-    ≡ record { answer = done (answerBy label); state = tookOne count (openBy label) (at + length (putBy label x)); buffer = written buf at (putBy label x) }
+    → putAt st buf at count label x ≡ taking buf at count label (putBy label x)
 unfolding putAt
 put-fits st buf at count label x h = rw (le-leb (at + length (putBy label x)) (length buf) h)
 
 -- one that does not: nothing moves
 pub put-lacks : (st : Receiver) (buf : List ℕ) (at count label : ℕ) (x : List ℕ) → length buf < at + length (putBy label x)
-    → putAt st buf at count label x ≡ lacking st buf (at + length (putBy label x))
+    → putAt st buf at count label x ≡ withoutRoom st buf (at + length (putBy label x))
 unfolding putAt
 put-lacks st buf at count label x h = rw (lt-leb (at + length (putBy label x)) (length buf) h)
 
@@ -91,11 +86,12 @@ pub receive-first : (st : Receiver) (buf : List ℕ) (count : ℕ) (x : List ℕ
     → receive st buf (blockBytes count b00 x) ≡ putAt st buf 0 count b00 x
 receive-first st buf count x w (at-zero z) =
     let back = block-read count b00 x w in
-    takes-receive (afresh (back .faultless) (back .count-is ∙ z) (back .label-is)) ∙ (λ i. putAt st buf 0 (sym z i) b00 (back .data-is i))
+    taken-put st buf (blockBytes count b00 x) 0 (back .faultless) (afresh (back .count-is ∙ z) (back .label-is))
+    ∙ (λ i. putAt st buf 0 (back .count-is i) (back .label-is i) (back .data-is i))
 receive-first st buf count x w (at-next z n p) =
     let back = block-read count b00 x w in
-    takes-receive (next-set (back .faultless) (λ e. z (sym (back .count-is) ∙ e)) (n .0, back .count-is ∙ n .1) p (back .label-is))
-    ∙ (λ i. putAt st buf 0 (back .count-is i) b00 (back .data-is i))
+    taken-put st buf (blockBytes count b00 x) 0 (back .faultless) (next-set (λ e. z (sym (back .count-is) ∙ e)) (n .0, back .count-is ∙ n .1) p (back .label-is))
+    ∙ (λ i. putAt st buf 0 (back .count-is i) (back .label-is i) (back .data-is i))
 
 -- two ends that agree
 pub opens-first : (l : Link) (st : Receiver) → Agree l st → Opens st (firstCount l)
@@ -213,8 +209,8 @@ module _ (s : List ℕ) (fs : List Field) (e : read s ≡ done (parsed fs [])) w
         ∙ (λ i. record { answer = done isTaken; state = tookOne c 1 (u i); buffer = f i ++ replicate (length b - u i) 0 }))
 
     -- else nothing moves
-    pub first-lacks : length b < length (front 1) → receive st b (blockBytes c b00 (blockData x 0)) ≡ lacking st b (length (front 1))
-    first-lacks h = first-put ∙ (put-lacks st b 0 c b00 (blockData x 0) (omega (arith, first-puts)) ∙ ap (lacking st b) first-puts)
+    pub first-lacks : length b < length (front 1) → receive st b (blockBytes c b00 (blockData x 0)) ≡ withoutRoom st b (length (front 1))
+    first-lacks h = first-put ∙ (put-lacks st b 0 c b00 (blockData x 0) (omega (arith, first-puts)) ∙ ap (withoutRoom st b) first-puts)
 
   -- a block after the first, with k + 1 before it: what it puts in makes t of the bytes that stand
   module _ (k c : ℕ) (h : k + 1 < n) where
@@ -248,10 +244,10 @@ module _ (s : List ℕ) (fs : List Field) (e : read s ≡ done (parsed fs [])) w
 
       -- else nothing moves
       pub on-lacks : length b < length t
-          → receive st (filled b (front (k + 1))) (blockBytes (nextCount c) label (blockData x (k + 1))) ≡ lacking st (filled b (front (k + 1))) (length t)
+          → receive st (filled b (front (k + 1))) (blockBytes (nextCount c) label (blockData x (k + 1))) ≡ withoutRoom st (filled b (front (k + 1))) (length t)
       on-lacks l =
           let g : List ℕ = front (k + 1) in
-          on-put ∙ (put-lacks st (filled b g) (length g) (nextCount c) label (blockData x (k + 1)) (omega (arith, on-puts, filled-length b g held)) ∙ ap (lacking st (filled b g)) on-puts)
+          on-put ∙ (put-lacks st (filled b g) (length g) (nextCount c) label (blockData x (k + 1)) (omega (arith, on-puts, filled-length b g held)) ∙ ap (withoutRoom st (filled b g)) on-puts)
 
     pub sent-on : (label : ℕ) → blockLabel (k + 1) n ≡ label → block s (k + 1) (nextCount c) ≡ done (blockBytes (nextCount c) label (blockData x (k + 1)))
     sent-on label q = block-is (k + 1) (nextCount c) h (next-most c) ∙ (λ i. done (blockBytes (nextCount c) (q i) (blockData x (k + 1))))

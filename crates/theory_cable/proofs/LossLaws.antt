@@ -25,14 +25,14 @@ use Rattle.meaning_cable.specs.declared.Receiver.{Receiver}
 use Rattle.meaning_cable.specs.Stream.{stream}
 use Rattle.meaning_cable.specs.Blocks.{b00, b01, b02, blockCount, blockData, blockLabel, blockBytes, block}
 use Rattle.meaning_cable.specs.Sending.{underWay, delivered, givenUp, nextCount, ack1, ack0, isAck, Follows, taken, last-taken, again, afresh, over, ended, begun, turnOf, send, after, Ended}
-use Rattle.meaning_cable.specs.Receiving.{ReceiveCall, isAgain, refusing, keeping, tookOne, ackOf, putBy, openBy, answerBy, last-again, receive}
+use Rattle.meaning_cable.specs.Receiving.{ReceiveCall, isAgain, refusing, keeping, tookOne, ackOf, putBy, openBy, answerBy, withoutRoom, last-again, receive}
 use Rattle.theory_cable.specs.Carrying.{Cable, begins, bytesOr, arrives, Agree, from-zero, goes-on as agree-on, Arrived, Fate, heard, unheard, changed, lost, gotBy, hears, exchangeBy}
 use Rattle.theory_cable.specs.Carrying.{exchangesBy}
 use Rattle.meaning_cable.proofs.BlockLaws.{count-least, block-read}
 use Rattle.meaning_cable.proofs.SendingLaws.{turn-follows, follows-turn, ends-within}
 use Rattle.meaning_cable.proofs.ReceivingLaws.{takes-receive, next-least, faultless}
 use Rattle.theory_cable.proofs.DamageLaws.{not-taken}
-use Rattle.theory_cable.proofs.ArrivalLaws.{next-most, lacking, Opens, at-zero, filled, filled-length, x, n, front, front-on, block-is, can-write, label-most, some-blocks, all-bytes}
+use Rattle.theory_cable.proofs.ArrivalLaws.{next-most, Opens, at-zero, filled, filled-length, x, n, front, front-on, block-is, can-write, label-most, some-blocks, all-bytes}
 use Rattle.theory_cable.proofs.ArrivalLaws.{start-is, first-count-most, opens-first, received-first, first-lacks, received-on, on-lacks}
 
 -- a reply that is no refusal
@@ -199,7 +199,7 @@ module _ (s : List ℕ) (fs : List Field) (e : read s ≡ done (parsed fs [])) (
           let lack = leb-false (length (bytesTo (j + 1))) (length b) p in
           no-room _ (moved
           ∙ (on-lacks s fs e j d h b (blockLabel (j + 1) n′) (bytesTo (j + 1)) (label-most s fs e (j + 1)) (not-first j h) (puts j h) held lack
-          ∙ (λ i. lacking (sym same i) (sym holds i) (length (bytesTo (j + 1))))))
+          ∙ (λ i. withoutRoom (sym same i) (sym holds i) (length (bytesTo (j + 1))))))
 
   -- sent again, it is acknowledged again
   again-tried : (g : ReceiveCall) (i c : ℕ) → c ≤ 9 → Took i c g → c ≢ 0 → Tried i c g (receive (g .state) (g .buffer) (bytesOf i c))

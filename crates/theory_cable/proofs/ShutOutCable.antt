@@ -10,7 +10,7 @@ use mathlib.Core.Logic.{_⊎_, inl, inr, _≢_, _↔_}
 use Prim.Native.Nat.{ℕ, zero, suc, _+_, _-_, _*_, _/_, _≤_, _<_}
 use native.Mathlib.Omega.{arith}
 use native.Mathlib.Numerals.{add-one}
-use lib.ListN.{length, take, drop, getD, set, replicate, length-replicate}
+use lib.ListN.{length, take, drop, getD, set, replicate, length-append, length-replicate}
 use lib.Seq.{take-at, take-add, take-all}
 use lib.Dec.{leb, eqb}
 use borrow.Author.Tests.{leb-true, leb-false, le-leb, eqb-true, eqb-false, ne-eqb}
@@ -43,8 +43,9 @@ use Rattle.meaning_cable.specs.Stream.{bareThen, stream, restored, allData}
 use Rattle.meaning_cable.specs.Blocks.{throughFirst, blockCount, cutAt, blockData, joined, b00, blockLabel, hexDigits, blockFront, blockBytes, setAlone, blocksOf, block}
 use Rattle.meaning_cable.specs.Sending.{underWay, delivered, givenUp, ack1, ack0, isAck, action, sends, endOf, Begins, Follows, taken, last-taken, again, afresh as begin-again, over, ended}
 use Rattle.meaning_cable.specs.Sending.{toSend, begun, turnOf, send, linkLeft, after, Ended}
-use Rattle.meaning_cable.specs.Receiving.{maxBlock, countOf, labelOf, dataOf, formOk, crcOk, blockFaults, ReceiveCall, isTaken, isAgain, isWhole, ackOf, keeping, refusing, openBy}
-use Rattle.meaning_cable.specs.Receiving.{Takes, bad-form, bad-crc, afresh, zero-other, last-again, goes-on, ends, next-set, label-in-set, label-no-set, other-count, turned, byFaults, receive}
+use Rattle.meaning_cable.specs.Receiving.{maxBlock, countOf, labelOf, dataOf, formOk, crcOk, blockFaults, ReceiveCall, isTaken, isAgain, isWhole, ackOf, keeping, refusing, tookOne, openBy}
+use Rattle.meaning_cable.specs.Receiving.{TakenAt, afresh, goes-on, ends, next-set, Takes, bad-form, bad-crc, zero-other, last-again, label-in-set, label-no-set, other-count, fitted, no-room}
+use Rattle.meaning_cable.specs.Receiving.{turned, byFaults, receive}
 use Rattle.meaning_cable.specs.CableCalls.{SendCall, sendCall, asked, blockCall, receivedCall, keptBy}
 use Rattle.meaning_cable.specs.CableComputes.{cableComputes}
 use Rattle.meaning_cable.proofs.CrcLaws.{crc-one}
@@ -52,10 +53,10 @@ use Rattle.meaning_cable.proofs.StreamLaws.{restored-high, digits-high, bare-en
 use Rattle.meaning_cable.proofs.BlockLaws.{Cuts, one as cut-one, many as cut-many, cuts, count-least, data-length, blocks-join, tailOf, parts-length, Writable, block-read}
 use Rattle.meaning_cable.proofs.OneSetLaws.{set-alone, data-of-set, two-blocks}
 use Rattle.meaning_cable.proofs.SendingLaws.{begun-begins, turn-follows, follows-turn, begins-one, send-follows, refused-link, send-begins, stays-over, over-told, ends-within, send-ends}
-use Rattle.meaning_cable.proofs.ReceivingLaws.{receive-follows, takes-receive, Put, fitted, no-room, put-either, Outcome, kept, once-more, took, receive-outcome, kept-by}
+use Rattle.meaning_cable.proofs.ReceivingLaws.{receive-follows, takes-receive, Outcome, kept, once-more, took, receive-outcome, kept-by, ack-told}
 use Rattle.theory_cable.specs.Carrying.{Cable, bytesOr, begins, arrives, exchange, exchanges, Agree, from-zero, goes-on as agree-on, UnderWay, Arrived, Fate, heard, unheard, changed, lost}
 use Rattle.theory_cable.specs.Carrying.{gotBy, hears, exchangeBy, exchangesBy}
-use Rattle.theory_cable.specs.Transfers.{Ends, leaves, replies, step, steps, cleanSteps, starts}
+use Rattle.theory_cable.specs.Transfers.{Ends, leaves, sentBack, replies, step, steps, cleanSteps, starts}
 use Rattle.theory_cable.proofs.ArrivalLaws.{start-is}
 use Rattle.theory_cable.proofs.SetBlockLaws.{block-back, IsByte, one-byte-of-set, one-byte-refused}
 use Rattle.theory_cable.proofs.CarryingLaws.{carried, carried-part, carried-told}
@@ -965,25 +966,26 @@ stuck-on : (b : List ℕ) (st : Receiver) (buf : List ℕ) → Stuck b st → St
 unfolding openBy
 stuck-on b st buf k = go (receive st buf b) (receive-follows st buf b) k
   where
-    put : (c : ReceiveCall) → Put st buf 0 0 b00 (dataOf b) c → countOf b ≡ 0 → Stuck b st → Stuck b (c .state)
-    put c (fitted l e) z m = rw e (is-open (λ o. omega arith) z)
-    put c (no-room l e) z m = rw e m
+    -- only B00 with count 0 can be in turn, and then a set is open
+    in-turn : (a used : ℕ) → TakenAt st b a → Stuck b st → Stuck b (tookOne (countOf b) (openBy (labelOf b)) used)
+    in-turn a used (afresh z h) m = is-open (λ o. let y : _≡_ {A = ℕ} 1 0 = ap openBy (sym h) ∙ o in omega arith) z
+    in-turn a used (goes-on z n q h) (took-none u) = absurd (n .0 u)
+    in-turn a used (goes-on z n q h) (is-open u v) = absurd (z v)
+    in-turn a used (ends z n q h) (took-none u) = absurd (n .0 u)
+    in-turn a used (ends z n q h) (is-open u v) = absurd (z v)
+    in-turn a used (next-set z n q h) (took-none u) = absurd (n .0 u)
+    in-turn a used (next-set z n q h) (is-open u v) = absurd (z v)
 
     go : (c : ReceiveCall) → Takes st buf b c → Stuck b st → Stuck b (c .state)
     go c (bad-form f) m = m
     go c (bad-crc f g) m = m
-    go c (afresh f z h) m = put _ (put-either st buf 0 0 b00 (dataOf b)) z m
     go c (zero-other f z h) m = m
     go c (last-again f z h) m = m
-    go c (goes-on f z n q h) (took-none u) = absurd (n .0 u)
-    go c (goes-on f z n q h) (is-open u v) = absurd (z v)
-    go c (ends f z n q h) (took-none u) = absurd (n .0 u)
-    go c (ends f z n q h) (is-open u v) = absurd (z v)
-    go c (next-set f z n q h) (took-none u) = absurd (n .0 u)
-    go c (next-set f z n q h) (is-open u v) = absurd (z v)
     go c (label-in-set f z n q h) m = m
     go c (label-no-set f z n q h) m = m
     go c (other-count f z h n) m = m
+    go c (fitted {at = a} f t l) m = in-turn a _ t m
+    go c (no-room f t l) m = m
 
 stuck-not-arrived : (b s buf : List ℕ) (w : Cable) → Arrived s buf w → Stuck b (w .got .state) → ⊥
 stuck-not-arrived b s buf w a k = go (a .agreed) k
@@ -1490,7 +1492,7 @@ module _ (C : Caller) (B : BlockCaller) (R : Taker) (s out : List ℕ) where
   leavesOf (lost r n) w = w .got
 
   abbrev repliesOf : Fate → Ends → List ℕ
-  repliesOf heard w = ackOf (R (w .got .state) (w .got .buffer) (onLineOf (asked (w .told))) .answer)
+  repliesOf heard w = sentBack (R (w .got .state) (w .got .buffer) (onLineOf (asked (w .told))))
   repliesOf (unheard r n) w = r
   repliesOf (changed bs r f n) w = r
   repliesOf (lost r n) w = r
@@ -1814,6 +1816,45 @@ transfer-ends-not-same-receive B k st x h =
     go (inl a) (inr e) = let z : _≡_ {A = ℕ} 2 3 = e in omega arith
     go (inr e) c = let z : _≡_ {A = ℕ} 2 3 = e in omega arith
 
+-- a receiver that takes blocks as it should, and answers ACK 1 for a block without room, too: the set is called delivered, and is not there
+abbrev whatever : Reply ℕ → ℕ
+whatever (refused r) = isTaken
+whatever (done w) = w
+
+abbrev alwaysAck : Taker
+alwaysAck st buf b = record { answer = done (whatever (receive st buf b .answer)); state = receive st buf b .state; buffer = receive st buf b .buffer }
+
+received-length : (st : Receiver) (buf b : List ℕ) → length (receive st buf b .buffer) ≡ length buf
+received-length st buf b = go (receive-outcome st buf b)
+  where
+    go : Outcome st buf (receive st buf b) → length (receive st buf b .buffer) ≡ length buf
+    go (kept x n e) = ap (λ (c : ReceiveCall). length (c .buffer)) e
+    go (once-more e) = ap (λ (c : ReceiveCall). length (c .buffer)) e
+    go (took w n e l) = l
+
+module _ (B : BlockCaller) where
+  steps-length : (s out : List ℕ) (φ : List Fate) (w : Ends) → length (stepsOf sendCall B alwaysAck s out φ w .got .buffer) ≡ length (w .got .buffer)
+  steps-length s out [] w = refl
+  steps-length s out (f ∷ φ) w = steps-length s out φ (stepOf sendCall B alwaysAck s out f w) ∙ go (eqb (asked (w .told) .what) toSend) f
+    where
+      go : (t : Bool) (g : Fate) → length (cond t (movedOf sendCall B alwaysAck s out g w) w .got .buffer) ≡ length (w .got .buffer)
+      go true heard = received-length (w .got .state) (w .got .buffer) (onLineOf sendCall B alwaysAck s out (asked (w .told)))
+      go true (unheard r n) = received-length (w .got .state) (w .got .buffer) (onLineOf sendCall B alwaysAck s out (asked (w .told)))
+      go true (changed bs r x n) = received-length (w .got .state) (w .got .buffer) bs
+      go true (lost r n) = refl
+      go false g = refl
+
+  -- both ends fresh, and no room at all
+  abbrev endsWithoutRoom : Ends
+  endsWithoutRoom = record { link = freshLink; told = Next (record { link = freshLink; action = action 0 0 0 }); got = keeping freshReceiver [] (done 0) }
+
+  transfer-arrived-not-always-ack : SaysTransferArrived sendCall B alwaysAck → ⊥
+  unfolding computes cableComputes p
+  transfer-arrived-not-always-ack h =
+      let e = h p pLines read-p endsWithoutRoom [] start-agrees (heard ∷ heard ∷ []) refl .buffer-is in
+      let z : 0 ≡ 51 + length {A = ℕ} [] = sym (steps-length p [] (heard ∷ heard ∷ []) (startsOf sendCall p endsWithoutRoom)) ∙ (ap length e ∙ length-append p []) in
+      omega arith
+
 -- a sender that takes any reply for ACK 1
 transfer-arrived-not-deaf : (B : BlockCaller) (R : Taker) → SaysTransferArrived (λ l b x. sendCall l b (cond b x ack1)) B R → ⊥
 unfolding computes cableComputes p
@@ -1875,7 +1916,7 @@ module _ (B : BlockCaller) (R : Taker) (s out : List ℕ) where
     leaves-so u (lost r n) = refl
 
     replies-so : eqb (w .link .phase) underWay ≡ true → (f : Fate) → repliesOf sendCall B R s out f w ≡ hearsOf send lineOf R s f (cableOf w)
-    replies-so u heard = ap (λ (c : ReceiveCall). ackOf (c .answer)) (leaves-so u heard)
+    replies-so u heard = ap sentBack (leaves-so u heard) ∙ ack-told (arrivesOf send lineOf R s (cableOf w))
     replies-so u (unheard r n) = refl
     replies-so u (changed bs r f n) = refl
     replies-so u (lost r n) = refl

@@ -23,13 +23,14 @@ use Rattle.meaning_cable.specs.Stream.{stream}
 use Rattle.meaning_cable.specs.Blocks.{blockCount, block, blocksOf}
 use Rattle.meaning_cable.specs.Sending.{underWay, delivered, givenUp, toSend, action, sends, endOf, Follows, taken, last-taken, again, afresh, over, ended, firstCount, opened, begun, turnOf}
 use Rattle.meaning_cable.specs.Sending.{send, linkLeft}
-use Rattle.meaning_cable.specs.Receiving.{ReceiveCall, isWhole, ackOf, receive}
+use Rattle.meaning_cable.specs.Receiving.{ReceiveCall, isWhole, receive}
 use Rattle.meaning_cable.specs.CableCalls.{sent, sendCall, asked, blockCall}
 use Rattle.meaning_cable.proofs.OneSetLaws.{set-alone}
 use Rattle.meaning_cable.proofs.SendingLaws.{turn-follows}
+use Rattle.meaning_cable.proofs.ReceivingLaws.{ack-told}
 use Rattle.theory_cable.specs.Carrying.{Cable, bytesOr, begins, arrives, exchange, exchanges, Agree, Arrived, UnderWay, Fate, heard, unheard, changed, lost, gotBy, hears, exchangeBy}
 use Rattle.theory_cable.specs.Carrying.{exchangesBy}
-use Rattle.theory_cable.specs.Transfers.{Ends, onLine, leaves, replies, step, steps, cleanSteps, starts}
+use Rattle.theory_cable.specs.Transfers.{Ends, onLine, leaves, sentBack, replies, step, steps, cleanSteps, starts}
 use Rattle.theory_cable.proofs.ArrivalLaws.{start-is}
 use Rattle.theory_cable.proofs.CarryingLaws.{carried, carried-part, carried-told}
 use Rattle.theory_cable.proofs.LossLaws.{delivered-arrived, arrived-or-given-up}
@@ -108,7 +109,7 @@ module _ (s out : List ℕ) (w : Ends) (t : Told w) where
 
     replies-is : (f : Fate) → replies s out f w ≡ hears s f (cableOf w)
     unfolding replies hears gotBy
-    replies-is heard = ap (λ (c : ReceiveCall). ackOf (c .answer)) (leaves-is heard)
+    replies-is heard = ap sentBack (leaves-is heard) ∙ ack-told (arrives s (cableOf w))
     replies-is (unheard r q) = refl
     replies-is (changed bs r f q) = refl
     replies-is (lost r q) = refl

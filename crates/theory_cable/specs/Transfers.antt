@@ -1,5 +1,5 @@
 -- A transfer as whoever calls makes it, out of the calls' own answers, records and buffers alone: `sendCall` is told the set, then each reply; the block that it asks for is made by `blockCall`,
--- and what arrives of it is given to `receive`. proofs/TransferLaws says that this is what `Carrying` says.
+-- and what arrives of it is given to `receive`; the reply that goes back is made of the number in its answer. proofs/TransferLaws says that this is what `Carrying` says.
 use mathlib.Core.Bool.{true, false, cond}
 use mathlib.Core.List.{List, [], _∷_}
 use Prim.Native.Nat.{ℕ, zero, suc}
@@ -9,9 +9,9 @@ use Rattle.meaning.specs.Answers.{madeCount}
 use Rattle.meaning_cable.specs.declared.Link.{Link}
 use Rattle.meaning_cable.specs.declared.Action.{Action}
 use Rattle.meaning_cable.specs.declared.Sent.{Sent}
-use Rattle.meaning_cable.specs.Sending.{toSend}
-use Rattle.meaning_cable.specs.Receiving.{ReceiveCall, ackOf, receive}
-use Rattle.meaning_cable.specs.CableCalls.{sendCall, asked, blockCall}
+use Rattle.meaning_cable.specs.Sending.{ackBytes, toSend}
+use Rattle.meaning_cable.specs.Receiving.{ReceiveCall, receive}
+use Rattle.meaning_cable.specs.CableCalls.{sendCall, asked, blockCall, receivedCall, ackBy}
 use Rattle.theory_cable.specs.Carrying.{Fate, heard, unheard, changed, lost}
 
 -- Both ends: the sender's record and its last answer, and what the receiver's last call left.
@@ -31,9 +31,13 @@ leaves s out (unheard r p) w = receive (w .got .state) (w .got .buffer) (onLine 
 leaves s out (changed bs r f p) w = receive (w .got .state) (w .got .buffer) bs
 leaves s out (lost r p) w = w .got
 
+-- what goes back for a call of the receiver: 06h and the digit of the `ack` in what the call answers (that of the C record: `gdtcable:CableReplies.receivedReply`)
+abbrev pub sentBack : ReceiveCall → List ℕ
+sentBack c = ackBytes (ackBy (receivedCall c))
+
 -- what the sender then hears
 unfoldable pub replies : List ℕ → List ℕ → Fate → Ends → List ℕ
-replies s out heard w = ackOf (leaves s out heard w .answer)
+replies s out heard w = sentBack (leaves s out heard w)
 replies s out (unheard r p) w = r
 replies s out (changed bs r f p) w = r
 replies s out (lost r p) w = r

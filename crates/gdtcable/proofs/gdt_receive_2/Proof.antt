@@ -1,9 +1,9 @@
--- `gdt_receive`: the numbers of what `receive` answers, and the bytes that it leaves.
+-- `gdt_receive_2`: the numbers of what `receive` answers, and the bytes that it leaves.
 use mathlib.Core.Path.{ap, _∙_}
 use borrow.Author.Needs.{needs}
 use Rattle.gdtcable.specs.CableReplies.{receivedReply}
-use Rattle.gdtcable.proofs.gdt_receive.Statement.{statement}
-use Rattle.gdtcable.proofs.gdt_receive.Tie as tie
+use Rattle.gdtcable.proofs.gdt_receive_2.Statement.{statement}
+use Rattle.gdtcable.proofs.gdt_receive_2.Tie as tie
 
 receive-requires : tie.Need-receive-requires
 receive-requires c κs = search needs
@@ -22,6 +22,6 @@ returns c =
     let at-start = at-lent .before .before in
     (c .received-reply .ensures ∙ ap (receivedReply (at-start .args .receiver)) (at-receive .receive .ensures .0), at-receive .receive .ensures .1)
 
-pub gdt-receive-spec : {M : Type 1} → statement M
-gdt-receive-spec =
+pub gdt-receive-2-spec : {M : Type 1} → statement M
+gdt-receive-2-spec =
     tie.close (tie.spec receive-requires received-reply-requires same-length returns)
