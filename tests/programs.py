@@ -173,6 +173,126 @@ def built(room, example):
     return Program(room, "proved", ["sh", os.path.abspath("tools/x86run")]), Program(room, "second", [], harsh=True)
 
 
+# ---- The commands and links of a page ------------------------------------------------------------------------------------------
+
+COMPILERS = ("gcc", "g++", "rustc")
+# What the programs of README.md and docs/RELEASE.md print, by the start of the command.
+PRINTED = {
+    "./gdtlist": "set 6300 51 4\n1 8000 7 4 0\n2 8100 20 5 0\n3 9218 34 5 0\n4 3000 48 1 0\n",
+    "./correct": """1: 8000 6300
+2: 8100 00051
+3: 9218 02.10
+4: 3000 0
+01380006300\r
+014810000055\r
+014921802.10\r
+014300010027\r
+""",
+    "./day add": "added set 1: type 6300 (root data request), 51 bytes from byte 0 on\n",
+    "./day find": "sets of patient 0 in today.gdt: 1\nset 1: type 6300 (root data request), 51 bytes from byte 0 on\n",
+    "./day check": "sets in today.gdt: 1, all accepted, 51 bytes\ntoday.gdt.idx agrees\n",
+    "./cable": """    received count 0, B00, 21 bytes: taken, ACK 1
+block 1 of 2, count 0, B00, 21 bytes: ACK 1, next block
+    received 43 bytes: refused by 26 (the CRC is not the block's), ACK 0
+block 2 of 2, count 1, B02, 43 bytes (damaged): ACK 0, same block again
+    set of 51 bytes added to received.gdt
+    received count 1, B02, 43 bytes: the set is whole, ACK 1
+block 2 of 2, count 1, B02, 43 bytes: ACK 1, all sent
+delivered: set.gdt
+""",
+    "./recode": "01380006300\r\n014810000061\r\n01092063\r\n014921802.10\r\n01030000\r\n",
+    "./pipeline": """1: 8000 6310
+2: 8100 00116
+3: 9218 02.10
+4: 3000 7
+5: 3101 M\x81ller
+6: 8402 EKG01
+7: 8410 FEV1
+8: 8420 -3.7
+9: 8421 l
+pending:
+4: 3000 10027
+8: 8420 -3.9
+both corrections are kept: either order gives the same 120 bytes
+added to archived.gdt as set 1; sets of patient 10027 there: 1
+set 1: type 6310, 130 bytes from byte 0 on
+""",
+}
+JUDGED = "type 6300, 51 bytes, 4 lines\n"  # by each `judge`; the one in C++ also prints the lines
+JUDGED_LINES = JUDGED + "8000 6300\n8100 00051\n9218 02.10\n3000 0\n"
+
+
+def ran(*words, **how):
+    """Status, output and errors of a command."""
+    done = subprocess.run(words, stdout=subprocess.PIPE, stderr=subprocess.PIPE, check=False, **how)
+    return done.returncode, done.stdout.decode("latin-1"), done.stderr.decode("latin-1")
+
+
+def makes(command):
+    """The program that a compiler's command makes, as it is then called; None if it is another command."""
+    words = shlex.split(command)
+    if words[0] not in COMPILERS:
+        return None
+    if "-o" in words:
+        return "./" + words[words.index("-o") + 1]
+    return "./" + next((os.path.splitext(os.path.basename(word))[0] for word in words if word.endswith(".rs")), "a.out")
+
+
+class Shell:
+    """Gives the commands of a page in a folder: as they stand on x86-64, with this path; else C goes through the kit's compiler, and what it makes runs under the kit's emulator."""
+
+    def __init__(self, folder, room, path=None):
+        self.folder, self.path, self.missing = folder, path or os.environ["PATH"], set()
+        self.headers = os.path.join(room, "headers")
+        os.mkdir(self.headers)
+        put_stand_ins(self.headers)
+
+    def lacks(self, command):
+        """The tool that is missing for this command, if one is that may be missing: without gcc the command fails."""
+        words, program = shlex.split(command), makes(command)
+        gone = [tool for tool in ("g++", "rustc", "pkg-config") if tool in words and not (NATIVE and shutil.which(tool, path=self.path))]
+        if program:
+            (self.missing.add if gone else self.missing.discard)(program)
+        return next(iter(gone), None) or next((word for word in words if word in self.missing), None)
+
+    def give(self, command):
+        words = shlex.split(command)
+        if not NATIVE and words[0] == "gcc":
+            return ran("sh", os.path.abspath("tools/x86cc"), "-DX86_OWN_NAMES", "-I", self.headers, *words[1:], cwd=self.folder)
+        for word in [] if NATIVE else words:
+            self.emulate(os.path.join(self.folder, word))
+        return ran("sh", "-c", command, cwd=self.folder, stdin=subprocess.DEVNULL, env={**os.environ, "PATH": self.path})
+
+    @staticmethod
+    def emulate(path):
+        """Puts a script that runs the program under the kit's emulator in its place, if it is a program."""
+        if not os.path.isfile(path) or open(path, "rb").read(4) != b"\x7fELF":
+            return
+        os.rename(path, path + ".x86")
+        with open(path, "w") as script:
+            script.write('#!/bin/sh\n%s "$@"\n' % shlex.join(["exec", "sh", os.path.abspath("tools/x86run"), path + ".x86"]))
+        os.chmod(path, 0o755)
+
+
+def page_of(path):
+    with open(path, encoding="utf-8") as file:
+        return file.read()
+
+
+def anchors(text):
+    """The anchors of a page's headings: small letters, and a hyphen for a space; other signs are left out."""
+    headings = re.findall(r"^#+ +(.*?) *$", re.sub(r"^```.*?^```$", "", text, flags=re.M | re.S), re.M)
+    return {re.sub(r"[^\w\- ]", "", heading.lower()).replace(" ", "-") for heading in headings}
+
+
+def links(text):
+    """The relative links of a page, as path and anchor; the path is empty in a link to the page itself. And what looks like a link in another form than [words](path)."""
+    plain = re.sub(r"^```.*?^```$|`[^`\n]*`", "`", text, flags=re.M | re.S)
+    form = r"\[[^\[\]]*\]\(([^()\s]+)\)"
+    strange = re.findall(r"\][(\[][^)\]]*.?|^ *\[[^\]]+\]:.*|<a .*?>", re.sub(form, "", plain), re.M)
+    return [(path, anchor) for path, _, anchor in (link.partition("#") for link in re.findall(form, plain)) if not re.match(r"\w+:", path)], strange
+
+
 class Judged(ctypes.Structure):
     _fields_ = [(name, ctypes.c_size_t) for name in ("no", "place", "label", "length", "lines", "type")]
 
