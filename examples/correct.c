@@ -1,7 +1,8 @@
 /* correct.c: lists the lines of the set on standard input, gives one of them a new content, and prints the set that it then is.
      correct LINE CONTENT <FILE
-   Status 0: done. 1: the set or the correction is refused; standard error says by which number. 2: wrong usage, or standard input cannot
-   be read. At most 65,536 bytes are read: no set has so many, so what is longer is refused. */
+   Status 0: done. 1: the set or the correction is refused; standard error says by which number. 2: wrong usage, standard input cannot be
+   read, or standard output cannot be written: standard error says why, and what was printed may be cut short.
+   At most 65,536 bytes are read: no set has so many, so what is longer is refused. */
 #define _POSIX_C_SOURCE 200809L
 #include <errno.h>
 #include <stdbool.h>
@@ -37,6 +38,16 @@ static bool take_number(const char *word, size_t *out)
     return word[0] >= '0' && word[0] <= '9' && *end == '\0';
 }
 
+/* The status, unless a part of what was printed could not be written. */
+static int brought_out(int status)
+{
+    if (ferror(stdout) || fclose(stdout) != 0) {
+        dprintf(2, "correct: standard output cannot be written: %s\n", strerror(errno));
+        return TROUBLE;
+    }
+    return status;
+}
+
 static int refused(const char *what, struct gdt_made made)
 {
     dprintf(2, "%s: refused by %zu at place %zu, label %zu\n", what, made.no, made.place, made.label);
@@ -64,8 +75,8 @@ int main(int count, char **words)
     const char *content = words[2];
     made = gdt_correct(buffer, ROOM, used, line, (const uint8_t *)content, strlen(content));
     if (made.no != 0) {
-        return refused("the correction", made);
+        return brought_out(refused("the correction", made));
     }
     printf("%.*s", (int)made.count, (const char *)buffer);
-    return DONE;
+    return brought_out(DONE);
 }

@@ -2,8 +2,8 @@
      day add FILE SET        adds the one set in the file SET (-: standard input) to the end of FILE; the first add makes FILE
      day find FILE PATIENT   prints the sets whose 3000 content has the bytes of PATIENT
      day check FILE          judges every set of FILE, builds the index anew and compares the kept one with it
-   Status 0: done. 1: a set is refused, a file cannot be used, or the kept index named other sets than FILE has; standard error says
-   what is wrong and what to do. 2: wrong usage.
+   Status 0: done. 1: a set is refused, a file cannot be used, standard output cannot be written, or the kept index named other sets
+   than FILE has; standard error says what is wrong and what to do. 2: wrong usage.
 
    FILE.idx keeps the index: the mark GDTDAY01, the length of FILE that it belongs to, how many sets, four numbers for each of them as
    in gdt.h, and last a check value, the FNV-1a sum of all bytes before it. A number has eight bytes, little-endian. An index that
@@ -422,28 +422,11 @@ static bool read_set(const char *path, struct bytes *set)
     return true;
 }
 
-/* Brings the name of a new file to the disk. Some file systems cannot do that; the bytes are there in any case. */
-static void sync_name(void)
-{
-    char *folder = path_with(day.path, "");
-    char *slash = strrchr(folder, '/');
-    if (slash != NULL) {
-        slash[1] = 0;
-    }
-    int opened = open(slash != NULL ? folder : ".", O_RDONLY);
-    if (opened >= 0) {
-        fsync(opened);
-        close(opened);
-    }
-}
-
 /* Writes the bytes after the old length. If that cannot be done, what was written of them is taken back. */
 static bool append(size_t old)
 {
-    if (write_all(day.opened, day.file.at + old, day.file.used - old) && fsync(day.opened) == 0) {
-        if (old == 0) {
-            sync_name();
-        }
+    bool written = write_all(day.opened, day.file.at + old, day.file.used - old) && fsync(day.opened) == 0;
+    if (written && (old > 0 || sync_name(day.path))) {
         return true;
     }
     tell_failure(day.path, "written");
@@ -630,6 +613,9 @@ int main(int count, char **words)
 {
     const char *call = count > 1 ? words[1] : "";
     int status = WRONG_USAGE;
+    if (!take_closed()) {
+        return REFUSED;
+    }
     if (count == 4 && strcmp(call, "add") == 0) {
         status = add(words[2], words[3]);
     } else if (count == 4 && strcmp(call, "find") == 0) {
@@ -641,7 +627,7 @@ int main(int count, char **words)
                    "       day find FILE PATIENT   prints the sets of the patient with this number\n"
                    "       day check FILE          judges all sets and builds the index, FILE.idx, anew\n");
     }
-    if (fflush(NULL) != 0) {
+    if (ferror(stdout) || fclose(stdout) != 0) {
         tell_failure("standard output", "written");
         if (day.has_set) {
             tell_added("");

@@ -1,7 +1,9 @@
 // judge.cpp: judges the set on standard input, and prints its type and its lines, or why it is refused. C++11 and later.
-//   judge <FILE   status 0: accepted. 1: refused. 2: standard input cannot be read.
+//   judge <FILE   status 0: accepted. 1: refused. 2: standard input cannot be read, or standard output not written; standard error says why.
 // Bytes after the set are another set, and are not judged.
+#include <cerrno>
 #include <cstdio>
+#include <cstring>
 #include <vector>
 #include "gdt.h"
 
@@ -25,21 +27,29 @@ static void print_lines(const uint8_t *set, const gdt_judged &judged)
     }
 }
 
+static int trouble(const char *what)
+{
+    std::fprintf(stderr, "judge: %s: %s\n", what, std::strerror(errno));
+    return 2;
+}
+
 int main()
 {
     std::vector<uint8_t> bytes;
     if (!read_input(bytes)) {
-        std::fprintf(stderr, "judge: standard input cannot be read\n");
-        return 2;
+        return trouble("standard input cannot be read");
     }
     const size_t length = bytes.size();
     bytes.push_back(0); // so that data() is not null if there is no input
     const gdt_judged judged = gdt_judge(bytes.data(), length);
     if (judged.no != 0) {
         std::printf("refused by %zu at place %zu, label %zu\n", judged.no, judged.place, judged.label);
-        return 1;
+    } else {
+        std::printf("type %zu, %zu bytes, %zu lines\n", judged.type, judged.length, judged.lines);
+        print_lines(bytes.data(), judged);
     }
-    std::printf("type %zu, %zu bytes, %zu lines\n", judged.type, judged.length, judged.lines);
-    print_lines(bytes.data(), judged);
-    return 0;
+    if (std::ferror(stdout) || std::fclose(stdout) != 0) {
+        return trouble("standard output cannot be written");
+    }
+    return judged.no != 0;
 }

@@ -6,8 +6,8 @@
    unless both people give one line different contents: one of these would be lost, so nothing is done until the two agree. The corrected
    set is brought into code page 1252 and appended to the day file ARCHIVE, which is made if it is not there; then the patient's sets in
    ARCHIVE are named.
-   Status 0: done. 1: the set, a correction or ARCHIVE is refused. 2: wrong usage, or a file cannot be read or written. Standard error
-   then says what is wrong, and whether the set was added.
+   Status 0: done. 1: the set, a correction or ARCHIVE is refused. 2: wrong usage, or a file or standard output cannot be read or written.
+   Standard error then says what is wrong, and whether the set was added.
 
    ARCHIVE is locked as long as it is used, as by examples/day.c. If the set cannot be written, what was written of it is taken back. If the
    machine stops in between, ARCHIVE ends in a part of a set, and the next call refuses it: `day check ARCHIVE` says how to go on.
@@ -57,9 +57,16 @@ static bool added; /* the set is in the archive */
 
 /* ---- What goes wrong is said, and the program ends ---------------------------------------------------------------------------- */
 
+/* Ends with this status, unless a part of what was printed could not be written. */
 static _Noreturn void stop(int status)
 {
-    dprintf(2, "pipeline: the set %s\n", added ? "is in the archive, do not add it again" : "was not added to the archive");
+    if (ferror(stdout) || fclose(stdout) != 0) {
+        dprintf(2, "pipeline: standard output cannot be written: %s\n", strerror(errno));
+        status = TROUBLE;
+    }
+    if (status != DONE) {
+        dprintf(2, "pipeline: the set %s\n", added ? "is in the archive, do not add it again" : "was not added to the archive");
+    }
     exit(status);
 }
 
@@ -75,13 +82,6 @@ static void check(const char *name, size_t no, size_t place, size_t label)
     if (no != 0) {
         dprintf(2, "pipeline: %s: refused by %zu at place %zu, label %zu: %s\n", name, no, place, label, reasons[no]);
         stop(REFUSED);
-    }
-}
-
-static void bring_out(void)
-{
-    if (fflush(NULL) != 0) {
-        fail("standard output", "written");
     }
 }
 
@@ -202,7 +202,7 @@ static void recode(void)
 /* Appends the set to the file of this many bytes. */
 static void append(int file, const char *path, size_t old)
 {
-    if (!write_all(file, archived.bytes, archived.used) || fsync(file) != 0) {
+    if (!write_all(file, archived.bytes, archived.used) || fsync(file) != 0 || (old == 0 && !sync_name(path))) {
         int why = errno;
         if (ftruncate(file, (long)old) != 0) {
             dprintf(2, "pipeline: %s may end in a part of the set now: `day check` says what is whole\n", path);
@@ -273,11 +273,15 @@ int main(int count, char **words)
                    "       operator and as the front desk want it, and adds it in code page 1252 to the day file ARCHIVE\n");
         return TROUBLE;
     }
+    if (!take_closed()) {
+        return TROUBLE;
+    }
     take_set(words[1]);
     correct_both(show_set(), both);
     recode();
-    bring_out();
+    if (fflush(stdout) != 0 || ferror(stdout)) {
+        stop(TROUBLE);
+    }
     show_patient(words[2], add(words[2]));
-    bring_out();
-    return DONE;
+    stop(DONE);
 }

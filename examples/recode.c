@@ -4,7 +4,8 @@
    IN is a set, or a day file: set after set with nothing between. OUT has the same sets in the wanted code page, each with a line 9206
    that names it; only a set without that line stays without it if 437 is wanted.
    Nothing is written until all sets are recoded. Status 0: they are, and OUT is written. 1: a set is refused; standard error says which
-   one, at which byte of IN, and why. 2: wrong usage, or IN cannot be read or OUT not written. */
+   one, at which byte of IN, and why. 2: wrong usage, or IN cannot be read or OUT not written: standard error says why, and OUT, which may
+   have a part of the sets then, must not be used. */
 #define _POSIX_C_SOURCE 200809L
 #include <errno.h>
 #include <stdbool.h>
@@ -173,7 +174,7 @@ static bool read_all(struct bytes *in)
 
 static bool write_sets(const struct bytes *out)
 {
-    return write_all(1, out->at, out->used) || tell_failure("standard output cannot be written");
+    return (write_all(1, out->at, out->used) && close(1) == 0) || tell_failure("standard output cannot be written");
 }
 
 /* ---- The command ------------------------------------------------------------------------------------------------------------- */
