@@ -200,6 +200,8 @@ def bounds():
     found = {program: table_bounds(table) for program, table in zip(PROGRAMS, tables)}
     for load, calls in table_bounds(few).items():
         for call, most in calls.items():
+            if load in found[SETS][call]:
+                sys.exit("FAILED - bench/bounds.txt has two bounds for %s on %s" % (call, load))
             found[SETS][call][load] = most
     return found
 
@@ -218,4 +220,8 @@ def bound_tables():
 def table_bounds(table):
     """For the first word of each line the numbers in it, by the words of the table's head."""
     head, *lines = [line.split() for line in table.strip().split("\n")]
+    firsts = [line[0] for line in lines]
+    wrong = [line[0] for line in lines if len(line) != len(head) or firsts.count(line[0]) > 1]
+    if wrong:
+        sys.exit("FAILED - bench/bounds.txt: the line %s has not a number for each word of its head, or is there twice" % wrong[0])
     return {first: {word: float(most) for word, most in zip(head[1:], numbers) if most != "-"} for first, *numbers in lines}

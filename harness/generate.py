@@ -13,7 +13,7 @@ import codes
 import days
 import sets
 from rows import FIELDS, SET_TABLES, marked
-from stream import CALLS, DAY_ENTRY, LAST_NUMBER, LISTS, NUMBERS, ROOT, SET_FAULTS, Case, answers, day_sets, entries, packed
+from stream import CALLS, DAY_ENTRY, LAST_NUMBER, LISTS, NUMBERS, ROWS, SET_FAULTS, STORED, STREAMS, Case, answers, day_sets, entries, packed
 
 FOUND_FIRST = range(2, 8)  # faults of lines that come before all rules
 FAR = 0.05  # how many of the sets and lists with such faults have far places
@@ -26,7 +26,6 @@ MANY_LINES = 400
 STORED_CASES, STORED_DAYS = 1200, 500  # of each call on sets, of each day call
 STORED_SEED = 21
 EDGES = 0.02  # how many of the cases of a call in FORMS are made by edge_case; those of the stored streams are put at their end, all of them
-ROWS = "rows"  # the stored stream that goes through the tables row by row
 
 # Of a call's cases at least this many in a hundred must be accepted, meet each number, have over 400 lines (of a day call: sets); of lookups find a set.
 LEAST_ACCEPTED, LEAST_NUMBER, LEAST_LONG, LEAST_FOUND = 30, 0.1, 1, 15
@@ -725,11 +724,13 @@ def met(found, lines):
     return counts
 
 
-def shortfalls(counts):
-    """What is met too seldom, as sentences."""
+def shortfalls(counts, calls):
+    """What these calls meet too seldom, as sentences."""
     out = []
-    for call, count in counts.items():
-        name, form, numbers = CALLS[call]
+    for call in calls:
+        count, (name, form, numbers) = counts[call], CALLS[call]
+        if not count["all"]:
+            out.append("%s: there is no case of it" % name)
         least = {0: ("accepted", LEAST_ACCEPTED), **{no: ("refused by %d" % no, LEAST_NUMBER) for no in numbers}}
         if call != "t":
             least["long"] = ("over 400 sets" if "file" in form else "over 400 lines", LEAST_LONG)
@@ -778,7 +779,7 @@ def check(found, aims):
         return ["the second program: " + told.message]
     counts = met(found, told.lines)
     print("\n".join(histogram(counts)), file=sys.stderr)
-    wrong = shortfalls(counts)
+    wrong = shortfalls(counts, list(counts))
     for number, (case, aim, line) in enumerate(zip(found, aims, told.lines), 1):
         if aim is not None and not line.startswith("refused %d " % aim if aim else "ok "):
             wrong.append("case %d, %s, was made for %d: %s" % (number, CALLS[case.call][0], aim, line[:60]))
@@ -789,28 +790,36 @@ def check(found, aims):
     return wrong + codes.untold(found, told.lines)
 
 
-def store():
-    """Writes the stored streams: one for each call, and one for the rows."""
-    streams = {}
+def streams():
+    """The cases of each stored stream: one for each call, and one for the rows."""
+    found = {}
     for call, (name, form, _) in CALLS.items():
-        streams[name] = [case for case, _ in cases(STORED_SEED, STORED_DAYS if "file" in form else STORED_CASES, call, edges=0)]
-    streams["write"] += again_cases()
-    streams["day_build"] += build_edges()
-    streams["day_append"] += append_edges()
-    streams["day_find"] += find_edges()
+        found[name] = [case for case, _ in cases(STORED_SEED, STORED_DAYS if "file" in form else STORED_CASES, call, edges=0)]
+    found["write"] += again_cases()
+    found["day_build"] += build_edges()
+    found["day_append"] += append_edges()
+    found["day_find"] += find_edges()
     r = random.Random(STORED_SEED)
     for case in [*seven_set_edges(), *seven_content_edges(), *cables.block_edges(r), *cables.send_edges(r), *cables.receive_edges(), *edge_cases(), *codes.recode_edges()]:
-        streams[CALLS[case.call][0]].append(case)
-    streams[ROWS] = row_cases()
-    for name, found in streams.items():
-        with open(os.path.join(ROOT, "harness", "streams", name + ".xz"), "wb") as file:
+        found[CALLS[case.call][0]].append(case)
+    found[ROWS] = list(row_cases())
+    return found
+
+
+def store():
+    """Writes the stored streams. Says of which STORED has another number of cases; that table is changed by hand, so that a change of it is seen."""
+    made = streams()
+    for name, found in made.items():
+        with open(os.path.join(STREAMS, name + ".xz"), "wb") as file:
             file.write(lzma.compress(b"".join(map(packed, found)), preset=9 | lzma.PRESET_EXTREME))
+    other = ["%s: %d cases now, STORED in harness/stream.py says %s" % (name, len(found), STORED.get(name)) for name, found in made.items() if STORED.get(name) != len(found)]
+    print("".join(line + "\n" for line in other), end="", file=sys.stderr)
+    return 1 if other else 0
 
 
 def main(words):
     if words == ["store"]:
-        store()
-        return 0
+        return store()
     if words == ["rows"]:
         sys.stdout.buffer.write(b"".join(map(packed, row_cases())))
         return 0

@@ -9,6 +9,7 @@ import sys
 from typing import Dict, List, NamedTuple, Tuple, Union
 
 ROOT = os.path.dirname(os.path.dirname(os.path.abspath(__file__)))
+STREAMS = os.path.join(ROOT, "harness", "streams")
 
 SET_FAULTS = [*range(1, 17), 24, 17]  # the refusals of a set: 24 comes "after Missing and before BadSum"
 
@@ -34,7 +35,11 @@ RECEIVER = ("started", "last", "open", "used")
 NUMBERS = ("room", "line", "lent", "old", "begin", "wanted", *LINK, *RECEIVER)
 LISTS = ("index",)  # of numbers; all others are bytes
 DAY_ENTRY = 4  # numbers that a set has in the index of a day file
-STORED = ("block", "correct", "day_append", "day_build", "day_find", "index", "judge", "list", "receive", "recode", "rows", "send", "view", "write")  # harness/streams/
+ROWS = "rows"  # the stored stream that goes through the tables row by row
+# The stored streams, harness/streams/, and how many cases each has. People write these numbers: `harness/generate.py store` only says which of them is another one then.
+STORED = {"block": 1562, "correct": 1931, "day_append": 911, "day_build": 873, "day_find": 750, "index": 1706, "judge": 1895}
+STORED.update({"list": 1706, "receive": 2019, "recode": 4722, ROWS: 2658, "send": 1975, "view": 2534, "write": 1919})
+CALL_OF = {**{name: call for call, (name, _, _) in CALLS.items()}, ROWS: "j"}  # of which call all cases of a stored stream are
 MOST_ROWS = 600  # of a set, a day file or its index that are shown
 NOTHING = b"j" + bytes(8)  # the shortest stream of one case: judge is given no bytes
 
@@ -95,18 +100,27 @@ def first_difference(cases, lines, others):
     return None
 
 
+def read_stored(name):
+    """The bytes of a stored stream."""
+    with lzma.open(os.path.join(STREAMS, name + ".xz")) as file:
+        return file.read()
+
+
+def misnamed():
+    """A sentence for each stream of STORED that is missing, and for each file that is none of them."""
+    there = sorted(os.listdir(STREAMS)) if os.path.isdir(STREAMS) else []
+    named = [name + ".xz" for name in STORED]
+    wrong = ["harness/streams/%s is missing" % name for name in named if name not in there]
+    return wrong + ["harness/streams/%s is not named in STORED of harness/stream.py" % name for name in there if name not in named]
+
+
 def stored():
     """Name, bytes and cases of each stored stream. Fails if one of STORED is missing, or if there is one more."""
-    folder = os.path.join(ROOT, "harness", "streams")
-    there = sorted(os.listdir(folder)) if os.path.isdir(folder) else []
-    named = [name + ".xz" for name in STORED]
-    wrong = ["FAILED - harness/streams/%s is missing" % name for name in named if name not in there]
-    wrong += ["FAILED - harness/streams/%s is not named in STORED of harness/stream.py" % name for name in there if name not in named]
+    wrong = misnamed()
     if wrong:
-        sys.exit("\n".join(wrong))
+        sys.exit("\n".join("FAILED - " + sentence for sentence in wrong))
     for name in STORED:
-        with lzma.open(os.path.join(folder, name + ".xz")) as file:
-            data = file.read()
+        data = read_stored(name)
         yield name, data, unpacked(data)
 
 
