@@ -1,34 +1,21 @@
 // The program gdtlist: it lists the sets of a file or of standard input, and answers its exit status.
 // A program of the kit cannot give an exit status. So the program is `gdtlist_run`, which start.c beside src/ calls from C's `main`; crate `gdtlist` has the kit's own start.
-// Every function is proved safe and ending. What is read and written no contract can say; what is printed of a set is what `judge::judge` and `index_walk::next_entry` answer,
-// and the status of a list is that of the set that was judged last (`list_bytes`).
-mod out;
-mod sets;
-
+// Here are its words and what it reads; `program_status::list_bytes` lists what was read, and `program_out` has all that is written. Every function is proved safe and ending.
 ghost use mathlib.Core.Path.{_≡_};
-ghost use mathlib.Core.Bool.{true, false};
 ghost use Rattle.meaning.specs.Kinds.{sameBytes};
-ghost use Rattle.program_list.specs.OutBlock.{Holds};
-ghost use Rattle.program_list.specs.Stops.{trouble, statusOf};
-use libc::STDERR_FILENO;
 use libc::STDIN_FILENO;
 use libc::STDOUT_FILENO;
-use out::BLOCK;
-use out::Out;
-use out::put;
+use program_out::tell;
+use program_out::tell_failed;
+use program_status::LISTED;
+use program_status::REFUSED;
+use program_status::TROUBLE;
 
 // "at most 65,536 bytes"
 const MOST_BYTES: usize = 65_536;
 
 // One byte more, so that a longer input shows.
 const ROOM: usize = MOST_BYTES + 1;
-
-// The exit statuses: every set is listed; a set is refused, or the input is too long; something else went wrong.
-const LISTED: i32 = 0;
-
-const REFUSED: i32 = 1;
-
-const TROUBLE: i32 = 2;
 
 // What reading the input came to.
 enum Input {
@@ -44,53 +31,6 @@ enum Request {
     StandardInput,
     File,
     Unknown,
-}
-
-// ---- what goes to standard error
-
-// A text on standard error. If it cannot be written, nobody can be told.
-fn tell(text: &[u8]) {
-    io::write_all(STDERR_FILENO, text);
-}
-
-// A call that failed just now, of this file or stream, with the system's reason.
-fn tell_failed(what: &[u8], name: &[u8]) {
-    tell(b"gdtlist: cannot ");
-    tell(what);
-    os::fail(name);
-}
-
-fn tell_usage() {
-    tell(b"usage: gdtlist [FILE]\n");
-}
-
-// Places of the list count from the start of its set: so this says where that is.
-fn tell_refused(no: usize, at: usize) {
-    tell(b"gdtlist: refused by ");
-    io::print_decimal(STDERR_FILENO, no as u64);
-    tell(b", in the set at byte ");
-    io::print_decimal(STDERR_FILENO, at as u64);
-    tell(b" of the input\n");
-}
-
-// ---- what goes to standard output
-
-// What is left is written, and standard output closed, since some systems tell only then that a write failed. Answers whether all went well; the contract says it of what was
-// written before.
-fn finish(block: &[u8], out: Out) -> bool
-    requires { ⌜ Holds (now block) out ⌝ }
-    ensures { λ r. ⌜ (r ≡ true → out .failed ≡ false) ⌝ }
-{
-    let last = out::flush(block, out);
-    if last.failed {
-        tell_failed(b"write to ", b"standard output");
-        return false;
-    }
-    if libc::close(STDOUT_FILENO) < 0 {
-        tell_failed(b"close ", b"standard output");
-        return false;
-    }
-    true
 }
 
 // ---- reading
@@ -117,29 +57,11 @@ fn read_input(fd: i32, room: &mut [u8]) -> Input {
 
 // "longer prints only `too long`"
 fn list_too_long() -> i32 {
-    let mut block = [0u8; BLOCK];
-    let out = put(&mut block, out::start(), b"too long\n");
-    if !finish(&block, out) {
+    let written = io::write_all(STDOUT_FILENO, b"too long\n");
+    if !program_out::finish(!written) {
         return TROUBLE;
     }
     tell(b"gdtlist: the input has more than 65536 bytes\n");
-    REFUSED
-}
-
-// The sets of some bytes: unless there is trouble, the status says whether a set is refused.
-fn list_bytes(s: &[u8]) -> i32
-    ensures { λ r. ⌜ ((r ≡ trouble → ⊥) → r ≡ statusOf (now (s .entry))) ⌝ }
-{
-    let mut block = [0u8; BLOCK];
-    let listed = sets::list_sets(&mut block, s);
-    let out = listed.out;
-    if !finish(&block, out) {
-        return TROUBLE;
-    }
-    if listed.no == 0 {
-        return LISTED;
-    }
-    tell_refused(listed.no, listed.at);
     REFUSED
 }
 
@@ -153,7 +75,7 @@ fn list_input(fd: i32, name: &[u8]) -> i32 {
     if MOST_BYTES < n {
         return list_too_long();
     }
-    list_bytes(&room[..n])
+    program_status::list_bytes(&room[..n])
 }
 
 fn list_standard_input() -> i32 {
@@ -209,6 +131,10 @@ fn request_of(word: &[u8]) -> Request {
     Request::File
 }
 
+fn tell_usage() {
+    tell(b"usage: gdtlist [FILE]\n");
+}
+
 fn unknown(word: &[u8]) -> i32 {
     tell(b"gdtlist: ");
     tell(word);
@@ -218,10 +144,8 @@ fn unknown(word: &[u8]) -> i32 {
 }
 
 fn help() -> i32 {
-    let mut block = [0u8; BLOCK];
-    let out = put(
-        &mut block,
-        out::start(),
+    let written = io::write_all(
+        STDOUT_FILENO,
         b"usage: gdtlist [FILE]\n\
 Lists the GDT 2.1 sets of FILE, or of standard input if FILE is - or not given.\n\
 \n\
@@ -233,7 +157,7 @@ too long                          an input of more than 65536 bytes: nothing els
 A place counts from the start of its set. The status is 0 if every set is listed,\n\
 1 if a set is refused or the input is too long, 2 if something failed.\n",
     );
-    if !finish(&block, out) {
+    if !program_out::finish(!written) {
         return TROUBLE;
     }
     LISTED

@@ -1,9 +1,9 @@
 -- `put_number` puts at most 20 digits, and the block has room for them.
 use native.Mathlib.Omega.{arith}
 use borrow.Author.Needs.{needs}
-use Rattle.program_list.proofs.DigitCount.{few-digits}
-use Rattle.program_list.proofs.out.put_number.Statement.{statement}
-use Rattle.program_list.proofs.out.put_number.Tie as tie
+use Rattle.program_out.proofs.DigitCount.{few-digits}
+use Rattle.program_out.proofs.put_number.Statement.{statement}
+use Rattle.program_out.proofs.put_number.Tie as tie
 
 decimal-requires : tie.Need-decimal-requires
 decimal-requires c κs = search needs

@@ -3,7 +3,7 @@ use mathlib.Core.Path.{_≡_}
 use mathlib.Core.List.{List}
 use Prim.Native.Nat.{ℕ, _≤_}
 use lib.ListN.{length}
-use Rattle.program_list.specs.declared.out.Out.{Out}
+use Rattle.program_out.specs.declared.Out.{Out}
 
 -- the bytes of the block
 abbrev pub blockSize : ℕ

@@ -1,12 +1,9 @@
--- `finish` answers true only if no write had failed before it: `flush` keeps that in mind.
+-- `finish` answers true only if no write had failed before it.
 use mathlib.Core.Path.{sym}
 use mathlib.Core.Bool.{true≢false}
 use borrow.Author.Needs.{needs}
-use Rattle.program_list.proofs.finish.Statement.{statement}
-use Rattle.program_list.proofs.finish.Tie as tie
-
-flush-requires : tie.Need-flush-requires
-flush-requires c κs = search needs
+use Rattle.program_out.proofs.finish.Statement.{statement}
+use Rattle.program_out.proofs.finish.Tie as tie
 
 slice-aggregate-tell-failed : tie.Need-slice-aggregate-tell-failed
 slice-aggregate-tell-failed c = search needs
@@ -38,13 +35,12 @@ returns-2 c = λ e. absurd (true≢false (sym e))
 returns-3 : tie.Need-returns-3
 returns-3 c =
     let at-if1 = c .before .before in
-    λ e. at-if1 .before .flush .ensures .1 (at-if1 .if1 .left)
+    λ e. at-if1 .if1 .left
 
 pub finish-spec : {M : Type 1} → statement M
 finish-spec =
     tie.close
     (tie.spec
-    flush-requires
     slice-aggregate-tell-failed
     slice-aggregate-tell-failed-2
     tell-failed-requires

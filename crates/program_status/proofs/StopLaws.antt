@@ -1,4 +1,4 @@
--- A list of sets from an offset on: it stops there, or goes on after the set. In each law n and r are what `list_set` answers for the part from `at` on.
+-- A list of sets from an offset on: it stops there, or goes on after the set. In each law n and r are the length and the number that were answered for the set at `at`.
 use mathlib.Core.Path.{_≡_, refl, sym, ap, _∙_}
 use mathlib.Core.List.{List}
 use Prim.Native.Nat.{ℕ, zero, suc, _+_, _-_, _≤_, _<_}
@@ -6,9 +6,10 @@ use native.Mathlib.Omega.{arith}
 use lib.ListN.{length, take, drop}
 use borrow.Author.Tests.{le-leb, lt-leb, eq-eqb, ne-eqb}
 use Rattle.meaning.specs.Reading.{judge}
-use Rattle.meaning.specs.Answers.{judgedShape, judgedRefusal}
+use Rattle.face_replies.specs.declared.JudgedReply.{JudgedReply}
+use Rattle.face_replies.specs.Replies.{judgedReply}
 use Rattle.byte_put.proofs.LendLaws.{mid-tail}
-use Rattle.program_list.specs.Stops.{Stop, lengthAt, noAt, stopFrom, stop}
+use Rattle.program_status.specs.Stops.{Stop, lengthAt, noAt, stopFrom, stop}
 
 -- This many sets may still come, and the list stops where it stops from `at` on.
 pub record Ahead (s : List ℕ) (at : ℕ) : Type 0 where
@@ -25,14 +26,10 @@ pub record Answered (s : List ℕ) (at n r : ℕ) : Type 0 where
   pub no-is : r ≡ noAt s at
 
 -- the part that is lent is all that stands from `at` on
-pub answered : (s : List ℕ) (at n r : ℕ)
-    → n ≡ judgedShape (judge (take (length s - at) (drop at s))) .length
-    → r ≡ judgedRefusal (judge (take (length s - at) (drop at s))) .no
-    → Answered s at n r
-answered s at n r e f = record {
-  length-is = e ∙ ap (λ (x : List ℕ). judgedShape (judge x) .length) (mid-tail s at);
-  no-is = f ∙ ap (λ (x : List ℕ). judgedRefusal (judge x) .no) (mid-tail s at);
-}
+pub answered : (s : List ℕ) (at : ℕ) (a : JudgedReply) → a ≡ judgedReply (judge (take (length s - at) (drop at s))) → Answered s at (a .length) (a .no)
+answered s at a e =
+    let is : a ≡ judgedReply (judge (drop at s)) = e ∙ ap (λ (x : List ℕ). judgedReply (judge x)) (mid-tail s at) in
+    record { length-is = ap (λ (x : JudgedReply). x .length) is; no-is = ap (λ (x : JudgedReply). x .no) is }
 
 -- ---- one turn, by the definition
 

@@ -4,8 +4,8 @@ use mathlib.Core.Bool.{true≢false}
 use native.Mathlib.Omega.{arith}
 use borrow.Author.Needs.{needs}
 use lib.ListN.{length-take}
-use Rattle.program_list.proofs.out.flush.Statement.{statement}
-use Rattle.program_list.proofs.out.flush.Tie as tie
+use Rattle.program_out.proofs.flush.Statement.{statement}
+use Rattle.program_out.proofs.flush.Tie as tie
 
 returns : tie.Need-returns
 returns c = (refl, λ e. absurd (true≢false e))

@@ -1,9 +1,9 @@
 -- `put_entries` ends: the measure is the number of lines that are left. The block stays whole from turn to turn.
 use Prim.Native.Nat.{_-_}
 use borrow.Author.Needs.{needs}
-use Rattle.program_list.specs.OutBlock.{Holds}
-use Rattle.program_list.proofs.sets.put_entries.Statement.{statement}
-use Rattle.program_list.proofs.sets.put_entries.Tie as tie
+use Rattle.program_out.specs.OutBlock.{Holds}
+use Rattle.program_out.proofs.put_entries.Statement.{statement}
+use Rattle.program_out.proofs.put_entries.Tie as tie
 
 abbrev Inv-loop : tie.InvT-loop
 Inv-loop block₀ s n held₀ walk₀ k₀ block held walk k = Holds block held
