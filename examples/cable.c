@@ -45,7 +45,7 @@ enum {
     MOST_NUMBER = 86400000 /* of an option; for -t that is a day */
 };
 
-static const uint8_t ack_1[REPLY] = {0x06, '1'}, ack_0[REPLY] = {0x06, '0'};
+static const uint8_t ack_1[REPLY] = {GDT_ACK, '1'}, ack_0[REPLY] = {GDT_ACK, '0'};
 
 /* One end of the line. In the demo some of what is put on it is damaged or lost. */
 struct line {
@@ -315,11 +315,13 @@ static bool keep_set(size_t length)
     return true;
 }
 
-/* Sends a reply, if it is not one that the demo loses, and says what was received. */
+/* Says what was received, and sends the reply that the call asks for; ACK 0 in its place for a set that is not kept. The demo loses some
+   replies. */
 static bool put_reply(struct line *line, const uint8_t *run, size_t length, struct gdt_received got, bool kept)
 {
     static const char *const names[] = {[GDT_TAKEN] = "taken", [GDT_AGAIN] = "known already", [GDT_WHOLE] = "the set is whole"};
-    bool good = got.no == 0 && kept;
+    size_t ack = kept ? got.ack : 0;
+    const uint8_t reply[REPLY] = {GDT_ACK, (uint8_t)('0' + ack)};
     line->replies++;
     bool lost = line->lose != 0 && line->replies % line->lose == 0;
     if (got.no == 0) {
@@ -328,9 +330,9 @@ static bool put_reply(struct line *line, const uint8_t *run, size_t length, stru
     } else {
         printf("    received %zu bytes%s: refused by %zu (%s)", length, length == RUN ? " or more" : "", got.no, reasons[got.no]);
     }
-    printf(", ACK %d%s\n", good, lost ? " (lost)" : "");
+    printf(", ACK %zu%s\n", ack, lost ? " (lost)" : "");
     show();
-    return lost || write_all(line->out, good ? ack_1 : ack_0, REPLY);
+    return lost || write_all(line->out, reply, REPLY);
 }
 
 /* A first block was taken: another count than 0 shows that the sender heard the end of the last set. */

@@ -449,7 +449,7 @@ static void case_send(void)
     take_back(&bytes);
 }
 
-/* The record of a refusal must be the one that was given. */
+/* The record of a refusal must be the one that was given, and its reply ACK 0; all else is answered by ACK 1. */
 static void case_receive(void)
 {
     struct gdt_receiver given;
@@ -462,10 +462,13 @@ static void case_receive(void)
     struct gdt_received received = gdt_receive(given, buffer.at, buffer.length, block.at, block.length);
     const struct gdt_receiver *now = &received.receiver;
     if (received.no != 0) {
-        bool same = received.what == 0 && memcmp(now, &given, sizeof given) == 0;
+        bool same = received.what == 0 && received.ack == 0 && memcmp(now, &given, sizeof given) == 0;
         print_refused(received.no, received.place, received.label, kept(&buffer) && kept(&block) && same);
     } else {
         expect_done(received.place, received.label);
+        if (received.ack != 1) {
+            stop("a block is not refused, and its reply is not ACK 1");
+        }
         printf("ok %zu %zu:%zu:%zu:%zu ", received.what, now->started, now->last, now->open, now->used);
         print_hex(buffer.at, buffer.length);
         printf("\n");

@@ -6,7 +6,7 @@
    `FAILED - ..` with the seed of its cable, and ends with status 1.
 
    At each step: the sender asks for the block and the count that the request's sentence says; a damaged block is refused by 25 or 26,
-   another one acknowledged. After each set:
+   another one acknowledged. The reply that goes back is the one of the receiver's answer: ACK 0 for a refusal, else ACK 1. After each set:
    - it is delivered or given up, after at most 4n replies and timeouts for its n blocks, unless another set began before its end;
    - if it is delivered, the receiver's buffer is the set and zeros, `used` is its length, and both ends have the same last count;
    - if nothing was lost or damaged, there were just n replies, all ACK 1; two errors more, if the receiver was a fresh one and the
@@ -187,7 +187,7 @@ static size_t damage_reply(uint8_t *reply)
     case 2: reply[2] = (uint8_t)roll(256); return 3;
     default: reply[roll(2)] ^= (uint8_t)(1u << roll(8)); break;
     }
-    return reply[0] == 6 && reply[1] == '1' ? 0 : 2;
+    return reply[0] == GDT_ACK && reply[1] == '1' ? 0 : 2;
 }
 
 /* Sends the block over the cable, and puts what is heard into `reply`; answers its length, 0 for a timeout. */
@@ -211,8 +211,9 @@ static size_t exchange(uint8_t reply[3])
     expect(received.no == 0 || memcmp(&received.receiver, &cable.record, sizeof cable.record) == 0, "a refusal changes the record");
     cable.record = received.receiver;
     run.whole += received.what == GDT_WHOLE ? 1 : 0;
-    reply[0] = 6;
-    reply[1] = received.no == 0 ? '1' : '0';
+    expect(received.ack == (received.no == 0 ? 1 : 0), "the reply to a refusal is not ACK 0, or to another block not ACK 1");
+    reply[0] = GDT_ACK;
+    reply[1] = (uint8_t)('0' + received.ack);
     if (chance(cable.lost)) {
         return 0;
     }
@@ -274,7 +275,7 @@ static void send_set(size_t most)
         size_t length;
         expect(sent.what == GDT_UNDER_WAY && sent.block == run.block && sent.count == run.count, "another block or count is asked for");
         length = exchange(reply);
-        phase = after_reply(length == 2 && reply[0] == 6 && reply[1] == '1');
+        phase = after_reply(length == 2 && reply[0] == GDT_ACK && reply[1] == '1');
         sent = cable.sender->send(&cable.link, GDT_REPLY, reply, length);
         expect(sent.no == 0 && sent.what == phase && cable.link.phase == phase, "the sender is in another phase");
         expect(run.replies < 4 * run.blocks || sent.what != GDT_UNDER_WAY, "the sender goes on after 4n replies and timeouts");
