@@ -287,10 +287,8 @@ struct gdt_received {
    B00 is put at the front: take a whole set out of the buffer before the next block. What was received is not judged; gdt_judge does that.
 
    Its symbol is gdt_receive_2 since 0.2.1, when `ack` was added to the record: an object that was compiled with an older header has less memory
-   for the record, and does not link. Source code calls gdt_receive, as before. (Another #define of that name is let stand.) */
-#ifndef gdt_receive
+   for the record, and does not link. Source code calls gdt_receive, as before. */
 #define gdt_receive gdt_receive_2
-#endif
 struct gdt_received gdt_receive(struct gdt_receiver receiver, uint8_t *buffer, size_t room, const uint8_t *block, size_t block_length);
 
 #ifdef __cplusplus
