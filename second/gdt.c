@@ -1151,7 +1151,7 @@ struct gdt_made gdt_day_find(const uint8_t *file, size_t file_length, const size
 _Static_assert(sizeof(struct gdt_link) == 6 * sizeof(size_t), "the sender's record is six numbers");
 _Static_assert(sizeof(struct gdt_sent) == 6 * sizeof(size_t), "what it has to do is six numbers");
 _Static_assert(sizeof(struct gdt_receiver) == 4 * sizeof(size_t), "the receiver's record is four numbers");
-_Static_assert(sizeof(struct gdt_received) == 8 * sizeof(size_t), "what it answers is eight numbers");
+_Static_assert(sizeof(struct gdt_received) == 9 * sizeof(size_t), "what it answers is nine numbers");
 
 enum {
     SEPARATOR = 0x1C, /* "one 1Ch in place of their 0Dh 0Ah" */
@@ -1438,19 +1438,21 @@ static uint8_t *put_set_bytes(uint8_t *out, const uint8_t *data, size_t n)
     return out;
 }
 
+/* A refusal, of which the reply is ACK 0. */
 static struct gdt_received not_taken(size_t no, size_t place, struct gdt_receiver receiver)
 {
-    struct gdt_received received = {no, place, 0, 0, receiver};
+    struct gdt_received received = {no, place, 0, 0, receiver, 0};
     return received;
 }
 
 /* "BadBlock (25) for the form, BadCrc (26), 25 for another count or a label out of turn, NoRoom." A B00 starts at the front of the
-   buffer, the others after the used bytes, whatever the record says of them; the need stops at the greatest number (E3m). */
+   buffer, the others after the used bytes, whatever the record says of them; the need stops at the greatest number (E3m). A block
+   that is not refused has ACK 1 as its reply, also the last one again. */
 struct gdt_received gdt_receive(struct gdt_receiver receiver, uint8_t *buffer, size_t room, const uint8_t *block,
                                 size_t block_length)
 {
     const size_t most = (size_t)-1;
-    struct gdt_received received = {0, 0, 0, 0, receiver};
+    struct gdt_received received = {0, 0, 0, 0, receiver, 1};
     const uint8_t *data;
     size_t data_bytes, count, start, more, new_used;
     unsigned label;

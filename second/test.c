@@ -380,14 +380,14 @@ static int blocks(const struct bytes *set, size_t block, size_t count, struct re
     return holds(&lent_in, set->of) & holds(&lent_out, scratch.of) & equal(have, want);
 }
 
-/* The receiver with a buffer; `made` is what the buffer holds after the call, up to its length. The other numbers of the answer are
-   those of the record. */
+/* The receiver with a buffer; `made` is what the buffer holds after the call, up to its length. After `what` comes `ack`; the other
+   numbers of the answer are those of the record. */
 static int receives(struct gdt_receiver from, const struct bytes *buffer, const struct bytes *block, struct reply want,
                     struct gdt_receiver to, const struct bytes *made)
 {
     const uint8_t *bytes = lend(&lent_also, block->of, block->n);
     struct gdt_received got = gdt_receive(from, lend(&lent_in, buffer->of, buffer->n), buffer->n, bytes, block->n);
-    struct reply have = {got.no, got.place, got.label, got.what, 0, 0};
+    struct reply have = {got.no, got.place, got.label, got.what, got.ack, 0};
     return holds(&lent_in, made->of) & holds(&lent_also, block->of) & equal(have, want)
         & (memcmp(&got.receiver, &to, sizeof to) == 0);
 }
@@ -1461,7 +1461,7 @@ static int has_crc(const uint8_t *data, size_t n, unsigned crc)
     add_text(&block, "0B00");
     add(&block, data, n);
     add_crc(&block, crc);
-    passed = receives(fresh, &buffer, &block, (struct reply){0, 0, 0, GDT_TAKEN, 0, 0}, taken, &made);
+    passed = receives(fresh, &buffer, &block, (struct reply){0, 0, 0, GDT_TAKEN, 1, 0}, taken, &made);
     for (unsigned bit = 0; bit < 16; bit++) {
         block.n -= 5;
         add_crc(&block, crc ^ 1u << bit);
@@ -1513,7 +1513,7 @@ static void test_crc(void)
         struct gdt_received got;
         add_crc(&block, crc);
         got = gdt_receive(fresh, out, sizeof out, block.of, block.n);
-        passed &= got.no == (crc == 0x6525 ? 0 : GDT_BAD_CRC);
+        passed &= got.no == (crc == 0x6525 ? 0 : GDT_BAD_CRC) && got.ack == (crc == 0x6525 ? 1 : 0);
         block.n -= 5;
     }
     report("E3c one CRC of all that four digits can say", passed);
@@ -1770,9 +1770,9 @@ static void test_bound(void)
 }
 
 #define RECEIVER(...) ((struct gdt_receiver){__VA_ARGS__})
-#define TAKEN ((struct reply){0, 0, 0, GDT_TAKEN, 0, 0})
-#define AGAIN ((struct reply){0, 0, 0, GDT_AGAIN, 0, 0})
-#define WHOLE ((struct reply){0, 0, 0, GDT_WHOLE, 0, 0})
+#define TAKEN ((struct reply){0, 0, 0, GDT_TAKEN, 1, 0})
+#define AGAIN ((struct reply){0, 0, 0, GDT_AGAIN, 1, 0})
+#define WHOLE ((struct reply){0, 0, 0, GDT_WHOLE, 1, 0})
 #define BAD_BLOCK ((struct reply){25, 0, 0, 0, 0, 0})
 #define BAD_CRC ((struct reply){26, 0, 0, 0, 0, 0})
 #define NO_ROOM(need) ((struct reply){22, need, 0, 0, 0, 0})
@@ -2051,7 +2051,7 @@ static void test_samples(void)
     char name[80];
     for (size_t i = 0; i < sizeof samples / sizeof *samples; i++) {
         const struct sample *s = &samples[i];
-        const struct reply want = {0, 0, 0, s->what, 0, 0};
+        const struct reply want = {0, 0, 0, s->what, 1, 0};
         size_t start = s->block[3] == '0' ? 0 : s->from.used;
         make_block(&block, s->block);
         snprintf(name, sizeof name, "the sample %.4s.. with CRC %s", s->block, s->crc);
@@ -2078,18 +2078,20 @@ static int delivers(const struct bytes *set, struct gdt_link link, struct gdt_re
     made = gdt_block(set->of, set->n, link.block, link.count, block);
     for (int way = 0; way < 4; way++) {
         struct gdt_link next = link;
-        struct gdt_received got = {0, 0, 0, 0, receiver};
+        struct gdt_received got = {0, 0, 0, 0, receiver, 0};
+        uint8_t reply[2] = {GDT_ACK, 0};
         memcpy(after, buffer, sizeof after);
         if (way < 2) {
             got = gdt_receive(receiver, after, sizeof after, block, made.count);
-            passed &= got.no == 0;
+            passed &= got.no == 0 && got.ack == 1;
         } else if (way == 3) {
             block[made.count / 2] ^= 2;
             got = gdt_receive(receiver, after, sizeof after, block, made.count);
             block[made.count / 2] ^= 2;
-            passed &= got.no != 0;
+            passed &= got.no != 0 && got.ack == 0;
         }
-        gdt_send(&next, GDT_REPLY, (const uint8_t *)(got.no == 0 ? ack_1 : ack_0), way == 0 || way == 3 ? 2 : 0);
+        reply[1] = (uint8_t)('0' + got.ack);
+        gdt_send(&next, GDT_REPLY, reply, way == 0 || way == 3 ? 2 : 0);
         passed &= delivers(set, next, got.receiver, after, exchanges + 1, ends);
     }
     return passed;
