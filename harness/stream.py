@@ -86,9 +86,9 @@ def unpacked(stream):
     return cases
 
 
-def answers(program, stream):
-    """What `harness/run PROGRAM` writes for a stream."""
-    run = subprocess.run([os.path.join(ROOT, "harness", "run"), program], input=stream, capture_output=True, check=False)
+def answers(program, stream, *words):
+    """What `harness/run PROGRAM` with these words writes for a stream."""
+    run = subprocess.run([os.path.join(ROOT, "harness", "run"), program, *words], input=stream, capture_output=True, check=False)
     return Answers(run.stdout.decode().splitlines(), run.returncode, run.stderr.decode(errors="replace").strip())
 
 
