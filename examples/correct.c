@@ -1,7 +1,7 @@
 /* correct.c: lists the lines of the set on standard input, gives one of them a new content, and prints the set that it then is.
      correct LINE CONTENT <FILE
-   Status 0: done. 1: the set or the correction is refused; standard error says by which number. 2: wrong usage, standard input cannot be
-   read, or standard output cannot be written: standard error says why, and what was printed may be cut short.
+   Status 0: done. 1: the set or the correction is refused. 2: wrong usage, or standard input cannot be read or standard output not
+   written: what was printed may then be cut short. Standard error says what is wrong, and why.
    At most 65,536 bytes are read: no set has so many, so what is longer is refused. */
 #define _POSIX_C_SOURCE 200809L
 #include <errno.h>
@@ -11,6 +11,7 @@
 #include <string.h>
 #include <unistd.h>
 #include "gdt.h"
+#include "reasons.h"
 
 enum { DONE = 0, REFUSED = 1, TROUBLE = 2 };
 
@@ -50,7 +51,7 @@ static int brought_out(int status)
 
 static int refused(const char *what, struct gdt_made made)
 {
-    dprintf(2, "%s: refused by %zu at place %zu, label %zu\n", what, made.no, made.place, made.label);
+    dprintf(2, "correct: %s: refused by %zu at place %zu, label %zu: %s\n", what, made.no, made.place, made.label, reasons[made.no]);
     return REFUSED;
 }
 

@@ -1,4 +1,4 @@
-/* files.h: all bytes into a file or onto a line, and files that can be relied on: shared by the examples that write. */
+/* files.h: shared by the examples that write files: all bytes into a file or onto a line, closed streams, the name of a new file. */
 #ifndef FILES_H
 #define FILES_H
 #include <errno.h>

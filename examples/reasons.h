@@ -1,5 +1,5 @@
-/* reasons.h: why a call refused, in words, by the number: those that the calls of examples/day.c, examples/cable.c,
-   examples/recode.c and examples/pipeline.c can give. */
+/* reasons.h: why a call refused, in words, by the number: those that the calls of examples/correct.c, examples/day.c,
+   examples/cable.c, examples/recode.c and examples/pipeline.c can give. */
 #ifndef REASONS_H
 #define REASONS_H
 #include "gdt.h"
