@@ -9,8 +9,8 @@
    block is damaged on the way. -l N: every Nth reply is lost.
 
    Standard output has a line for each block that is sent, with the reply and what comes next, and one for each that is received.
-   Status 0: all sets were delivered, or each set that came was added to FILE. 1: a set is refused or given up, or a file or the line
-   cannot be used; standard error says what is wrong. 2: wrong usage.
+   Status 0: all sets were delivered, or each set that came was added to FILE. 1: a set is refused or given up, or a file, the line or
+   standard output cannot be used; standard error says what is wrong, and if all else is done. 2: wrong usage.
 
    A set is brought to the disk before its last block is acknowledged. If that cannot be done the block is answered by ACK 0, and the
    receiver's record stays as it was: so the sender tries again. A set that came whole but is refused is acknowledged, since the
@@ -82,7 +82,7 @@ static void tell_refusal(const char *name, size_t no, size_t place, size_t label
 /* Brings the lines to standard output at once: the two processes of the demo share it. */
 static void show(void)
 {
-    unseen |= fflush(NULL) != 0;
+    unseen |= fflush(NULL) != 0 || ferror(stdout);
 }
 
 /* ---- Bytes and time ---------------------------------------------------------------------------------------------------------- */
@@ -538,10 +538,14 @@ static int run(int count, char **words)
 int main(int count, char **words)
 {
     signal(SIGPIPE, SIG_IGN); /* a closed line is an error of the write */
+    if (!take_closed()) {
+        return REFUSED;
+    }
     int status = count > 1 ? run(count - 1, words + 1) : wrong_usage();
     show();
+    unseen |= fclose(stdout) != 0;
     if (unseen) {
-        dprintf(2, "cable: standard output cannot be written\n");
+        dprintf(2, "cable: standard output cannot be written%s\n", status == DONE ? "; all else is done" : "");
     }
-    return status;
+    return status == DONE && unseen ? REFUSED : status;
 }
