@@ -24,7 +24,7 @@ static const struct call calls[CALLS] = {
 
 /* ---- The loads --------------------------------------------------------------------------------------------------------------- */
 
-static struct turn turns[CABLE_TURNS];
+static struct turn turns[CABLE_TURNS] AT_64;
 static size_t turn_count;
 
 /* A set is begun once, and some of its blocks are asked for. */
@@ -125,7 +125,7 @@ enum { LOADS = sizeof loads / sizeof *loads };
 
 /* ---- Tasks ------------------------------------------------------------------------------------------------------------------- */
 
-static struct task ours[CABLE_TURNS], theirs[CABLE_TURNS];
+static struct task ours[CABLE_TURNS] AT_64, theirs[CABLE_TURNS] AT_64;
 
 /* A turn without a reply in it begins its set; what is lent to be written is the link, the block or the buffer. */
 static void put_words(struct task *task, int call, const struct turn *turn)
@@ -169,6 +169,9 @@ static void count(const struct call *call, struct task *our, struct task *their,
 static void measure(const struct load *load, bool time)
 {
     for (int call = 0; call < CALLS; call++) {
+        if (!is_asked(&calls[call])) {
+            continue;
+        }
         load->build(call);
         for (size_t i = 0; i < turn_count; i++) {
             prepare(&ours[i], call, &turns[i]);
@@ -185,12 +188,12 @@ static void measure(const struct load *load, bool time)
 
 int main(int word_count, char **words)
 {
-    bool asked = word_count == 3 && (is(words[1], "count") || is(words[1], "time"));
+    bool measured = asked(word_count, words);
     for (size_t i = 0; i < LOADS; i++) {
-        if (!asked) {
+        if (!measured) {
             puts(loads[i].name);
         } else if (is(words[2], loads[i].name)) {
-            measure(&loads[i], is(words[1], "time"));
+            measure(&loads[i], way == TIME);
         }
     }
     return 0;

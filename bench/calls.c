@@ -1,7 +1,9 @@
 /* calls.c: instructions and times of every call in the proved library (gdt_x) and in the second program (second_x), in one process.
    It assumes x86-64 and how words are passed there; tools/both builds it, and bench/measure.py runs it and reads its lines:
    `calls` prints the loads, `calls count LOAD` prints `CALL NO PROVED SECOND`, instructions, for each input of the load and each call
-   that answers its number, `calls time LOAD` prints `CALL PROVED SECOND`, nanoseconds of the process, for each sample of the whole load.
+   that answers its number, counted by the trap flag; `calls blocks LOAD` prints the same, counted by blocks (bench/blocks.h);
+   `calls time LOAD` prints `CALL PROVED SECOND`, nanoseconds of the process, for each sample of the whole load. With the name of a call
+   after LOAD they print that call's lines alone.
    The loads varied and varied-refused read a stream of the harness from standard input (bench/varied.h).
    It ends with status 1 if the two answer differently or not the number that the input is made for. The calls on a day file are in
    bench/days.c, those of the cable in bench/cables.c, recoding in bench/recodes.c. */
@@ -200,7 +202,7 @@ static const struct load {
 
 enum { LOADS = sizeof loads / sizeof *loads };
 
-static struct input inputs[MOST_INPUTS];
+static struct input inputs[MOST_INPUTS] AT_64;
 
 static void build(const struct load *load, size_t number)
 {
@@ -236,7 +238,7 @@ static bool can_answer(int call, size_t no)
     }
 }
 
-static struct task ours[MOST_INPUTS], theirs[MOST_INPUTS];
+static struct task ours[MOST_INPUTS] AT_64, theirs[MOST_INPUTS] AT_64;
 
 /* The used length once the line is corrected. */
 static size_t used_then(const struct input *input)
@@ -354,7 +356,7 @@ static void measure_all(const struct load *load, bool time)
         build(load, i);
     }
     for (int call = 0; call < CALLS; call++) {
-        if (load->made & OF(call)) {
+        if (load->made & OF(call) && is_asked(&calls[call])) {
             measure(load, call, time);
         }
     }
@@ -362,12 +364,12 @@ static void measure_all(const struct load *load, bool time)
 
 int main(int word_count, char **words)
 {
-    bool asked = word_count == 3 && (is(words[1], "count") || is(words[1], "time"));
+    bool measured = asked(word_count, words);
     for (size_t i = 0; i < LOADS; i++) {
-        if (!asked) {
+        if (!measured) {
             puts(loads[i].name);
         } else if (is(words[2], loads[i].name)) {
-            measure_all(&loads[i], is(words[1], "time"));
+            measure_all(&loads[i], way == TIME);
         }
     }
     return 0;

@@ -58,7 +58,7 @@ static const struct load {
 
 enum { LOADS = sizeof loads / sizeof *loads };
 
-static struct day days[GDT_HIGH_BYTE];
+static struct day days[GDT_HIGH_BYTE] AT_64;
 static size_t day_count;
 
 static void build(const struct load *load)
@@ -75,7 +75,7 @@ static void build(const struct load *load)
 
 /* ---- Tasks ------------------------------------------------------------------------------------------------------------------- */
 
-static struct task ours[MOST_TASKS], theirs[MOST_TASKS];
+static struct task ours[MOST_TASKS] AT_64, theirs[MOST_TASKS] AT_64;
 static size_t numbers[MOST_TASKS]; /* what each of them must answer */
 static size_t task_count;
 
@@ -133,6 +133,9 @@ static void measure(const struct load *load, bool time)
 {
     build(load);
     for (int call = 0; call < CALLS; call++) {
+        if (!is_asked(&calls[call])) {
+            continue;
+        }
         prepare_all(call, load);
         if (time && task_count > 0) {
             print_times(&calls[call], ours, theirs, task_count);
@@ -145,12 +148,12 @@ static void measure(const struct load *load, bool time)
 
 int main(int word_count, char **words)
 {
-    bool asked = word_count == 3 && (is(words[1], "count") || is(words[1], "time"));
+    bool measured = asked(word_count, words);
     for (size_t i = 0; i < LOADS; i++) {
-        if (!asked) {
+        if (!measured) {
             puts(loads[i].name);
         } else if (is(words[2], loads[i].name)) {
-            measure(&loads[i], is(words[1], "time"));
+            measure(&loads[i], way == TIME);
         }
     }
     return 0;

@@ -4,6 +4,7 @@ import collections
 import concurrent.futures
 import lzma
 import os
+import platform
 import subprocess
 import sys
 import time
@@ -26,6 +27,10 @@ VARIED = "varied"  # the name of each load that is given the stored stream of ju
 GROWING, LINES = ("lines6", "lines40"), (16, 32, 64, 128, 256, 512)  # loads of growing sets, and how many lines each input has
 ENTRIES = 256, 4096  # of the large sheets
 RUNS = 7  # for the times of a load
+MACHINE = platform.machine()
+EMULATED = MACHINE != "x86_64"
+# The two ways to count instructions: by the processor's trap flag, which takes some ten microseconds for each, and by blocks (bench/blocks.h), which is held to the first.
+BY_TRAP, BY_BLOCKS = "count", "blocks"
 # The C library compares bytes by wider code on a processor that has AVX2, and moves and fills many of them by one instruction on one that has ERMS, which the trap flag
 # counts once for each byte. Instructions are counted without both, so that they are nearly the same on every machine.
 PLAIN_LIBRARY = {"GLIBC_TUNABLES": "glibc.cpu.hwcaps=-AVX2,-ERMS"}
@@ -69,37 +74,39 @@ def build():
     """Builds each program of bench/ over the proved library and the second program; for each the names of its loads."""
     since = time.monotonic()
     os.makedirs(path(""), exist_ok=True)
-    for program in PROGRAMS:
-        told(["sh", os.path.join(ROOT, "tools", "both"), "-o", path(program), os.path.join(ROOT, "bench", program + ".c")])
+    archives()  # once, before several programs ask for them
+    in_parallel(lambda program: told(["sh", os.path.join(ROOT, "tools", "both"), "-o", path(program), os.path.join(ROOT, "bench", program + ".c")]), PROGRAMS)
     progress("both programs built", since)
     return {program: run(program) for program in PROGRAMS}
 
 
 def in_parallel(function, items):
-    """The function's answer for each item, on all cores."""
-    with concurrent.futures.ThreadPoolExecutor(os.cpu_count()) as workers:
+    """The function's answer for each item, on all cores that this process may use."""
+    with concurrent.futures.ThreadPoolExecutor(len(os.sched_getaffinity(0))) as workers:
         return list(workers.map(function, items))
 
 
-def rows(how, program, load, **settings):
-    """The numbers that `PROGRAM HOW LOAD` prints, for each call."""
+def rows(how, program, load, *call, **settings):
+    """The numbers that `PROGRAM HOW LOAD` prints, for each call or for one."""
     found, given = {}, varied_sets() if load.startswith(VARIED) else b""
-    for line in run(program, how, load, given=given, **settings):
-        call, *numbers = line.split()
-        found.setdefault(call, []).append([int(number) for number in numbers])
+    for line in run(program, how, load, *call, given=given, **settings):
+        name, *numbers = line.split()
+        found.setdefault(name, []).append([int(number) for number in numbers])
     return found
 
 
-def counted(place):
-    since, found = time.monotonic(), rows("count", *place, **PLAIN_LIBRARY)
-    progress("instructions of %s %s" % place, since)
+def counted(how, *place):
+    """For each call that is made on a load, or for one, a Count for each input. The place is a program and a load, and a call if it is for one."""
+    since, found = time.monotonic(), rows(how, *place, **PLAIN_LIBRARY)
+    if how == BY_TRAP:
+        progress("instructions of %s, by the trap flag" % " ".join(place), since)
     return {call: [Count(*numbers) for numbers in inputs] for call, inputs in found.items()}
 
 
-def counts(loads):
+def counts(loads, how):
     """For each program, load and call a Count for each input."""
     places = [(program, load) for program, names in loads.items() for load in names]
-    found = dict(zip(places[::-1], in_parallel(counted, places[::-1])))  # the last ones take longest
+    found = dict(zip(places[::-1], in_parallel(lambda place: counted(how, *place), places[::-1])))  # the last ones take longest
     return {program: {load: found[program, load] for load in names} for program, names in loads.items()}
 
 

@@ -28,7 +28,7 @@ static const struct call calls[CALLS] = {
 
 /* ---- The loads --------------------------------------------------------------------------------------------------------------- */
 
-static struct input inputs[MOST_INPUTS];
+static struct input inputs[MOST_INPUTS] AT_64;
 static size_t input_count;
 
 static struct input *next_input(void)
@@ -112,7 +112,7 @@ enum { LOADS = sizeof loads / sizeof *loads };
 
 /* ---- Tasks ------------------------------------------------------------------------------------------------------------------- */
 
-static struct task ours[MOST_INPUTS], theirs[MOST_INPUTS];
+static struct task ours[MOST_INPUTS] AT_64, theirs[MOST_INPUTS] AT_64;
 
 typedef struct gdt_made recoder(uint8_t *, size_t, size_t);
 
@@ -157,6 +157,9 @@ static void take_times(int call)
 static void measure(const struct load *load, bool time)
 {
     for (int call = 0; call < CALLS; call++) {
+        if (!is_asked(&calls[call])) {
+            continue;
+        }
         input_count = 0;
         load->build(call);
         for (size_t i = 0; i < input_count; i++) {
@@ -174,12 +177,12 @@ static void measure(const struct load *load, bool time)
 
 int main(int word_count, char **words)
 {
-    bool asked = word_count == 3 && (is(words[1], "count") || is(words[1], "time"));
+    bool measured = asked(word_count, words);
     for (size_t i = 0; i < LOADS; i++) {
-        if (!asked) {
+        if (!measured) {
             puts(loads[i].name);
         } else if (is(words[2], loads[i].name)) {
-            measure(&loads[i], is(words[1], "time"));
+            measure(&loads[i], way == TIME);
         }
     }
     return 0;

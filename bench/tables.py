@@ -2,7 +2,6 @@
 Assumes that the document has the two marks once each. Where the programs are emulated no time is measured: a row whose two counts are nearly those
 of the document keeps the time that it has there, and another one has none."""
 import os
-import platform
 import statistics
 import sys
 
@@ -14,8 +13,6 @@ START, END = "<!-- the tables, by bench/run --write -->\n", "<!-- the end of the
 NAMES = {"view_copy": "view, copied", measure.FLOOR: "byte sum", measure.MOVE: "move of the tail", "day_build": "day, build", "day_append": "day, append", "day_find": "day, find"}
 NAMES.update(send="cable, send", block="cable, block", receive="cable, receive", to_437="recode into 437", to_1252="recode into 1252", judge_both="judge, both sets")
 HEADS = ("The calls on a set:", "The calls on a day file:", "The calls of the serial cable:", "Recoding:")
-MACHINE = platform.machine()
-EMULATED = MACHINE != "x86_64"
 NO_TIME = "-"
 NEAR = 0.01  # of a count
 
@@ -25,8 +22,8 @@ def table(head, found):
 
 
 def made_on():
-    how = "emulated. The counts are exact all the same. A time was measured on an x86-64 machine, by programs whose counts were within 1 % of these; -: not measured" if EMULATED else "not emulated"
-    return ["Made on a machine of the kind %s; the programs are x86-64 code and were %s." % (MACHINE, how), ""]
+    how = "emulated. The counts are exact all the same. A time was measured on an x86-64 machine, by programs whose counts were within 1 % of these; -: not measured" if measure.EMULATED else "not emulated"
+    return ["Made on a machine of the kind %s; the programs are x86-64 code and were %s." % (measure.MACHINE, how), ""]
 
 
 def document():
@@ -61,7 +58,7 @@ def load_table(counts, times):
         for call, inputs in calls.items():
             total = [sum(numbers) for numbers in zip(*inputs)]
             row = (load, NAMES.get(call, call))
-            time = told_time(told, row, total[1], total[2]) if EMULATED else spread(times[load][call])
+            time = told_time(told, row, total[1], total[2]) if measure.EMULATED else spread(times[load][call])
             found.append((*row, total[1], total[2], "%.2f" % measure.ratio(inputs), time))
     return table(("Load", "Call", "Proved, instructions", "Second, instructions", "Ratio", "Ratio of times: median (quartiles)"), found)
 
@@ -130,8 +127,11 @@ def main(words):
         print(__doc__, file=sys.stderr)
         return 2
     loads, bounds = measure.build(), measure.bounds()
-    counts, stacks = measure.counts(loads), measure.stacks()
-    times = {program: {} for program in loads} if EMULATED else measure.times(loads)
+    counts, stacks = measure.counts(loads, measure.BY_TRAP), measure.stacks()
+    if not measure.EMULATED and counts != measure.counts(loads, measure.BY_BLOCKS):
+        print("counting by blocks does not give the counts of the trap flag: tests/counts would not hold what is written here", file=sys.stderr)
+        return 1
+    times = {program: {} for program in loads} if measure.EMULATED else measure.times(loads)
     lines = made_on()
     for program, what in zip(measure.PROGRAMS, HEADS):
         lines += [what, ""] + load_table(counts[program], times[program])

@@ -3,6 +3,7 @@
    at most. */
 #ifndef TASKS_H
 #define TASKS_H
+#include "blocks.h"
 
 enum {
     WORDS = 10, /* that a call is given at most: six in registers, then on the stack */
@@ -35,6 +36,9 @@ static void fill(struct task *task)
     memset(task->out, FILL, sizeof task->out);
 }
 
+/* What the calls read and write starts at a multiple of 64 bytes: the C library copies by other instructions at other places, and these are not to hang on what else is linked. */
+#define AT_64 __attribute__((aligned(64)))
+
 /* Makes any call: words in, a word out. */
 __attribute__((noinline)) static uint64_t make(void *function, const uint64_t *w)
 {
@@ -47,6 +51,28 @@ static bool is(const char *word, const char *other)
     return strcmp(word, other) == 0;
 }
 
+/* What a program is asked for: the instructions of a load by the trap flag or by blocks (bench/blocks.h), or its times; of all calls, or of one. */
+static enum { BY_TRAP, BY_BLOCKS, TIME, WAYS } way;
+static const char *asked_call;
+
+/* Whether a load is asked for, in which way, and of which call; else the names of the loads are. */
+static bool asked(int word_count, char **words)
+{
+    static const char *const names[WAYS] = {[BY_TRAP] = "count", [BY_BLOCKS] = "blocks", [TIME] = "time"};
+    asked_call = word_count == 4 ? words[3] : NULL;
+    for (way = 0; (word_count == 3 || word_count == 4) && way < WAYS; way++) {
+        if (is(words[1], names[way])) {
+            return true;
+        }
+    }
+    return false;
+}
+
+static bool is_asked(const struct call *call)
+{
+    return asked_call == NULL || is(asked_call, call->name);
+}
+
 /* ---- Counting ---------------------------------------------------------------------------------------------------------------- */
 
 /* One instruction, the return. */
@@ -55,10 +81,16 @@ static void nothing(void)
     __asm__ volatile("");
 }
 
-/* The instructions of a call and of what is around it: one code for every function, so that what is around it is the same. */
+/* The instructions of a call by blocks; by the trap flag those of the call and of what is around it. One code for every function, so that what is around it, and where the
+   stack is, are the same. */
 __attribute__((noinline)) static uint64_t counted_around(const struct task *task, void *function, uint64_t *word)
 {
     uint64_t all;
+    if (way == BY_BLOCKS) {
+        blocks_start(function);
+        *word = make((void *)blocks_enter, task->words[0]);
+        return blocks_count;
+    }
     ICOUNT(all, *word = make(function, task->words[0]));
     return all;
 }
