@@ -6,7 +6,6 @@ from typing import Dict, List, NamedTuple, Tuple
 
 HEAD = re.compile(r"^( *)(pub )?(extern \"C\" )?fn (\w+)(?:<[^>]*>)?\((.*?)\)( ->[^\n{]*)?(?: \{|$(.*?)^ *\{)", re.M | re.S)
 CONTRACT = re.compile(r"\{ λ (\w+)\. ⌜ ([^⌜⌝]*) ⌝ \}")
-NAME = r"[^\s(){}.,;]+(?:\.[^\s(){}.,;]+)*"  # of antt; `.field` alone is no name
 LOGIC = re.compile(r"[∨∧→↔⊤⊥×⊎≡≢λ∀∃]")
 LIBRARY = ("length",)  # what a public contract may name beside definitions of the project
 
@@ -63,7 +62,7 @@ def functions(texts) -> Dict[str, Function]:
         for head, end in heads(path, text):
             name, contract = "%s::%s" % (crate_of(path), head[4]), head[7] or ""
             assert name not in found, "%s: two functions %s" % (path, head[4])
-            marked = re.search(r"#\[(no_mangle|export_name)[^\n]*\n\s*\Z", text[: head.start()] + "\n")
+            marked = re.search(r"#\[(no_mangle|export_name)[^\n]*\n(\s*#\[[^\n]*\n)*\s*\Z", text[: head.start()])
             ensures = [" ".join(one.split()) for one in re.split(r"\b(?:ensures|requires)\b", contract.partition("ensures")[2])] if "ensures" in contract else []
             span = (head.start(), head.end(), end)
             given = parameters(head[5])
@@ -205,9 +204,9 @@ def defined(right, function, text):
     coded = {last: crate for crate, last in re.findall(r"^use (\w+)::(\w+);", text, re.M)}
     names, strange = set(), []
     right = re.sub(r"\bnow \((\w+) \.entry\)", lambda slice: slice[1] if function.given.get(slice[1], "").startswith("&") else slice[0], right)
-    for word in re.findall(r"(?:(?<=\s)|^|(?<=[()]))\.?" + NAME, right):
+    for word in re.findall(r"[^\s()]+", right):
         first, _, last = word.partition(".")
-        if word in function.given or re.fullmatch(r"\d+", word) or word in LIBRARY or re.fullmatch(r"\.(?!entry$|exit$)[\w-]+", word):
+        if word in function.given or word in LIBRARY or re.fullmatch(r"\d+|\.(?!entry$|exit$)[\w-]+", word):
             continue
         if home_in(word, known):
             names.add(home_in(word, known))
