@@ -247,7 +247,7 @@ def failed(log, crate):
 def senseless(log):
     """What in a prover's log shows that an edit says nothing that could be wrong: an error in the changed definitions or code themselves, a name that nothing has, or an error
     of a whole file, as a name that it cannot import. A fact that does not hold is an error of one declaration of proofs/, or none in a file of it."""
-    errors = re.findall(r"^(?:\S*/must-fail/[^/\s]+/[^/\s]+/)?(\S+?\.(?:rt|antt):\d+:\d+): error(.*)", log, re.M)
+    errors = re.findall(r"^(?:\S*/must-fail/[^/\s]+/[^/\s]+/|crates/[^/\s]+/)?(\S+?\.(?:rt|antt):\d+:\d+): error(.*)", log, re.M)
     return [place + why for place, why in errors if not place.startswith("proofs/") or "not in scope" in why or not re.match(": `[^`]+`: ", why)]
 
 

@@ -1,5 +1,5 @@
 """What the code says of its functions: who may call them, what they ask, what their contracts say, whom they call, and in which of them a place of a file stands.
-A part of tests/promises. Every path is from the repository's root, at which the caller stands."""
+For tests/promises. Every path is from the repository's root, at which the caller stands."""
 import glob
 import re
 from typing import Dict, List, NamedTuple, Tuple
