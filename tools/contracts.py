@@ -86,9 +86,9 @@ def called(texts, found):
         uses.update((other, crate) for crate, other in re.findall(r"^use (\w+) as (\w+);", text, re.M))
         calls[name] = set()
         for dot, way, last in re.findall(r"(\.?)((?:\b\w+::)*)\b(\w+)\(", text[function.span[1] : function.span[2]]):
-            of = way[:-2].split("::")[-1]
-            of = types.get(of) or (of if of in crates else uses.get(of, own)) if of else own if "%s::%s" % (own, last) in found else uses.get(last, own)
-            other = methods.get(last) if dot else "%s::%s" % (own if of == "crate" else of, last)
+            of = way[:-2].split("::")[-1] or ("" if "%s::%s" % (own, last) in found else last)
+            home = of if of in crates else types.get(of) or uses.get(of, own)
+            other = methods.get(last) if dot else "%s::%s" % (own if home == "crate" else home, last)
             calls[name] |= {other} & set(found)
     return {name: sorted(others) for name, others in calls.items()}
 
