@@ -81,23 +81,23 @@ def worded(line):
 
 def slips_in(crate, file):
     """The slips of a file of edits by name, each with its pairs: a file of the crate, the text that stands in it once, and the new text."""
-    found, name, values = {}, file, {}
-    lines = file_lines(os.path.join("crates", crate, "must-fail", file + ".edit"))
+    path = os.path.join("crates", crate, "must-fail", file + ".edit")
+    lines, found, name, values = file_lines(path), {}, file, {}
     several = any(line.startswith("slip:") for line in lines)
     for line in lines:
         word, text = worded(line)
         if word == "slip":
             if not re.fullmatch("[a-z_0-9]+", text) or text in found or values.get("old"):
-                raise NotTried("%s: 'slip: %s' names no new slip, or stands within a pair" % (file, text))
+                raise NotTried("%s: 'slip: %s' names no new slip, or stands within a pair" % (path, text))
             found[text], name, values = [], text, {}
         elif word in ("file", "old"):
             values[word] = text
         elif word == "new":
             if several and not found or not values.get("file", "").startswith(tuple(part + "/" for part in PARTS)) or not values.get("old"):
-                raise NotTried("pair %d of %s has no 'file:' under src/, specs/ or proofs/, no 'old:', or no 'slip:' before it" % (len(found.get(name, [])) + 1, name))
+                raise NotTried("%s: a pair of %s has no 'file:' under src/, specs/ or proofs/, no 'old:', or no 'slip:' before it" % (path, name))
             found.setdefault(name, []).append((values["file"], values.pop("old"), text))
     if not found or not all(found.values()):
-        raise NotTried("%s has no pair of 'old:' and 'new:', or a slip of it has none" % file)
+        raise NotTried("%s: it has no pair of 'old:' and 'new:', or a slip of it has none" % path)
     return found
 
 
@@ -247,8 +247,8 @@ def failed(log, crate):
 def senseless(log):
     """What in a prover's log shows that an edit says nothing that could be wrong: an error in the changed definitions or code themselves, a name that nothing has, or an error
     of a whole file, as a name that it cannot import. A fact that does not hold is an error of one declaration of proofs/, or none in a file of it."""
-    errors = re.findall(r"^(\S+?\.(?:rt|antt):\d+:\d+): error(.*)", log, re.M)
-    return [place + why for place, why in errors if re.search(r"(^|/)(specs|src)/", place) or "not in scope" in why or not re.match(": `[^`]+`: ", why)]
+    errors = re.findall(r"^(?:\S*/must-fail/[^/\s]+/[^/\s]+/|crates/[^/\s]+/)?(\S+?\.(?:rt|antt):\d+:\d+): error(.*)", log, re.M)
+    return [place + why for place, why in errors if not place.startswith("proofs/") or "not in scope" in why or not re.match(": `[^`]+`: ", why)]
 
 
 def proved(crate):

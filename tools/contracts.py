@@ -1,12 +1,11 @@
 """What the code says of its functions: who may call them, what they ask, what their contracts say, whom they call, and in which of them a place of a file stands.
-A part of tests/promises. Every path is from the repository's root, at which the caller stands."""
+For tests/promises. Every path is from the repository's root, at which the caller stands."""
 import glob
 import re
 from typing import Dict, List, NamedTuple, Tuple
 
 HEAD = re.compile(r"^( *)(pub )?(extern \"C\" )?fn (\w+)(?:<[^>]*>)?\((.*?)\)( ->[^\n{]*)?(?: \{|$(.*?)^ *\{)", re.M | re.S)
 CONTRACT = re.compile(r"\{ λ (\w+)\. ⌜ ([^⌜⌝]*) ⌝ \}")
-NAME = r"[^\s(){}.,;]+(?:\.[^\s(){}.,;]+)*"  # of antt; `.field` alone is no name
 LOGIC = re.compile(r"[∨∧→↔⊤⊥×⊎≡≢λ∀∃]")
 LIBRARY = ("length",)  # what a public contract may name beside definitions of the project
 
@@ -63,7 +62,7 @@ def functions(texts) -> Dict[str, Function]:
         for head, end in heads(path, text):
             name, contract = "%s::%s" % (crate_of(path), head[4]), head[7] or ""
             assert name not in found, "%s: two functions %s" % (path, head[4])
-            marked = re.search(r"#\[(no_mangle|export_name)[^\n]*\n\s*\Z", text[: head.start()] + "\n")
+            marked = re.search(r"#\[(no_mangle|export_name)[^\n]*\n(\s*#\[[^\n]*\n)*\s*\Z", text[: head.start()])
             ensures = [" ".join(one.split()) for one in re.split(r"\b(?:ensures|requires)\b", contract.partition("ensures")[2])] if "ensures" in contract else []
             span = (head.start(), head.end(), end)
             given = parameters(head[5])
@@ -87,9 +86,9 @@ def called(texts, found):
         uses.update((other, crate) for crate, other in re.findall(r"^use (\w+) as (\w+);", text, re.M))
         calls[name] = set()
         for dot, way, last in re.findall(r"(\.?)((?:\b\w+::)*)\b(\w+)\(", text[function.span[1] : function.span[2]]):
-            of = way[:-2].split("::")[-1]
-            of = types.get(of) or (of if of in crates else uses.get(of, own)) if of else own if "%s::%s" % (own, last) in found else uses.get(last, own)
-            other = methods.get(last) if dot else "%s::%s" % (own if of == "crate" else of, last)
+            of = way[:-2].split("::")[-1] or ("" if "%s::%s" % (own, last) in found else last)
+            home = of if of in crates else types.get(of) or uses.get(of, own)
+            other = methods.get(last) if dot else "%s::%s" % (own if home == "crate" else home, last)
             calls[name] |= {other} & set(found)
     return {name: sorted(others) for name, others in calls.items()}
 
@@ -205,9 +204,9 @@ def defined(right, function, text):
     coded = {last: crate for crate, last in re.findall(r"^use (\w+)::(\w+);", text, re.M)}
     names, strange = set(), []
     right = re.sub(r"\bnow \((\w+) \.entry\)", lambda slice: slice[1] if function.given.get(slice[1], "").startswith("&") else slice[0], right)
-    for word in re.findall(r"(?:(?<=\s)|^|(?<=[()]))\.?" + NAME, right):
+    for word in re.findall(r"[^\s()]+", right):
         first, _, last = word.partition(".")
-        if word in function.given or re.fullmatch(r"\d+", word) or word in LIBRARY or re.fullmatch(r"\.(?!entry$|exit$)[\w-]+", word):
+        if word in function.given or word in LIBRARY or re.fullmatch(r"\d+|\.(?!entry$|exit$)[\w-]+", word):
             continue
         if home_in(word, known):
             names.add(home_in(word, known))
