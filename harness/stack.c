@@ -125,7 +125,7 @@ static struct gdt_sent stacked_send(struct gdt_link *link, size_t begin, const u
 }
 
 /* The receiver's record is passed in four words on the stack: as a lookup it is made by a function that is given all in a record. What
-   that function takes, 112 bytes, is counted too. A block is put into a copy of the buffer. */
+   that function takes, 128 bytes, is counted too. A block is put into a copy of the buffer. */
 struct receipt {
     struct gdt_receiver receiver;
     uint8_t *buffer;
