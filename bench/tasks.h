@@ -7,7 +7,7 @@
 
 enum {
     WORDS = 10, /* that a call is given at most: six in registers, then on the stack */
-    REPLY_WORDS = 8,
+    REPLY_WORDS = 9,
     FILL = 0xAA, /* what is lent holds before a call */
     SAMPLES = 3, /* bench/measure.py runs it some times */
     LEAST_SAMPLE = 4000000 /* nanoseconds */

@@ -97,9 +97,10 @@ returns-2 : tie.Need-returns-2 Inv-loop μ-loop
 returns-2 c =
     let at-if1 = c .before in
     let t = at-if1 .before in
-    let l = turn t .loop in
-    (t .before .before .put-set .ensures,
-    λ e. whole-last (bytes t) (l .at) (reply t .length) (reply t .no) (l .inv .1 .1) (asked t) (at-if1 .if1 .left) (c .if2 .taken))
+    let l = turn t .loop in (
+      t .before .before .put-set .ensures,
+      λ e. whole-last (bytes t) (l .at) (reply t .length) (reply t .no) (l .inv .1 .1) (asked t) (at-if1 .if1 .left) (c .if2 .taken),
+    )
 
 same-length-3 : tie.Need-same-length-3 Inv-loop μ-loop
 same-length-3 c = search needs
@@ -121,9 +122,10 @@ loop-again c =
     let at-if2 = c .before in
     let at-if1 = at-if2 .before in
     let t = at-if1 .before in
-    let l = turn t .loop in
-    (t .before .before .put-set .ensures,
-    (search needs, ahead-next (bytes t) (l .at) (reply t .length) (reply t .no) (l .inv .1 .1) (asked t) (at-if1 .if1 .left) (at-if2 .if2 .left)))
+    let l = turn t .loop in (
+      t .before .before .put-set .ensures,
+      (search needs, ahead-next (bytes t) (l .at) (reply t .length) (reply t .no) (l .inv .1 .1) (asked t) (at-if1 .if1 .left) (at-if2 .if2 .left)),
+    )
 
 pub list-sets-spec : {M : Type 1} → statement M
 list-sets-spec =
