@@ -138,22 +138,6 @@ lines-decided : (take 1 (recodeFaults Page1252 (line 8000 "6300" ∷ many)) ≡ 
 unfolding computes recodeComputes theta many
 lines-decided = (refl, refl, refl, refl)
 
--- The same through the call: a set 6310 of 512 lines and 5,135 bytes, without 9206. 7 at its length, though there is no room either (22), and though a byte has no character (27); if 437 is wanted it
--- stays as it is.
-full : List ℕ → List ℕ
-full c = setOf (line 8000 "6310" ∷ line 9218 "02.10" ∷ line 3000 "7" ∷ line 8402 "EKG01" ∷ replicate 507 (field 6220 c))
-
-fullSets : List RecodeExample
-unfolding full theta
-fullSets =
-    into Page1252 (full (text "x")) 0 (refusedBy 7 5135 0)
-    ∷ into Page1252 (full (theta ∷ [])) 20 (refusedBy 7 5135 0)
-    ∷ into Page437 (full (theta ∷ [])) 0 (holds 5135 (full (theta ∷ []))) ∷ []
-
-full-decided : answers fullSets ≡ expected fullSets
-unfolding computes recodeComputes answer recodeAnswer fullSets full theta
-full-decided = refl
-
 -- ---- E5a: the tables at their edges
 
 into-1252 : map (recoded Page1252) (0x00 ∷ 0x7F ∷ 0x80 ∷ 0x9E ∷ 0x9F ∷ 0xB0 ∷ 0xE0 ∷ 0xE1 ∷ 0xFF ∷ 0x100 ∷ [])
