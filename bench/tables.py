@@ -22,7 +22,8 @@ def table(head, found):
 
 
 def made_on():
-    how = "emulated. The counts are exact all the same. A time was measured on an x86-64 machine, by programs whose counts were within 1 % of these; -: not measured" if measure.EMULATED else "not emulated"
+    emulated = "emulated. The counts are exact all the same. A time was measured on an x86-64 machine, by programs whose counts were within 1 % of these; -: not measured"
+    how = emulated if measure.EMULATED else "not emulated"
     return ["Made on a machine of the kind %s; the programs are x86-64 code and were %s." % (measure.MACHINE, how), ""]
 
 
