@@ -1,4 +1,4 @@
-/* blocks.h: the exact number of instructions of a call, as tools/icount.h counts it, some thousand times as fast. The code is not run where it stands but in copies of
+/* blocks.h: the exact number of instructions of a call, as tools/icount.h counts it, some hundred times as fast. The code is not run where it stands but in copies of
    its blocks, each made when it is first reached: a block goes from one instruction to the next jump, call or return, and its copy first adds to the count how many
    instructions it has. They are copied byte for byte. Only what counts from the place of an instruction is changed: an address, so that it names the same byte, and the
    jump at the end, which comes back here with the place that it leads to. Registers, flags and stack are the code's own, and so are the return addresses on the stack.
@@ -248,22 +248,21 @@ PLAIN_REGISTERS static void put_address(const void *of, size_t more)
     put_number((uint64_t)distance, 4);
 }
 
-/* rax to a word, or a word to rax. */
 PLAIN_REGISTERS static void put_store(const void *word)
 {
-    put_number(0x058948, 3);
+    put_number(0x058948, 3); /* mov %rax, word(%rip) */
     put_address(word, 0);
 }
 
 PLAIN_REGISTERS static void put_load(const void *word)
 {
-    put_number(0x058B48, 3);
+    put_number(0x058B48, 3); /* mov word(%rip), %rax */
     put_address(word, 0);
 }
 
 PLAIN_REGISTERS static void put_go(void)
 {
-    put_number(0xE9, 1);
+    put_number(0xE9, 1); /* jmp blocks_go */
     put_address((const void *)blocks_go, 0);
 }
 
@@ -271,7 +270,7 @@ PLAIN_REGISTERS static void put_go(void)
 PLAIN_REGISTERS static void put_go_to(const uint8_t *place)
 {
     for (size_t half = 0; half < 2; half++) {
-        put_number(0x05C7, 2);
+        put_number(0x05C7, 2); /* movl half of the place, half of blocks_next(%rip) */
         put_address((const uint8_t *)&blocks_next + 4 * half, 4);
         put_number((uintptr_t)place >> 32 * half, 4);
     }
@@ -281,9 +280,9 @@ PLAIN_REGISTERS static void put_go_to(const uint8_t *place)
 /* The return address of a call onto the stack. */
 PLAIN_REGISTERS static void put_push(const uint8_t *place)
 {
-    put_number(0x68, 1);
+    put_number(0x68, 1); /* push its lower half, and a higher one that is not its own */
     put_number((uintptr_t)place, 4);
-    put_number(0x042444C7, 4);
+    put_number(0x042444C7, 4); /* movl its higher half, 4(%rsp) */
     put_number((uintptr_t)place >> 32, 4);
 }
 
@@ -311,7 +310,7 @@ PLAIN_REGISTERS static void put_same(const uint8_t *at, const struct instruction
 /* Where a call or a jump leads by its rm, into blocks_next: loaded into rax by the same fields but reg. */
 PLAIN_REGISTERS static void put_next(const uint8_t *at, const struct instruction *found)
 {
-    const uint8_t load[] = {0x48 | (found->extended & 3), 0x8B, at[found->fields] & 0xC7};
+    const uint8_t load[] = {0x48 | (found->extended & 3), 0x8B, at[found->fields] & 0xC7}; /* mov rm, %rax */
     if (at[0] == 0x64) {
         blocks_trouble(at, "a jump by a segment");
     }
@@ -343,7 +342,7 @@ PLAIN_REGISTERS static bool put_end(const uint8_t *at, const struct instruction 
     switch (found->what) {
     case 'c':
     case 'C':
-        put_number(0x800F | (at[found->opcode] & 15u) << 8, 2);
+        put_number(0x800F | (at[found->opcode] & 15u) << 8, 2); /* the same condition: over what follows it */
         put_number(GO_TO_LENGTH, 4);
         put_go_to(after);
         put_go_to(led_to(at, found));
@@ -353,10 +352,10 @@ PLAIN_REGISTERS static bool put_end(const uint8_t *at, const struct instruction 
     case 'J': put_go_to(led_to(at, found)); return true;
     case 'r':
     case 'R':
-        put_number(0x058F, 2);
+        put_number(0x058F, 2); /* pop blocks_next(%rip) */
         put_address(&blocks_next, 0);
         if (found->what == 'R') {
-            put_number(0x24A48D48, 4);
+            put_number(0x24A48D48, 4); /* lea number(%rsp), %rsp */
             put_number(at[found->length - 2] | (uint64_t)at[found->length - 1] << 8, 4);
         }
         put_go();
@@ -395,7 +394,7 @@ PLAIN_REGISTERS __attribute__((used, noinline)) static void blocks_copy(struct c
     }
     put_store(&blocks_spare);
     put_load(&blocks_count);
-    put_number(0x808D48, 3); /* lea: no flag is changed */
+    put_number(0x808D48, 3); /* lea count(%rax), %rax: no flag is changed */
     volatile uint8_t *counted_here = blocks_put;
     put_number(0, 4);
     put_store(&blocks_count);
