@@ -23,11 +23,12 @@ abbrev μ-loop : tie.MeasureT-loop
 abbrev Turn : Type 0
 Turn = tie.After-slice-known2 Inv-loop μ-loop
 
--- what was judged, and before it the start of the turn
+-- back from there: the set put, its judgement, and the start of the turn
+abbrev put : Turn → tie.After-put-set Inv-loop μ-loop
+put c = c .before .before
+
 abbrev judged : Turn → tie.After-judged-reply Inv-loop μ-loop
-judged c =
-    let at-put-set = c .before .before in
-    at-put-set .before .before
+judged c = put c .before .before
 
 abbrev turn : Turn → tie.At-loop Inv-loop μ-loop
 turn c =
@@ -85,7 +86,8 @@ returns : tie.Need-returns Inv-loop μ-loop
 returns c =
     let t = c .before in
     let l = turn t .loop in
-    (t .before .before .put-set .ensures, λ e. refused-last (bytes t) (l .at) (reply t .length) (reply t .no) (l .inv .1 .1) (asked t) (c .if1 .taken))
+    let last = refused-last (bytes t) (l .at) (reply t .length) (reply t .no) (l .inv .1 .1) (asked t) (c .if1 .taken) in
+    (put t .put-set .ensures, λ e. last)
 
 sub-if2 : tie.Need-sub-if2 Inv-loop μ-loop
 sub-if2 c = search needs
@@ -97,10 +99,9 @@ returns-2 : tie.Need-returns-2 Inv-loop μ-loop
 returns-2 c =
     let at-if1 = c .before in
     let t = at-if1 .before in
-    let l = turn t .loop in (
-      t .before .before .put-set .ensures,
-      λ e. whole-last (bytes t) (l .at) (reply t .length) (reply t .no) (l .inv .1 .1) (asked t) (at-if1 .if1 .left) (c .if2 .taken),
-    )
+    let l = turn t .loop in
+    let last = whole-last (bytes t) (l .at) (reply t .length) (reply t .no) (l .inv .1 .1) (asked t) (at-if1 .if1 .left) (c .if2 .taken) in
+    (put t .put-set .ensures, λ e. last)
 
 same-length-3 : tie.Need-same-length-3 Inv-loop μ-loop
 same-length-3 c = search needs
@@ -108,8 +109,7 @@ same-length-3 c = search needs
 returns-3 : tie.Need-returns-3 Inv-loop μ-loop
 returns-3 c =
     let at-if1 = c .before .before in
-    let t = at-if1 .before in
-    (t .before .before .put-set .ensures, λ e. absurd (true≢false (sym (c .if3 .taken) ∙ e)))
+    (put (at-if1 .before) .put-set .ensures, λ e. absurd (true≢false (sym (c .if3 .taken) ∙ e)))
 
 add-at : tie.Need-add-at Inv-loop μ-loop
 add-at c = search needs
@@ -122,10 +122,9 @@ loop-again c =
     let at-if2 = c .before in
     let at-if1 = at-if2 .before in
     let t = at-if1 .before in
-    let l = turn t .loop in (
-      t .before .before .put-set .ensures,
-      (search needs, ahead-next (bytes t) (l .at) (reply t .length) (reply t .no) (l .inv .1 .1) (asked t) (at-if1 .if1 .left) (at-if2 .if2 .left)),
-    )
+    let l = turn t .loop in
+    let next = ahead-next (bytes t) (l .at) (reply t .length) (reply t .no) (l .inv .1 .1) (asked t) (at-if1 .if1 .left) (at-if2 .if2 .left) in
+    (put t .put-set .ensures, (search needs, next))
 
 pub list-sets-spec : {M : Type 1} → statement M
 list-sets-spec =
