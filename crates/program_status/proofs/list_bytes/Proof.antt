@@ -13,7 +13,8 @@ use Rattle.program_status.proofs.list_bytes.Tie as tie
 
 abbrev listing : tie.After-struct-known → tie.After-list-sets
 listing c =
-    let at-flush = c .before .before .before in
+    let at-if1 = c .before in
+    let at-flush = at-if1 .before .before in
     let at-block = at-flush .before .before in
     at-block .before
 
