@@ -287,7 +287,7 @@ struct gdt_received {
    B00 is put at the front: take a whole set out of the buffer before the next block. What was received is not judged; gdt_judge does that.
 
    Its symbol is gdt_receive_2 since 0.2.1, when `ack` was added to the record: an object that was compiled with an older header has less memory
-   for the record, and does not link. Source code calls gdt_receive, as before. (Another #define of that name is let stand.) */
+   for the record, and does not link. Source code calls gdt_receive, as before. (If gdt_receive is a macro already, that one counts.) */
 #ifndef gdt_receive
 #define gdt_receive gdt_receive_2
 #endif
