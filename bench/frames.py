@@ -42,9 +42,11 @@ Call = collections.namedtuple("Call", "height symbol to")  # height: what is in 
 
 
 def exported():
-    """The functions that the header declares."""
+    """The functions that the header declares, each with its symbol in the archives: the name itself, if the header says no other."""
     with open(HEADER) as file:
-        return re.findall(r"^\w.*[ *](gdt_[a-z0-9_]+)\(", file.read(), re.M)
+        text = file.read()
+    others = dict(re.findall(r"^#define (gdt_\w+) (gdt_\w+)$", text, re.M))
+    return {name: others.get(name, name) for name in re.findall(r"^\w.*[ *](gdt_[a-z0-9_]+)\(", text, re.M)}
 
 
 def is_branch(instruction):
