@@ -1,5 +1,5 @@
--- A set of 512 lines without 9206, recoded: the line that it would gain is the 513th (E5b and E5e of docs/DECISIONS.md). The other points of recoding are in crate `meaning_recode`; this one stands apart,
--- since a set of this size takes long to compute, and no edit asks for it again.
+-- A set of 512 lines without 9206, recoded: the line that it would gain is the 513th (E5b and E5e of docs/DECISIONS.md). The other points of recoding are in crate `meaning_recode`; this one stands
+-- apart, since a set of this size takes long to compute, and no edit asks for it again.
 use mathlib.Core.Path.{_≡_, refl}
 use mathlib.Core.List.{List, [], _∷_}
 use Prim.Native.Nat.{ℕ}
