@@ -75,9 +75,9 @@ def refused_table(refused):
 
 
 def stack_table(stacks, library, bounds):
-    found = []
+    found, symbols = [], frames.exported()
     for call, bound in bounds.items():
-        most, path = stacks[call], library.largest("gdt_" + call).bytes
+        most, path = stacks[call], library.largest(symbols["gdt_" + call]).bytes
         deepest = "%s: %s" % (most.case, most.answer[:24])
         found.append((NAMES.get(call, call), most.made, most.longest, most.bytes, path, int(bound[measure.STACK]), deepest))
     return table(("Call", "Times called", "Longest case, bytes", "Stack, bytes", "Largest path, bytes", "At most", "One of the deepest cases, and its answer"), found)

@@ -70,6 +70,7 @@ p = text "01380006300\r\n014810000051\r\n014921802.10\r\n01030000\r\n"
 blocksOfP : List (Reply (List ℕ))
 blocksOfP = block p 0 0 ∷ block p 1 1 ∷ block p 2 2 ∷ block p 0 10 ∷ block (p ++ p) 0 0 ∷ block [] 0 0 ∷ []
 
+-- its blocks (E3e), and what a block is refused by
 p-blocks : blocksOfP
     ≡ done (text "0B0001380006300" ++ (separator ∷ text "6525\r"))
     ∷ done (text "1B02014810000051" ++ (separator ∷ (text "014921802.10" ++ (separator ∷ text "010300004226\r"))))
