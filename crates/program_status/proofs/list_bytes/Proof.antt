@@ -13,9 +13,9 @@ use Rattle.program_status.proofs.list_bytes.Tie as tie
 
 abbrev listing : tie.After-struct-known → tie.After-list-sets
 listing c =
-    let at-flush = c .before .before .before in
-    let at-block = at-flush .before .before in
-    at-block .before
+    let at-finish = c .before .before in
+    let at-block = at-finish .before .before in
+    at-block .before .before
 
 abbrev bytes : tie.After-struct-known → List ℕ
 bytes c =
