@@ -474,7 +474,9 @@ static int demo(const struct options *options, char **words)
     }
     close_line(process == 0 ? &near : &far);
     if (process == 0) {
-        exit(receive_sets(&far, words[0]));
+        int status = receive_sets(&far, words[0]);
+        show();
+        exit(status == DONE && unseen ? REFUSED : status);
     }
     int sent = send_sets(&near, words + 1);
     close_line(&near);
@@ -539,6 +541,7 @@ int main(int count, char **words)
 {
     signal(SIGPIPE, SIG_IGN); /* a closed line is an error of the write */
     if (!take_closed()) {
+        dprintf(2, "cable: /dev/null cannot be opened in the place of a closed stream: %s\n", strerror(errno));
         return REFUSED;
     }
     int status = count > 1 ? run(count - 1, words + 1) : wrong_usage();

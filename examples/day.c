@@ -614,6 +614,7 @@ int main(int count, char **words)
     const char *call = count > 1 ? words[1] : "";
     int status = WRONG_USAGE;
     if (!take_closed()) {
+        dprintf(2, "day: /dev/null cannot be opened in the place of a closed stream: %s\n", strerror(errno));
         return REFUSED;
     }
     if (count == 4 && strcmp(call, "add") == 0) {

@@ -42,7 +42,11 @@ static inline bool sync_name(const char *path)
     char folder[4096] = "."; /* no path that can be opened is longer */
     const char *slash = strrchr(path, '/');
     size_t length = slash != NULL ? (size_t)(slash - path) + 1 : 0;
-    if (length > 0 && length < sizeof folder) {
+    if (length >= sizeof folder) {
+        errno = ENAMETOOLONG;
+        return false;
+    }
+    if (length > 0) {
         memcpy(folder, path, length);
         folder[length] = 0;
     }

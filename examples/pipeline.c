@@ -274,6 +274,7 @@ int main(int count, char **words)
         return TROUBLE;
     }
     if (!take_closed()) {
+        dprintf(2, "pipeline: /dev/null cannot be opened in the place of a closed stream: %s\n", strerror(errno));
         return TROUBLE;
     }
     take_set(words[1]);

@@ -8,6 +8,7 @@ HEAD = re.compile(r"^( *)(pub )?(extern \"C\" )?fn (\w+)(?:<[^>]*>)?\((.*?)\)( -
 CONTRACT = re.compile(r"\{ λ (\w+)\. ⌜ ([^⌜⌝]*) ⌝ \}")
 LOGIC = re.compile(r"[∨∧→↔⊤⊥×⊎≡≢λ∀∃]")
 LIBRARY = ("length",)  # what a public contract may name beside definitions of the project
+SIGNS = ("_≡_", "_×_", "_≤_", "_<_", "now", *LIBRARY)  # what no file of code may take from the project: it would have another meaning
 
 
 class Function(NamedTuple):
@@ -24,7 +25,9 @@ class Function(NamedTuple):
 
 def source(path):
     """The text of a file of code, with spaces for its comments: each place is that of the file."""
-    return re.sub(r"//[^\n]*", lambda comment: " " * len(comment[0]), open(path, encoding="utf-8").read())
+    text = open(path, encoding="utf-8").read()
+    assert "/*" not in text, "%s: a comment that is not read here" % path
+    return re.sub(r"//[^\n]*", lambda comment: " " * len(comment[0]), text)
 
 
 def sources():
@@ -183,11 +186,14 @@ def imports(text, word="ghost use"):
     for way, some, other in re.findall(r"^ *%s ([^;{\n]*?)(?:\.\{([^}]*)\}| as (\w+))?;?$" % word, text, re.M):
         home = re.fullmatch(r"Rattle·(\w+?)(?:·\w+)?\.(?:specs|proofs)\.(.*)", way)
         module = way.split(".")[-1]
+        if home and word == "ghost use":
+            assert ".specs." in way and ("." not in home[2] or home[2].startswith("declared.")), "%s: a contract names only what stands in specs/ itself" % way
         start = "" if not home else "%s::" % home[1] if home[2].startswith("declared.") else "%s:%s." % (home[1], module)
         if not some:
             found[other or module] = start
         for name, _, renamed in (name.strip().partition(" as ") for name in some.split(",") if name):
             assert word == "use" or (renamed or name) not in found, "%s is imported twice by a file of code" % name
+            assert word == "use" or not start or (renamed or name) not in SIGNS, "%s is not the library's in a file of code" % (renamed or name)
             found[renamed or name] = start and start + name
     return found
 

@@ -12,7 +12,8 @@ import time
 ROOT = os.path.dirname(os.path.dirname(os.path.abspath(__file__)))
 LOGS = os.path.join("target", "loop")
 CONTROLS = os.path.join("tests", "controls")
-PARTS = ("src", "specs", "proofs")  # of a crate, what an edit may change
+PARTS = ("src", "specs", "proofs")  # of a crate
+CHANGED = ("src/", "specs/")  # where a slip may stand: a proof that is broken says nothing
 # lines of a check that are no complaint of their own: what went well, counts, and what only rests on something that was complained of
 QUIET = re.compile(r"rt: \S+ proved |(fn|struct|enum|impl) .*: proved$|logic |library |crate \S+: modules |note: no function with a body |.* was not admitted ")
 
@@ -93,8 +94,8 @@ def slips_in(crate, file):
         elif word in ("file", "old"):
             values[word] = text
         elif word == "new":
-            if several and not found or not values.get("file", "").startswith(tuple(part + "/" for part in PARTS)) or not values.get("old"):
-                raise NotTried("%s: a pair of %s has no 'file:' under src/, specs/ or proofs/, no 'old:', or no 'slip:' before it" % (path, name))
+            if several and not found or not values.get("file", "").startswith(CHANGED) or not values.get("old"):
+                raise NotTried("%s: a pair of %s has no 'file:' under src/ or specs/, no 'old:', or no 'slip:' before it" % (path, name))
             found.setdefault(name, []).append((values["file"], values.pop("old"), text))
     if not found or not all(found.values()):
         raise NotTried("%s: it has no pair of 'old:' and 'new:', or a slip of it has none" % path)

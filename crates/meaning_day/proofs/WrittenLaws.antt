@@ -1,4 +1,4 @@
--- "Demand 2 reads per set", its last clause: "a list that the writer accepts is read back unchanged", of a set that was written and then appended to a file. The other clauses are `entry-is-a-set` and
+-- "Demand 2 reads per set", its last clause: "a list that the writer accepts is read back unchanged", of a set that was written and stands after a file. The other clauses are `entry-is-a-set` and
 -- `set-list-set-in-file` in BuiltLaws.
 use mathlib.Core.Path.{_≡_, ap, _∙_}
 use mathlib.Core.List.{List, [], _∷_, _++_}
