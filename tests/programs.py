@@ -20,7 +20,7 @@ SANITIZED = ["-std=c11", "-fsanitize=address,undefined", "-fno-sanitize-recover"
 PATIENCE = 20  # seconds until a program that should go on is given up
 # What the examples take from C's headers and tools/x86.h has not, by header.
 MORE_NAMES = {
-    "errno.h": "#define EINVAL 22\n",
+    "errno.h": "#define EINVAL 22\n#define ENAMETOOLONG 36\n",
     "fcntl.h": "#define F_GETFD 1\n",
     "stdio.h": "extern void *stdout;\nint ferror(void *);\nint fclose(void *);\n",
 }
