@@ -34,7 +34,7 @@
 #include "gdt.h"
 #include "reasons.h"
 
-enum { DONE = 0, REFUSED = 1, WRONG_USAGE = 2 };
+enum { DONE = 0, REFUSED = 1, WRONG_USAGE = 2, UNSEEN = 3 }; /* the last only from the demo's second process: done, but its lines are lost */
 
 enum {
     ROOM = 65536,          /* bytes for a set; an accepted one has at most GDT_LARGEST_SET */
@@ -476,11 +476,15 @@ static int demo(const struct options *options, char **words)
     if (process == 0) {
         int status = receive_sets(&far, words[0]);
         show();
-        exit(status == DONE && unseen ? REFUSED : status);
+        exit(status == DONE && unseen ? UNSEEN : status);
     }
     int sent = send_sets(&near, words + 1);
     close_line(&near);
     int received = status_of(process);
+    if (received == UNSEEN) {
+        unseen = true;
+        received = DONE;
+    }
     return sent != DONE ? sent : received;
 }
 
