@@ -1,5 +1,7 @@
 // The bytes of a content as digits: one byte, all from an offset on, and the number that two of them write.
 // No function here asks anything of its caller; each says in its contract which definition of the meaning it equals.
+#![tactic(auto)]
+
 ghost use Rattle.std.specs.Prelude.{◌≡◌, [], ◌∷◌, drop, get_or};
 ghost use Rattle.meaning.specs.Digits.{digit, all_digits};
 ghost use Rattle.meaning.specs.Kinds.{two_at};

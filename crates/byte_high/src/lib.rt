@@ -1,6 +1,8 @@
 // The bytes of a content, and of all lines of a set: which is the first over 7Fh, for 24 of the paper's replies.
 // Assumes of each call that the bytes it asks lie within those that it is lent: only other crates here call it, and they prove that. Each contract cites the walk
 // `first_high` of specs/.
+#![tactic(auto)]
+
 ghost use Rattle.std.specs.Prelude.{◌≡◌, true, ◌+◌, ◌-◌, ◌≤◌, length};
 ghost use Rattle.byte_high.specs.High.{first_high, plain_front};
 

@@ -1,6 +1,8 @@
 // The bytes of a content: whether one of them is under 20h, and which is the first, for 6 of the paper's replies.
 // Assumes of each call that the bytes it asks lie within those that it is lent: only other crates here call it, and they prove that. Each contract cites the walk
 // `first_low` of specs/.
+#![tactic(auto)]
+
 ghost use Rattle.std.specs.Prelude.{◌≡◌, true, ◌+◌, ◌-◌, ◌≤◌, length};
 ghost use Rattle.byte_low.specs.Low.{block, first_low};
 

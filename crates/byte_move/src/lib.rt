@@ -1,5 +1,7 @@
 // Bytes moved inside a lent buffer.
 // Assumes of each call that both places lie within the buffer: only another crate here calls it, and proves that. The contract says every byte of the buffer afterwards.
+#![tactic(auto)]
+
 ghost use Rattle.std.specs.Prelude.{◌≡◌, ◌+◌, ◌≤◌, length};
 ghost use Rattle.byte_move.specs.Moved.{moved};
 

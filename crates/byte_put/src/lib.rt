@@ -1,5 +1,7 @@
 // Bytes put into a lent buffer: digits of a number, a copy, and zeros.
 // Assumes of each call that what it puts lies within the buffer: only other crates here call it, and they prove that. The contract says every byte of the buffer afterwards.
+#![tactic(auto)]
+
 ghost use Rattle.std.specs.Prelude.{◌≡◌, ◌++◌, ◌+◌, ◌≤◌, length, take, drop, replicate};
 ghost use Rattle.meaning.specs.Digits.{digits};
 ghost use Rattle.byte_put.specs.Places.{word, half_word, over};

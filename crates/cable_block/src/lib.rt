@@ -1,5 +1,7 @@
 // `block`: one block of the set in some bytes, put into a lent buffer: where its data are cut, its label, and what is answered if there is no such block.
 // It has no `requires`. The other functions are its parts.
+#![tactic(auto)]
+
 ghost use Rattle.std.specs.Prelude.{◌≡◌, ◌≤◌, ◌<◌, length, replicate};
 ghost use Rattle.meaning.specs.declared.Judged.TheVariants.{Accepted};
 ghost use Rattle.meaning.specs.declared.Made.TheVariants.{Done};

@@ -1,5 +1,7 @@
 // The sequence count of a block: sender and receiver count alike.
 // Nothing is assumed of the number. The contract cites the definition of its name.
+#![tactic(auto)]
+
 ghost use Rattle.std.specs.Prelude.{◌≡◌};
 ghost use Rattle.meaning_cable.specs.Sending.{next_count};
 

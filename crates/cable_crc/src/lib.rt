@@ -1,5 +1,7 @@
 // CRC-16 of appendix C, a byte at once and without a table.
 // No function has a `requires`. proofs/ByteLaws says that eight turns of appendix C's program come to this.
+#![tactic(auto)]
+
 ghost use Rattle.std.specs.Prelude.{◌≡◌};
 ghost use Rattle.meaning_cable.specs.Crc.{byte_all, crc};
 

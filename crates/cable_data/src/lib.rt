@@ -1,5 +1,7 @@
 // The data of a set on the cable: "Lines are joined by one 1Ch in place of their 0Dh 0Ah". Where they stand in the set's bytes, and some of them put into a lent buffer.
 // Assumes of each call that the set was judged and that it has the data that are asked for: only other crates here call it, and they prove that.
+#![tactic(auto)]
+
 ghost use Rattle.std.specs.Prelude.{◌≡◌, ◌+◌, ◌≤◌, length};
 ghost use Rattle.byte_put.specs.Places.{over};
 ghost use Rattle.cable_data.specs.Carried.{carried, width, data_from, place_after, HasData};

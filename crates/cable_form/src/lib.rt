@@ -1,5 +1,7 @@
 // The form of a block, its CRC, and its parts: "25 for the form, 26".
 // `form_ok` asks nothing of its caller; the other public functions ask for a block of good form, and their caller proves that.
+#![tactic(auto)]
+
 ghost use Rattle.std.specs.Prelude.{◌≡◌, true, [], ◌∷◌, ◌≤◌, length};
 ghost use Rattle.meaning_cable.specs.Stream.{data_byte, all_data};
 ghost use Rattle.meaning_cable.specs.Receiving.{min_block, count_of, label_of, is_hex, hex_value, all_hex, hex_from, head_ok, end_ok, form_ok, crc_ok};

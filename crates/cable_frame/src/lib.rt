@@ -1,5 +1,7 @@
 // The bytes of a block, put into a lent buffer: "sequence count, label B00, B01 or B02, up to 128 data bytes, CRC-16 as four hex digits, 0Dh".
 // Assumes of each call that what it puts lies within the buffer, and the data within the set: only another crate here calls it, and proves that.
+#![tactic(auto)]
+
 ghost use Rattle.std.specs.Prelude.{◌≡◌, [], ◌∷◌, ◌++◌, ◌+◌, ◌≤◌, ◌<◌, length, take};
 ghost use Rattle.meaning.specs.Refusals.{done};
 ghost use Rattle.meaning.specs.Lines.{cr};

@@ -1,6 +1,8 @@
 // The bytes that the data of a block stand for, put into a lent buffer: 0Dh 0Ah for each 1Ch, and once more after a B02.
 // Assumes of each call that there are at most 128 data bytes and that there is room: only another crate here calls it, and proves that. The contract says every byte of the buffer
 // afterwards.
+#![tactic(auto)]
+
 ghost use Rattle.std.specs.Prelude.{◌≡◌, [], ◌∷◌, ◌+◌, ◌≤◌, length};
 ghost use Rattle.meaning.specs.Lines.{cr, lf, line_end};
 ghost use Rattle.byte_put.specs.Places.{over};

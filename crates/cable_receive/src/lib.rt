@@ -1,5 +1,7 @@
 // `receive`: a block comes, and its data go into the set's buffer.
 // It has no `requires`: any record, any buffer, any bytes. The other functions are its parts, in the order of the rule table; nothing is written before every refusal is excluded.
+#![tactic(auto)]
+
 ghost use Rattle.std.specs.Prelude.{◌≡◌, ◌≤◌, length};
 ghost use Rattle.meaning_cable.specs.Blocks.{max_data};
 ghost use Rattle.meaning_cable.specs.Receiving.{took_one, open_by, answer_by, put_at, in_turn, turned, receive};

@@ -1,5 +1,7 @@
 // The sender by value: "The link keeps one state record that each call updates: reply in, next action out."
 // Nothing is assumed of the record and of the bytes. The contracts cite the rule table of `meaning_cable` (specs/Sending), each function the definition of its name.
+#![tactic(auto)]
+
 ghost use Rattle.std.specs.Prelude.{◌≡◌, ◌+◌, leb};
 ghost use Rattle.meaning_cable.specs.Sending.{is_ack, action, end_of, once_more, second_attempt, goes, stops, first_count, begun, acked, failed, turn_of, send};
 ghost use Rattle.meaning_cable.specs.CableCalls.{sent};

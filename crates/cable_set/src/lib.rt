@@ -1,5 +1,7 @@
 // One set alone in its bytes, and how many blocks it has on the cable.
 // No function has a `requires`. The contracts cite specs/BlockCounts; proofs/AloneSetLaws says what it means.
+#![tactic(auto)]
+
 ghost use Rattle.std.specs.Prelude.{◌≡◌};
 ghost use Rattle.meaning_cable.specs.Blocks.{blocks_of};
 ghost use Rattle.meaning_cable.specs.CableCalls.{counted};

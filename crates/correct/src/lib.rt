@@ -1,5 +1,7 @@
 // The correction of one line of a set in its buffer.
 // Assumes nothing of the buffer, the used length, the line number or the content: `correct` has no `requires`, and every refusal comes before the first byte is written.
+#![tactic(auto)]
+
 ghost use Rattle.std.specs.Prelude.{◌≡◌};
 ghost use Rattle.meaning.specs.Answers.{correct_call};
 ghost use Rattle.correct_plan.specs.Planned.{planned};

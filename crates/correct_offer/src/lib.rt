@@ -1,5 +1,7 @@
 // Whether a line of an accepted set may take a new content: "19, 20, 6, 14", then 24, for a correction and for each entry of a sheet.
 // Assumes nothing of the bytes: each contract cites a walk of specs/, and proofs/OfferLaws and TermsLaws say what the walks of an accepted set mean.
+#![tactic(auto)]
+
 ghost use Rattle.std.specs.Prelude.{◌≡◌, true};
 ghost use Rattle.meaning.specs.Refusals.{no_such_line};
 ghost use Rattle.meaning.specs.Corrections.{fixed};
@@ -16,7 +18,7 @@ pub struct OneLine {
 }
 
 // What an accepted set asks of every new content: how many bytes and lines the set has, and whether the content may have no byte over 7Fh.
-#[derive(Drop)]
+#[derive(Clone, Copy)]
 pub struct Terms {
     pub length: usize,
     pub lines: usize,
@@ -43,7 +45,7 @@ impl Objection {
 
 // What speaks against a new content for a line: the number of the refusal (0: nothing), for 6 and 24 which byte of the content, for 20 and 14 the line's label.
 // And the line that would take it: its offset and its whole length; for 19 the set's length and 0.
-#[derive(Drop)]
+#[derive(Clone, Copy)]
 pub struct Offer {
     pub no: usize,
     pub byte: usize,

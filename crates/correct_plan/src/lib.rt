@@ -1,5 +1,7 @@
 // What the correction of one line of an accepted set comes to, before any byte is written: 18 (second set), 19, 20, 6, 14, 24, 22, or where the line stands and how many bytes count then.
 // Assumes of `plan_judged` that the set was accepted with this shape: only another crate here calls it, and proves that. Its contract cites a definition of specs/.
+#![tactic(auto)]
+
 ghost use Rattle.std.specs.Prelude.{◌≡◌, cond};
 ghost use Rattle.meaning.specs.Refusals.{refusal, tells_byte};
 ghost use Rattle.meaning.specs.Reading.{judge};

@@ -1,6 +1,8 @@
 // A new content for one line of a set in its buffer, with the line's length and the sum brought up to date.
 // Assumes of each call that the old content lies in the bytes that count and that the changed set has room: only other crates here call it, and they prove that. Each contract
 // says what every byte of the buffer is afterwards.
+#![tactic(auto)]
+
 ghost use Rattle.std.specs.Prelude.{◌≡◌, ◌+◌, ◌-◌, ◌≤◌, length};
 ghost use Rattle.meaning.specs.Lines.{line_lead};
 ghost use Rattle.meaning.specs.Lists.{sum_digits, sum_place};

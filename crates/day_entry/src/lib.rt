@@ -1,6 +1,8 @@
 // The entry of a set that was judged before: its bytes are taken as they stand, and no rule is asked again.
 // Assumes of `entry_at`, which only other crates here call, that the offset lies within the file. Each contract cites a walk of specs/ToldEntry, and `entry-told` in proofs/ToldEntryLaws
 // says what the walk is for an accepted set.
+#![tactic(auto)]
+
 ghost use Rattle.std.specs.Prelude.{◌≡◌, ◌≤◌, length};
 ghost use Rattle.day_entry.specs.ToldEntry.{number_in, told_entry};
 

@@ -1,5 +1,7 @@
 // `build` and `append`: the index of a day file in a lent slice of numbers, made from nothing or extended by the set that was appended to the file.
 // Both have no `requires`: any file, any old length, any numbers and any count. The other functions are their parts; every refusal comes before the first number is written.
+#![tactic(auto)]
+
 ghost use Rattle.std.specs.Prelude.{◌≡◌, ◌∷◌, [], ◌+◌, ◌*◌, ◌≤◌, length, drop};
 ghost use Rattle.meaning.specs.declared.Judged.TheVariants.{Accepted};
 ghost use Rattle.meaning.specs.declared.Made.TheVariants.{Done};

@@ -1,6 +1,8 @@
 // `lookup`: the sets of a patient, by an index of a day file, in a lent slice of numbers.
 // It has no `requires`: any file, any numbers as an index, any asked bytes. The other functions are its parts, with walks of specs/ in their contracts; proofs/SearchLaws says what the
 // walks mean.
+#![tactic(auto)]
+
 ghost use Rattle.std.specs.Prelude.{◌≡◌, cond, ◌+◌, ◌≤◌, length};
 ghost use Rattle.byte_put.specs.Places.{over};
 ghost use Rattle.meaning_day.specs.DayCalls.{entries_in, lookup_call};

@@ -1,5 +1,7 @@
 // The head of an entry at an offset of a field list or a sheet: "content length in two bytes, label in two bytes .., both little-endian, then the content".
 // `entry_at` assumes nothing of the bytes or the offset: its contract cites the walk of specs/, and proofs/HeadLaws says what it means. `told_label` and `told_length` assume that the head is there.
+#![tactic(auto)]
+
 ghost use Rattle.std.specs.Prelude.{◌≡◌, ◌+◌, ◌*◌, ◌≤◌, length};
 ghost use Rattle.meaning.specs.Entries.{byte_values, entry_lead, two_bytes_at};
 ghost use Rattle.entry_read.specs.Head.{entry_at};

@@ -1,5 +1,7 @@
 // What the calls of the C face answer: records of numbers by value, made of the answers of `meaning`; and what an index comes to before its first entry is written.
 // No function has a `requires`. The contracts cite specs/Replies, which gives the numbers of each answer, and specs/IndexPlans.
+#![tactic(auto)]
+
 ghost use Rattle.std.specs.Prelude.{◌≡◌};
 ghost use Rattle.face_replies.specs.Replies.{judged_reply, made_reply, viewed_reply};
 ghost use Rattle.face_replies.specs.IndexPlans.{no_entries, all_entries, plan_index};
@@ -8,7 +10,7 @@ use meaning::{Judged, Made, Refusal, Shape, Viewed};
 
 // What judging a set answers: number 0 and the set's length, lines and type, or the refusal.
 #[repr(C)]
-#[derive(Drop)]
+#[derive(Clone, Copy)]
 pub struct JudgedReply {
     pub no: usize,
     pub place: usize,

@@ -1,5 +1,7 @@
 // The C face of every call but the writer's: each exported function is thin, has no `requires`, and answers one record of numbers by value. include/gdt.h declares them for C.
 // Assumes nothing of the bytes. The contracts cite the replies of crate `face_replies`, which give the numbers of each answer; specs/Filling has how the index is written.
+#![tactic(auto)]
+
 ghost use Rattle.std.specs.Prelude.{◌≡◌, length};
 ghost use Rattle.meaning.specs.Reading as Reading;
 ghost use Rattle.meaning.specs.Views as Views;

@@ -1,5 +1,7 @@
 // The C face of the serial cable: an archive of its own, so that the other calls stay as they are compiled without it.
 // Assumes nothing of the bytes, the numbers and the records. The contracts cite specs/CableReplies, which gives the numbers of each answer. include/gdt.h declares the calls.
+#![tactic(auto)]
+
 ghost use Rattle.std.specs.Prelude.{◌≡◌};
 ghost use Rattle.meaning_cable.specs.declared.Sent.TheVariants.{Next};
 ghost use Rattle.meaning_cable.specs.Receiving.{receive};

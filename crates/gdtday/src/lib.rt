@@ -1,5 +1,7 @@
 // The C face of the day file: an archive of its own, so that the reader's calls stay as they are compiled without it.
 // Assumes nothing of the bytes and the numbers. The contracts cite the replies of crate `face_replies`, which give the numbers of an answer. include/gdt.h declares the calls.
+#![tactic(auto)]
+
 ghost use Rattle.std.specs.Prelude.{◌≡◌};
 ghost use Rattle.meaning_day.specs.DayCalls.{build_call, append_call, lookup_call};
 ghost use Rattle.face_replies.specs.Replies.{made_reply};

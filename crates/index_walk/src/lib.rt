@@ -1,5 +1,7 @@
 // A walk over the lines of an accepted set that gives its index entry after entry, by value: nothing is kept but three numbers, and no table is looked up.
 // No function has a `requires`. Contracts cite specs/Walking, and `entries-are` in proofs/EntryWalk says what the walk of an accepted set gives.
+#![tactic(auto)]
+
 ghost use Rattle.std.specs.Prelude.{◌≡◌};
 ghost use Rattle.index_walk.specs.Walking.{walk_start, counted, is_header, is_member, header_of, last_after, no_entry, next_entry};
 

@@ -1,5 +1,7 @@
 // `judge`: what a set at the front of some bytes is, or its first refusal, 1 to 17 and 24, in the paper's order: all lines are read, then line 1, line 2, the rules, the sum.
 // `judge` has no `requires`. `ruled` is its part; each contract cites a walk of specs/, and proofs/JudgeLaws says what the walks mean.
+#![tactic(auto)]
+
 ghost use Rattle.std.specs.Prelude.{◌≡◌};
 ghost use Rattle.meaning.specs.declared.Judged.{Judged};
 ghost use Rattle.meaning.specs.Refusals.{refusal, bad_content};

@@ -1,6 +1,8 @@
 // One line's step: 11 to 15 of the line, and what is open after it.
 // `step_at`, which only other crates here call, assumes that its two offsets lie in order within the bytes that it is given. Each contract cites a walk of specs/, and
 // proofs/StepMeaning says what the walks mean.
+#![tactic(auto)]
+
 ghost use Rattle.std.specs.Prelude.{◌≡◌, true, cond, ◌≤◌, ◌<◌, eqb, length, set};
 ghost use Rattle.meaning.specs.declared.Row.{Row};
 ghost use Rattle.meaning.specs.FieldTable.{field_row};

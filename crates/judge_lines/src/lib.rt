@@ -1,6 +1,8 @@
 // The pass over the lines of a set that was read, of a known type: 11 to 15 of each line, then 16, then 24.
 // Assumes of `pass` that all lines of the set were read, that line 1 names the type and that line 2 is an 8100 that no rule refuses: only other crates here call it, and they prove
 // that. Each contract cites a walk of specs/; proofs/LineLoopLaws says what the loop stands for, proofs/PassLaws what the walks mean.
+#![tactic(auto)]
+
 ghost use Rattle.std.specs.Prelude.{◌≡◌, cond, ◌+◌, ◌≤◌, length, take};
 ghost use Rattle.meaning.specs.Answers.{no_refusal};
 ghost use Rattle.line_read.specs.Line.{line_content};

@@ -1,6 +1,8 @@
 // Which labels were seen, as flags by the label's number, and rule 16: what a group and the set lack.
 // `finish_at` has no `requires`; `has` and `mark`, which only other crates here call, assume that a label has the number that they are given. Each contract
 // cites a walk of specs/, and proofs/LackMeaning says what the walks mean.
+#![tactic(auto)]
+
 ghost use Rattle.std.specs.Prelude.{◌≡◌, true, false, ◌<◌, get_or, set};
 ghost use Rattle.meaning.specs.Refusals.{refusal};
 ghost use Rattle.meaning.specs.Tables.{row_label};

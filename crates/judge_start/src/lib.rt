@@ -1,5 +1,7 @@
 // The start of a set: the set type that line 1 names, for 9, and the sum that line 2 writes, for 14 and 17.
 // Assumes nothing of a content; `sum_of`, which only other crates here call, assumes that line 2 starts within the bytes. proofs/TypeAndSumLaws says what each `return` has to show.
+#![tactic(auto)]
+
 ghost use Rattle.std.specs.Prelude.{◌≡◌, ◌≤◌, length};
 ghost use Rattle.meaning.specs.Rules.{type_named};
 ghost use Rattle.judge_start.specs.Sum.{sum_written};

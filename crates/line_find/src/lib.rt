@@ -1,5 +1,7 @@
 // Where the content of the first line with a label stands, in a set whose lines were read before: they are passed over by the lengths that they say, and the label is compared byte by byte.
 // `first_place` assumes nothing of the bytes. Each contract cites a walk of specs/FirstPlace, and proofs/FirstPlaceLaws says what it is for lines that were read.
+#![tactic(auto)]
+
 ghost use Rattle.std.specs.Prelude.{◌≡◌, ◌+◌, ◌%◌, ◌≤◌, length};
 ghost use Rattle.meaning.specs.Digits.{digit_zero};
 ghost use Rattle.meaning.specs.Lines.{line_lead};

@@ -1,6 +1,8 @@
 // One line of a set at an offset, and what a line says that was read before: 2 to 6 of the paper's replies.
 // Assumes nothing of the bytes; `size_at` and `label_at`, which only other crates here call, assume that the digits of a line that was read stand at the offset. Each contract cites a
 // walk of specs/, and proofs/LineMeaning and proofs/ToldLaws say what the walks mean.
+#![tactic(auto)]
+
 ghost use Rattle.std.specs.Prelude.{◌≡◌, true, ◌+◌, ◌-◌, ◌*◌, ◌≤◌, ◌<◌, length, take, drop};
 ghost use Rattle.meaning.specs.Digits.{digit, all_digits};
 ghost use Rattle.meaning.specs.Refusals.{refusal};

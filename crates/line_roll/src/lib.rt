@@ -1,6 +1,8 @@
 // The roll of a set: the labels of its lines, each read once, for a caller that asks for the label of many lines. They are read only as far as a line was asked for.
 // Assumes that the lines asked for were read before, as those of an accepted set: only other crates here call it, and they prove that. The contracts cite specs/Rolled, and
 // proofs/RollLaws says what holds of an accepted set.
+#![tactic(auto)]
+
 ghost use Rattle.std.specs.Prelude.{◌≡◌, ◌-◌, ◌≤◌, length, get_or};
 ghost use Rattle.line_roll.specs.Rolled.{no_roll, Lined, Rolled};
 

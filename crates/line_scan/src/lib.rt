@@ -1,6 +1,8 @@
 // Where a set ends, and the scan of the lines from an offset on: 2 to 7 of the paper's replies.
 // Assumes nothing of the bytes; `scan_from`, which only other crates here call, assumes that its offset lies within them and has at most 512 lines before it. Each contract cites a
 // walk of specs/, and proofs/ScanMeaning says what the walks mean.
+#![tactic(auto)]
+
 ghost use Rattle.std.specs.Prelude.{◌≡◌, true, ◌+◌, ◌-◌, ◌≤◌, length};
 ghost use Rattle.meaning.specs.Limits.{max_lines};
 ghost use Rattle.meaning.specs.Lines.{label_digits};

@@ -1,5 +1,7 @@
 // Seven bits, of a set whose lines keep the rules: whether it holds 9206 with content 1, and 24, its first content byte over 7Fh.
 // Assumes nothing of the bytes. Each contract cites a walk of specs/, and proofs/SevenMeaning says what the walks are for lines that keep the rules.
+#![tactic(auto)]
+
 ghost use Rattle.std.specs.Prelude.{◌≡◌};
 ghost use Rattle.line_seven.specs.Seven.{says_seven, high_for};
 

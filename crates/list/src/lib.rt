@@ -1,5 +1,7 @@
 // `list`: the field list of the set at the front of some bytes, put into a lent buffer.
 // It has no `requires`. The other functions are its parts, with walks of specs/ in their contracts; proofs/ListLaws says what the walks mean.
+#![tactic(auto)]
+
 ghost use Rattle.std.specs.Prelude.{◌≡◌, ◌+◌, ◌≤◌, ◌<◌, length, drop};
 ghost use Rattle.meaning.specs.declared.Judged.TheVariants.{Accepted};
 ghost use Rattle.meaning.specs.Field.{field};

@@ -1,5 +1,7 @@
 // The types that every crate shares: set types with the limits, refusals with their numbers, rows, index entries, answers.
 // Each function here says in its contract which definition of specs/ it equals.
+#![tactic(auto)]
+
 ghost use Rattle.std.specs.Prelude.{◌≡◌};
 ghost use Rattle.meaning.specs.Limits.{limits, type_of, type_number};
 ghost use Rattle.meaning.specs.Refusals.{numbers, refusal, tells_byte};
@@ -103,7 +105,7 @@ pub const LABEL_8437: usize = 8437;
 pub const LABEL_8480: usize = 8480;
 
 // The five set types of GDT 2.1 that are read and written.
-#[derive(Drop)]
+#[derive(Clone, Copy)]
 pub enum SetType {
     T6300,
     T6301,
@@ -348,7 +350,7 @@ pub struct FieldRow {
 }
 
 // What an accepted set is: its length in bytes, its lines, the number of its type.
-#[derive(Drop)]
+#[derive(Clone, Copy)]
 pub struct Shape {
     pub length: usize,
     pub lines: usize,

@@ -234,9 +234,9 @@ module _ (count label : ℕ) (x : List ℕ) (w : Writable count label x) where
       let l = w.length-fits in
       and_both (le-leb 9 (length (block_bytes count label x)) (omega (arith, written-length))) (le-leb (length (block_bytes count label x)) 137 (omega (arith, written-length)))
 
-  head_ok : head_ok (block_bytes count label x) ≡ true
+  head-ok : head_ok (block_bytes count label x) ≡ true
   unfolding block_bytes
-  head_ok =
+  head-ok =
       let c = w.count_fits in
       let l = w.label-fits in
       and_both (and_both (le-leb 48 (48 + count) (omega arith)) (le-leb (48 + count) 57 (omega arith)))
@@ -251,7 +251,7 @@ module _ (count label : ℕ) (x : List ℕ) (w : Writable count label x) where
 
   pub form-written : form_ok (block_bytes count label x) ≡ true
   unfolding form_ok
-  form-written = and_both length-ok (and_both head_ok (and_both (ap all_data data-back ∙ w.data-only) end-ok))
+  form-written = and_both length-ok (and_both head-ok (and_both (ap all_data data-back ∙ w.data-only) end-ok))
 
   pub crc-written : crc_ok (block_bytes count label x) ≡ true
   unfolding crc_ok

@@ -1,4 +1,6 @@
 // The serial cable of appendix A: the records of sender and receiver, what their calls answer, and the limits. The definitions are in specs/, their laws in proofs/.
+#![tactic(auto)]
+
 use meaning::Refusal;
 
 // "Up to 128 data bytes".
@@ -27,7 +29,7 @@ pub const B02: usize = 2;
 
 // The sender's one state record, six numbers. Six zeros are a fresh link.
 #[repr(C)]
-#[derive(Drop)]
+#[derive(Clone, Copy)]
 pub struct Link {
     // 0 idle, 1 a set is under way, 2 delivered, 3 given up; any other number counts as idle.
     pub phase: usize,
@@ -86,7 +88,7 @@ pub enum BlockCount {
 
 // The receiver's state, four numbers. Four zeros are a fresh receiver.
 #[repr(C)]
-#[derive(Drop)]
+#[derive(Clone, Copy)]
 pub struct Receiver {
     // Whether a block was ever taken: 0 no, any other number yes.
     pub started: usize,

@@ -1,4 +1,5 @@
 // The day file: what its index has of a set, and its limits. The definitions are in specs/, their laws in proofs/.
+#![tactic(auto)]
 
 // "At most 2,048 sets".
 pub const SETS: usize = 2_048;
@@ -7,7 +8,7 @@ pub const SETS: usize = 2_048;
 pub const ENTRY_NUMBERS: usize = 4;
 
 // A set of a day file: its offset, its length, the number of its type, and the place of its 3000 content. Offset and place count in the file.
-#[derive(Drop)]
+#[derive(Clone, Copy)]
 pub struct DayEntry {
     pub offset: usize,
     pub length: usize,

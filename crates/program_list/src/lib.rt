@@ -1,6 +1,8 @@
 // The program gdtlist: it lists the sets of a file or of standard input, and answers its exit status.
 // A program of the kit cannot give an exit status. So the program is `gdtlist_run`, which start.c beside src/ calls from C's `main`; crate `gdtlist` has the kit's own start.
 // Here are its words and what it reads; `program_status::list_bytes` lists what was read, and `program_out` has all that is written. Every function is proved safe and ending.
+#![tactic(auto)]
+
 ghost use Rattle.std.specs.Prelude.{◌≡◌};
 ghost use Rattle.meaning.specs.Kinds.{same_bytes};
 

@@ -1,5 +1,7 @@
 // What the program gdtlist writes: standard output, gathered in a block that is written when it is full, and messages on standard error. What is printed of a set is what
 // `face_replies::judged_reply` and `index_walk::next_entry` answer. No contract can say what is written; they say that the block stays whole.
+#![tactic(auto)]
+
 ghost use Rattle.std.specs.Prelude.{◌≡◌, true, false, ◌+◌, ◌≤◌, length};
 ghost use Rattle.program_out.specs.OutBlock.{block_size, Holds};
 

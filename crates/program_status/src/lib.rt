@@ -1,4 +1,6 @@
 // The sets of some bytes, listed by the program gdtlist, and its exit status: that of the set that was judged last. Contracts cite specs/Stops.
+#![tactic(auto)]
+
 ghost use Rattle.std.specs.Prelude.{◌≡◌, false, length};
 ghost use Rattle.program_out.specs.OutBlock.{block_size, Holds};
 ghost use Rattle.program_status.specs.Stops.{stop, trouble, status_of};

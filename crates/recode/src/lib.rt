@@ -1,5 +1,7 @@
 // Recoding of a whole set in its buffer, between the code pages 437 and 1252.
 // Assumes nothing of the buffer or the used length: `recode` has no `requires`, and every refusal comes before the first byte is written.
+#![tactic(auto)]
+
 ghost use Rattle.std.specs.Prelude.{◌≡◌, ◌≤◌, length};
 ghost use Rattle.meaning_recode.specs.Codes.{table_into};
 ghost use Rattle.meaning_recode.specs.RecodeCalls.{recode_call};

@@ -2,6 +2,8 @@
 // Most bytes are below 80h, have a character and stay as they are: both functions begin after those at the front, and pass over blocks that have no other byte.
 // Assumes of each call that the table has an entry for each byte and leaves such bytes as they are, and that `plain` of them are at the front: only other crates here call it, and they
 // prove that. Each contract cites a walk of specs/.
+#![tactic(auto)]
+
 ghost use Rattle.std.specs.Prelude.{◌≡◌, ◌+◌, ◌≤◌, ◌<◌, length};
 ghost use Rattle.byte_high.specs.High.{plain_front};
 ghost use Rattle.recode_bytes.specs.Mapped.{CodeTable, first_without, mapped, mapped_at};

@@ -1,6 +1,8 @@
 // What recoding an accepted set comes to, before any byte is written: 18 (second set), 7, 27, 22, or what is to be done.
 // Assumes of `plan_judged` that the set was accepted with this shape, that it lies in the room, and that the table is that of the wanted code page: only another crate here calls
 // it, and proves that. Its contract cites a definition of specs/.
+#![tactic(auto)]
+
 ghost use Rattle.std.specs.Prelude.{◌≡◌, ◌≤◌, length};
 ghost use Rattle.meaning.specs.Refusals.{refusal};
 ghost use Rattle.meaning.specs.Reading.{judge};

@@ -2,6 +2,8 @@
 // date. "Bytes behind the set become zero."
 // Assumes of each call that the set lies in the buffer, and what is put in its bytes too, and that `plain` of its bytes are in front of the first one over 7Fh: only another crate here
 // calls it, and proves that. Each contract says what every byte of the buffer is afterwards.
+#![tactic(auto)]
+
 ghost use Rattle.std.specs.Prelude.{◌≡◌, [], ◌+◌, ◌≤◌, ◌<◌, length, get_or, take};
 ghost use Rattle.meaning.specs.Field.{field};
 ghost use Rattle.meaning.specs.Lines.{line_then};

@@ -1,5 +1,7 @@
 // The table of recoding into a code page, and what 9206 holds then.
 // Assumes nothing. The contracts cite the definitions.
+#![tactic(auto)]
+
 ghost use Rattle.std.specs.Prelude.{◌≡◌, get_or};
 ghost use Rattle.meaning_recode.specs.Codes.{table_into};
 ghost use Rattle.meaning_recode.specs.Recoding.{charset_of};

@@ -1,5 +1,7 @@
 // The tests of a date and of a time.
 // No function here asks anything of its caller; each says in its contract which definition of the meaning it equals.
+#![tactic(auto)]
+
 ghost use Rattle.std.specs.Prelude.{◌≡◌};
 ghost use Rattle.meaning.specs.Kinds.{is_rule020, is_rule008, is_rule090};
 

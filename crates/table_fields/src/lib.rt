@@ -1,5 +1,7 @@
 // The field table: what the content of each label must be, as one number for each row, and the row of a label.
 // No function here asks anything of its caller; each says in its contract which definition it equals.
+#![tactic(auto)]
+
 ghost use Rattle.std.specs.Prelude.{◌≡◌};
 ghost use Rattle.meaning.specs.Tables.{is_pair_label, row_label};
 ghost use Rattle.meaning.specs.FieldTable.{field_table, field_row_in, field_row};

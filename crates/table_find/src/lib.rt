@@ -1,5 +1,7 @@
 // The look-up of a label's row in the five set tables: by `match`, since it runs once a line, and answered by one number, the row's code.
 // No function here asks anything of its caller; each says in its contract which definition it equals.
+#![tactic(auto)]
+
 ghost use Rattle.std.specs.Prelude.{◌≡◌, cond};
 ghost use Rattle.meaning.specs.Tables.{rows6300, rows6301, rows6302, rows6310, rows6311, table, is_pair_label, row_label};
 ghost use Rattle.table_find.specs.LookUp.{find_from};

@@ -1,5 +1,7 @@
 // The test of a decimal number.
 // No function here asks anything of its caller; each says in its contract which definition of the meaning it equals.
+#![tactic(auto)]
+
 ghost use Rattle.std.specs.Prelude.{◌≡◌, drop};
 ghost use Rattle.meaning.specs.Kinds.{decimals, whole, unsigned, is_float};
 ghost use Rattle.table_floats.specs.Floats.{float_if, float_of};

@@ -1,5 +1,7 @@
 // A test for each content kind that is no float, date or time, and whether a content fits a row of the field table.
 // No function here asks anything of its caller; each says in its contract which definition of the meaning it equals.
+#![tactic(auto)]
+
 ghost use Rattle.std.specs.Prelude.{◌≡◌};
 ghost use Rattle.meaning.specs.Kinds.{is_num, is_rule112, is_rule116, is_charset, is_version, same_bytes, is0210, of_kind};
 ghost use Rattle.meaning.specs.FieldTable.{fits_label};

@@ -2,6 +2,8 @@
 // No function of the library calls these. They are here to be read: a reader may hold each row against the documents, and each array is proved to be its table in
 // specs/ of `meaning`. The program finds a line's row by the `match` of crate `table_find`, which is proved equal to a search of the same rows.
 // No function here asks anything of its caller.
+#![tactic(auto)]
+
 ghost use Rattle.std.specs.Prelude.{◌≡◌};
 ghost use Rattle.meaning.specs.Tables.{rows6300, rows6301, rows6302, rows6310, rows6311};
 

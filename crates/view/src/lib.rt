@@ -1,6 +1,8 @@
 // "A view shows a content as it would stand": the answer, which slice holds it and where, and the part itself.
 // `viewed` and `view` have no `requires`. The other functions are their parts; the contract of `shown_alone` cites a walk of specs/, and proofs/AloneLaws says
 // what it means.
+#![tactic(auto)]
+
 ghost use Rattle.std.specs.Prelude.{◌≡◌};
 ghost use Rattle.meaning.specs.Refusals.{refusal};
 ghost use Rattle.meaning.specs.Reading.{judge};

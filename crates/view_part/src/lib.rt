@@ -1,5 +1,7 @@
 // The part that a view shows: "the part of the sheet if the line has an entry there, else the part of the set", and its bytes.
 // Assumes nothing of the bytes; `shown_bytes`, which only other crates here call, assumes that the part lies within its slice.
+#![tactic(auto)]
+
 ghost use Rattle.std.specs.Prelude.{◌≡◌};
 ghost use Rattle.meaning.specs.Views.{shown_bytes};
 ghost use Rattle.view_part.specs.Parts.{later, Within};

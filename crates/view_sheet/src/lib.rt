@@ -1,6 +1,8 @@
 // A sheet of pending corrections: each of its entries judged, and what it shows for a line of an accepted set.
 // Assumes nothing of the sheet. `shown_under`, which only other crates here call, assumes that the set is accepted and has the line, its parts that the set is accepted or has its lines.
 // Each contract cites a walk of specs/, and proofs/ShowingLaws says what the walks mean.
+#![tactic(auto)]
+
 ghost use Rattle.std.specs.Prelude.{◌≡◌, ◌+◌, ◌≤◌, length, take, drop};
 ghost use Rattle.meaning.specs.Limits.{max_lines};
 ghost use Rattle.meaning.specs.Refusals.{refusal};

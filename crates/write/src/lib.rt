@@ -1,5 +1,7 @@
 // `write`: the set of a field list, put into a lent buffer, in the writer's own order of refusals.
 // It has no `requires`. The other functions are its parts, with walks of specs/ in their contracts; proofs/WriteLaws says what the walks mean.
+#![tactic(auto)]
+
 ghost use Rattle.std.specs.Prelude.{◌≡◌, ◌≤◌, ◌<◌, length};
 ghost use Rattle.meaning.specs.Digits.{digits};
 ghost use Rattle.meaning.specs.Lists.{sum_digits};

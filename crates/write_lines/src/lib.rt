@@ -1,5 +1,7 @@
 // The lines of one entry of a list, put into a lent buffer: its own, and after the first that of 8100.
 // Assumes of each call that what it puts lies within the buffer: only another crate here calls it, and proves that. The contract says what every byte of the buffer is afterwards.
+#![tactic(auto)]
+
 ghost use Rattle.std.specs.Prelude.{◌≡◌, [], ◌∷◌, ◌+◌, ◌≤◌, length};
 ghost use Rattle.meaning.specs.Digits.{digits};
 ghost use Rattle.meaning.specs.Field.{field};

@@ -1,6 +1,8 @@
 // Seven bits, of a field list whose entries were checked before: whether it has 9206 with content 1, and 24, its first content byte over 7Fh.
 // Assumes nothing of the bytes: an entry that is cut ends a walk. Each contract cites a walk of specs/, and proofs/ListSevenMeaning says what the walks are for entries
 // that keep the rules.
+#![tactic(auto)]
+
 ghost use Rattle.std.specs.Prelude.{◌≡◌, ◌+◌, ◌≤◌, length};
 ghost use Rattle.meaning.specs.Digits.{digits};
 ghost use Rattle.meaning.specs.Kinds.{same_bytes};

@@ -1,0 +1,15 @@
+-- The loop of `all-digits`: the bytes left are digits exactly if all are.
+use mathlib.Core.Path.{◌≡◌, refl, sym, ◌∙◌}
+use Prim.Native.Nat.{◌-◌}
+use native.Mathlib.Omega.{arith}
+use lib.ListN.{length, drop}
+use borrow.Author.Rules.{rules}
+use Rattle.meaning.specs.Digits.{all_digits}
+use Rattle.byte_digits.proofs.AllDigitsLaws.{digits-stop, digits_more, digits-end}
+use Rattle.byte_digits.proofs.all_digits.Given as goal
+
+abbrev pub invariant-loop-i : goal.invariant-loop-i
+invariant-loop-i l = all_digits (drop l.i l.c) ≡ all_digits (drop l.from l.c)
+
+abbrev pub decreases-loop-i : goal.decreases-loop-i
+decreases-loop-i l = length l.c - l.i

@@ -1,0 +1,23 @@
+-- `judge_at`: as the set is judged by itself; the place of its refusal lies within the file.
+use mathlib.Core.Path.{sym, ◌∙◌}
+use native.Mathlib.Omega.{arith}
+use borrow.Author.Rules.{rules}
+use lib.ListN.{length-drop}
+use Rattle.day_index.proofs.CountLaws.{judged-accepted, judged-refused}
+use Rattle.day_index.proofs.judge_at.Goals as goal
+
+pub overflow_add-result : goal.overflow_add-result
+overflow_add-result c =
+    let a = c.args in
+    let q = judged-refused a.file.now a.at _ (sym c.in-Refused.is ∙ c.judge.ensures) in
+    omega (arith, q.1, length-drop a.at a.file.now, c.requires, c.ranges, c.well_formed)
+
+pub returns-in-Accepted : goal.returns-in-Accepted
+returns-in-Accepted c =
+    let a = c.args in
+    judged-accepted a.file.now a.at _ (sym c.in-Accepted.is ∙ c.judge.ensures)
+
+pub returns-in-Refused : goal.returns-in-Refused
+returns-in-Refused c =
+    let a = c.args in
+    (judged-refused a.file.now a.at _ (sym c.in-Refused.is ∙ c.judge.ensures)).0

@@ -1,0 +1,6 @@
+-- `no_entries`: a plan of nothing, with the numbers of the refusal.
+use borrow.Author.Rules.{rules}
+use Rattle.face_replies.proofs.no_entries.Goals as goal
+
+pub returns : goal.returns
+returns c = rw c.made_reply-reply.ensures

@@ -1,0 +1,21 @@
+-- `line_at` is the walk `line_at`.
+use mathlib.Core.Path.{sym, ◌∙◌}
+use native.Mathlib.Omega.{arith}
+use borrow.Author.Rules.{rules}
+use Rattle.line_read.specs.Line.{must_read, line_at}
+use Rattle.line_read.proofs.LineWalkLaws.{number-within}
+use Rattle.line_read.proofs.line_at.Goals as goal
+
+pub sized_line-requires : goal.sized_line-requires
+sized_line-requires c =
+    omega (arith, number-within _ _ _ (sym c.number_at.ensures ∙ c.in-Is.is))
+
+pub returns-in-Is : goal.returns-in-Is
+unfolding must_read line_at
+returns-in-Is c =
+    c.sized_line.ensures ∙ search (← c.number_at.ensures, c.in-Is.is)
+
+pub returns-in-None : goal.returns-in-None
+unfolding must_read line_at
+returns-in-None c =
+    c.refused.ensures ∙ search (← c.number_at.ensures, c.in-None.is)

@@ -1,0 +1,16 @@
+-- `sound_at`: a line that passes every test is read.
+use mathlib.Core.Path.{refl}
+use native.Mathlib.Omega.{arith}
+use borrow.Author.Rules.{rules}
+use Rattle.line_read.proofs.ToldLaws.{three-least, line-sound}
+use Rattle.line_read.proofs.sound_at.Goals as goal
+
+pub size_at-size-requires : goal.size_at-size-requires
+size_at-size-requires c =
+    (omega arith, three-least c.args.s.now c.args.at (omega arith) (c.usual_lead.ensures c.if-usual_lead.true))
+
+pub returns-then-clean_content : goal.returns-then-clean_content
+returns-then-clean_content c =
+    λ e. let end = c.line_ends.ensures e in line-sound _ _ _ _ refl (omega (arith, c.size_at-size.ensures.0))
+    (omega (arith, c.size_at-size.ensures.0)) (omega (arith, c.size_at-size.ensures.0))
+    (c.usual_lead.ensures c.if-usual_lead.true) (c.clean_content.ensures c.if-clean_content.true) end.0 end.1

@@ -1,0 +1,18 @@
+-- `usual_lead`: while every byte so far is a usual one, the bytes of the first seven that are left are digits exactly if all are.
+use mathlib.Core.Path.{◌≡◌, sym, ap₂, ◌∙◌}
+use mathlib.Core.Bool.{true}
+use Prim.Native.Nat.{ℕ, ◌+◌, ◌-◌, ◌≤◌}
+use native.Mathlib.Omega.{arith}
+use borrow.Author.Rules.{rules}
+use lib.ListN.{take, drop}
+use Rattle.meaning.specs.Digits.{all_digits}
+use Rattle.meaning.specs.Lines.{line_lead}
+use Rattle.meaning.proofs.Bools.{and_left, and_right}
+use Rattle.line_read.proofs.LineWalkLaws.{digits-further, digits-done}
+use Rattle.line_read.proofs.usual_lead.Given as goal
+
+abbrev pub invariant-loop-i : goal.invariant-loop-i
+invariant-loop-i l = (l.i ≤ line_lead) × (l.fit ≡ true → all_digits (take (line_lead - l.i) (drop (l.at + l.i) l.s)) ≡ all_digits (take line_lead (drop l.at l.s)))
+
+abbrev pub decreases-loop-i : goal.decreases-loop-i
+decreases-loop-i l = line_lead - l.i

@@ -1,0 +1,16 @@
+-- `map_bytes`: after some turns the bytes before i are mapped.
+use mathlib.Core.Path.{◌≡◌, refl, ap, ◌∙◌}
+use Prim.Native.Nat.{ℕ, ◌-◌, ◌≤◌}
+use native.Mathlib.Omega.{arith}
+use lib.ListN.{length}
+use borrow.Author.Rules.{rules}
+use Rattle.byte_high.proofs.HighLaws.{front-most}
+use Rattle.recode_bytes.specs.Mapped.{mapped_at}
+use Rattle.recode_bytes.proofs.BytesLaws.{part-more, length_at, map-front, map-all, map-part}
+use Rattle.recode_bytes.proofs.map_bytes.Given as goal
+
+abbrev pub invariant-loop-i : goal.invariant-loop-i
+invariant-loop-i l = (l.i ≤ length l.initial.s) × ((l.s ≡ mapped_at l.table 0 l.i l.initial.s) × (length l.s ≡ length l.initial.s))
+
+abbrev pub decreases-loop-i : goal.decreases-loop-i
+decreases-loop-i l = length l.initial.s - l.i

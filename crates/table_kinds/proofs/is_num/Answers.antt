@@ -1,0 +1,8 @@
+-- `is_num` asks all bytes.
+use borrow.Author.Rules.{rules}
+use Rattle.meaning.specs.Kinds.{is_num}
+use Rattle.table_kinds.proofs.is_num.Goals as goal
+
+pub returns : goal.returns
+unfolding is_num
+returns c = c.all_digits.ensures

@@ -1,0 +1,6 @@
+-- `no_such_line`: the refusal that is made.
+use borrow.Author.Rules.{rules}
+use Rattle.view_sheet.proofs.no_such_line.Goals as goal
+
+pub returns : goal.returns
+returns c = rw c.bad_entry.ensures

@@ -1,0 +1,26 @@
+-- `put_set`: what is left to put is always what is to be put in all.
+use mathlib.Core.Path.{◌≡◌, refl, sym, ap, ◌∙◌}
+use mathlib.Core.List.{List}
+use Prim.Native.Nat.{ℕ, ◌+◌, ◌-◌, ◌≤◌}
+use native.Mathlib.Omega.{arith}
+use native.Mathlib.Nat.{add_assoc, add-sub_cancel_left}
+use borrow.Author.Rules.{rules}
+use lib.ListN.{length}
+use Rattle.meaning.specs.Digits.{digits}
+use Rattle.meaning.specs.Lists.{sum_digits}
+use Rattle.entry_read.proofs.HeadLaws.{whole_back}
+use Rattle.byte_put.specs.Places.{over}
+use Rattle.byte_put.proofs.OverLaws.{over_none}
+use Rattle.write.specs.Writing.{lines_left}
+use Rattle.write.proofs.WriteLaws.{lines_end, lines_cut, lines_fit, put-turn}
+use Rattle.write.proofs.put_set.Given as goal
+
+abbrev pub invariant-loop-at : goal.invariant-loop-at
+invariant-loop-at l =
+    (l.at ≤ length l.list)
+    × (length l.out ≡ length l.initial.out)
+    × (l.to + length (lines_left l.list (digits sum_digits l.total) l.at) ≤ length l.out)
+    × (over l.to (lines_left l.list (digits sum_digits l.total) l.at) l.out ≡ over 0 (lines_left l.list (digits sum_digits l.total) 0) l.initial.out)
+
+abbrev pub decreases-loop-at : goal.decreases-loop-at
+decreases-loop-at l = length l.list - l.at

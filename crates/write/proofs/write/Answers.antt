@@ -1,0 +1,22 @@
+-- `write`: 1, and then as the list is judged.
+use mathlib.Core.Path.{sym, ap, ◌∙◌}
+use native.Mathlib.Omega.{arith}
+use borrow.Author.Rules.{rules}
+use Rattle.meaning.specs.declared.Made.TheVariants.{Refused}
+use Rattle.write.proofs.WriteLaws.{answer-empty, answer-refused}
+use Rattle.write.proofs.write.Goals as goal
+
+pub returns-then-list-eq0 : goal.returns-then-list-eq0
+returns-then-list-eq0 c =
+    let a = c.args in
+    let r = answer-empty a.list.now a.out.now c.if-list-eq0.true in
+    (ap Refused c.at.ensures ∙ r.0, r.1)
+
+pub write_entries-requires : goal.write_entries-requires
+write_entries-requires c =
+    (omega (arith, c.if-list-eq0.false), sym c.judge_list.ensures ∙ c.in-Done.is)
+
+pub returns-in-Refused : goal.returns-in-Refused
+returns-in-Refused c =
+    let a = c.args in
+    answer-refused a.list.now a.out.now _ (omega (arith, c.if-list-eq0.false)) (sym c.judge_list.ensures ∙ c.in-Refused.is)

@@ -1,0 +1,50 @@
+-- `judge_entries`: 8, 9, and then the other rules.
+use mathlib.Core.Path.{refl, sym, ◌∙◌}
+use native.Mathlib.Omega.{arith}
+use borrow.Author.Rules.{rules}
+use Rattle.write_judge.proofs.CheckLaws.{told-head, told-later, told-within, head-there}
+use Rattle.write_judge.proofs.EntryPass.{first-other, first-unknown, first-known}
+use Rattle.write_judge.proofs.judge_entries.Goals as goal
+
+pub told_label-requires : goal.told_label-requires
+told_label-requires c = head-there c.args.list.now 0 c.requires.1 c.requires.0
+
+pub returns-then-told_label-ne-LABEL_8000 : goal.returns-then-told_label-ne-LABEL_8000
+returns-then-told_label-ne-LABEL_8000 c =
+    c.at.ensures
+    ∙ sym (first-other c.args.list.now
+    (told-head c.args.list.now 0 c.requires.1 c.requires.0 c.told_label.ensures refl) c.if-told_label-ne-LABEL_8000.true)
+
+pub told_length-end-requires : goal.told_length-end-requires
+told_length-end-requires c =
+    head-there c.args.list.now 0 c.requires.1 c.requires.0
+
+pub overflow_add-end : goal.overflow_add-end
+overflow_add-end c =
+    omega (
+      arith,
+      told-within c.args.list.now 0 c.requires.1 c.requires.0 c.told_label.ensures c.told_length-end.ensures,
+      c.well_formed,
+    )
+
+pub slice_bounds-type_of-end : goal.slice_bounds-type_of-end
+slice_bounds-type_of-end c =
+    told-within c.args.list.now 0 c.requires.1 c.requires.0 c.told_label.ensures c.told_length-end.ensures
+
+pub returns-in_default : goal.returns-in_default
+returns-in_default c =
+    c.at-in_default.ensures
+    ∙ sym (first-unknown c.args.list.now
+    (told-head c.args.list.now 0 c.requires.1 c.requires.0 c.told_label.ensures c.told_length-end.ensures)
+    c.if-told_label-ne-LABEL_8000.false (sym c.type_of.ensures ∙ c.in_default.is))
+
+pub pass_entries-requires : goal.pass_entries-requires
+pass_entries-requires c =
+    told-later c.args.list.now 0 c.requires.1 c.requires.0 c.told_label.ensures c.told_length-end.ensures
+
+pub returns : goal.returns
+returns c =
+    c.pass_entries.ensures
+    ∙ sym (first-known c.args.list.now
+    (told-head c.args.list.now 0 c.requires.1 c.requires.0 c.told_label.ensures c.told_length-end.ensures)
+    c.if-told_label-ne-LABEL_8000.false (sym c.type_of.ensures ∙ c.in-Of.is))

@@ -1,0 +1,20 @@
+-- `pass_entries`: what is left of the pass is always the whole of it.
+use mathlib.Core.Path.{◌≡◌, refl, sym, ap, ◌∙◌}
+use Prim.Native.Nat.{◌-◌}
+use native.Mathlib.Omega.{arith}
+use borrow.Author.Rules.{rules}
+use lib.ListN.{length}
+use Rattle.meaning.specs.declared.Refusal.{Refusal}
+use Rattle.judge_missing.specs.Lacks.{flagged_of}
+use Rattle.write_judge.specs.Judging.{Checked, entries_pass, started}
+use Rattle.write_judge.proofs.CheckLaws.{told-head, told-later, told-within, head-there}
+use Rattle.write_judge.proofs.EntryPass.{step-entry, pass-end, pass-bad, pass_on}
+use Rattle.write_judge.proofs.pass_entries.Given as goal
+
+abbrev pub invariant-loop-at : goal.invariant-loop-at
+invariant-loop-at l =
+    Checked l.list l.at
+    × (entries_pass l.list l.t l.at (flagged_of l.group l.members l.top) l.group.lack ≡ entries_pass l.list l.t l.start (flagged_of l.initial.group l.initial.members l.initial.top) l.initial.group.lack)
+
+abbrev pub decreases-loop-at : goal.decreases-loop-at
+decreases-loop-at l = length l.list - l.at
