@@ -74,8 +74,8 @@ pub fn put_block(
     n: usize,
     out: &mut [u8],
 ) -> usize
-    requires count_le_max_count { (count ≤ max_count) × (label ≤ b02) }
-    requires n_in_bounds { (place_after set.now from n ≤ length set.now) × (n ≤ max_data) × (max_block ≤ length out.old) }
+    requires numbers { (count ≤ max_count) × (label ≤ b02) }
+    requires room { (place_after set.now from n ≤ length set.now) × (n ≤ max_data) × (max_block ≤ length out.old) }
     ensures { (result ≡ length (framed count label set.now from n))
         × (out.new ≡ bytes_left (done (framed count label set.now from n)) out.old) }
 {

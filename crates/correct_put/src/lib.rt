@@ -12,8 +12,8 @@ use meaning::{LENGTH_DIGITS, LINE_FRAME, LINE_LEAD};
 
 // Replaces the `old` bytes at an offset by others: the bytes after them move inside the buffer, and "every byte past the new used length becomes zero".
 pub fn replace_middle(buffer: &mut [u8], at: usize, old: usize, new: &[u8], used: usize)
-    requires bound { (at + old ≤ used) × (used ≤ length buffer.old) }
-    requires in_bounds { at + length new.now + (used - (at + old)) ≤ length buffer.old }
+    requires within { (at + old ≤ used) × (used ≤ length buffer.old) }
+    requires room { at + length new.now + (used - (at + old)) ≤ length buffer.old }
     ensures { buffer.new ≡ replaced at old new.now used buffer.old }
 {
     let tail = used - (at + old);
@@ -33,8 +33,8 @@ pub fn put_content(
     content: &[u8],
     total: usize,
 )
-    requires bound { (place + line_lead + old ≤ used) × (used ≤ length buffer.old) }
-    requires total_value { (total ≡ new_total old content.now used) × (total ≤ length buffer.old) × (sum_place + sum_digits ≤ length buffer.old) }
+    requires within { (place + line_lead + old ≤ used) × (used ≤ length buffer.old) }
+    requires total_room { (total ≡ new_total old content.now used) × (total ≤ length buffer.old) × (sum_place + sum_digits ≤ length buffer.old) }
     ensures { buffer.new ≡ recontented place old content.now used buffer.old }
 {
     replace_middle(buffer, place + LINE_LEAD, old, content, used);

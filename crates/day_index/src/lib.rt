@@ -67,8 +67,8 @@ fn put_entry(index: &mut [usize], to: usize, entry: DayEntry)
 
 // The entries of a file whose sets were all counted: none is judged again.
 fn put_sets(file: &[u8], count: usize, index: &mut [usize])
-    requires file_value { made (sets_from max_sets 0 file.now) ≡ Done count }
-    requires count_in_bounds { count * 4 ≤ length index.old }
+    requires counted { made (sets_from max_sets 0 file.now) ≡ Done count }
+    requires room { count * 4 ≤ length index.old }
     ensures { index.new ≡ over 0 (columns (listed (sets_from max_sets 0 file.now))) index.old }
 {
     let mut at: usize = 0;

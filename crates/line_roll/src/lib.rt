@@ -26,7 +26,7 @@ impl Roll {
 pub fn read_to(set: &[u8], labels: &mut [u16], roll: Roll, lines: usize) -> Roll
     requires lined { Lined set.now lines }
     requires rolled { Rolled set.now labels.old roll }
-    requires lines_in_bounds { lines ≤ length labels.old }
+    requires room { lines ≤ length labels.old }
     ensures { Rolled set.now labels.new result × (lines ≤ result.known) }
 {
     let mut known = roll.known;

@@ -50,7 +50,7 @@ fn put_listed(k: usize, label: usize, content: &[u8], out: &mut [u8], to: usize)
 // The entries of the first `lines` lines, entry after entry, nothing between. These lines are those of an accepted set.
 fn put_entries(set: &[u8], lines: usize, out: &mut [u8])
     requires all_read { AllRead set.now 0 lines }
-    requires lines_in_bounds { length (listed_from set.now 0 0 lines) ≤ length out.old }
+    requires room { length (listed_from set.now 0 0 lines) ≤ length out.old }
     ensures { out.new ≡ over 0 (listed_from set.now 0 0 lines) out.old }
 {
     let mut at: usize = 0;

@@ -104,7 +104,7 @@ fn check_entry(
 ) -> Checked
     requires lined { Lined set.now terms.lines }
     requires rolled { Rolled set.now labels.old roll }
-    requires lines_in_bounds { terms.lines ≤ length labels.old }
+    requires room { terms.lines ≤ length labels.old }
     ensures { (result.entry ≡ sheet_entry_at set.now terms sheet.now at) × Rolled set.now labels.new result.roll }
 {
     match entry_read::entry_at(sheet, at) {
@@ -132,8 +132,8 @@ fn check_entry(
 
 // The part of the set that holds the content of a line.
 fn part_of_set(set: &[u8], shape: Shape, line: usize) -> Part
-    requires set_value { judge set.now ≡ Judged.Accepted shape }
-    requires le_line { (1 ≤ line) × (line ≤ shape.lines) }
+    requires accepted { judge set.now ≡ Judged.Accepted shape }
+    requires line_there { (1 ≤ line) × (line ≤ shape.lines) }
     ensures { result ≡ set_part set.now line }
 {
     let x = correct_offer::line_after(set, line - 1);
@@ -161,7 +161,7 @@ fn shown_last(sheet: &[u8], last: usize) -> Viewed
 // What the sheet shows for a line: the part of the last entry for it, or nothing of the set if it has none. Each entry is judged. The labels of the set are read into `labels`.
 fn shown_by_roll(set: &[u8], terms: Terms, labels: &mut [u16], sheet: &[u8], line: usize) -> Viewed
     requires lined { Lined set.now terms.lines }
-    requires lines_in_bounds { terms.lines ≤ length labels.old }
+    requires room { terms.lines ≤ length labels.old }
     ensures { result ≡ shown_by_sheet set.now terms sheet.now line }
 {
     let mut last = sheet.len();
@@ -195,8 +195,8 @@ fn shown_by_sheet(set: &[u8], terms: Terms, sheet: &[u8], line: usize) -> Viewed
 
 // What a line of an accepted set shows under a sheet: "the part of the sheet if the line has an entry there, else the part of the set".
 pub fn shown_under(set: &[u8], shape: Shape, sheet: &[u8], line: usize) -> Viewed
-    requires set_value { judge set.now ≡ Judged.Accepted shape }
-    requires le_line { (1 ≤ line) × (line ≤ shape.lines) }
+    requires accepted { judge set.now ≡ Judged.Accepted shape }
+    requires line_there { (1 ≤ line) × (line ≤ shape.lines) }
     ensures { result ≡ shown_under set.now shape sheet.now line }
 {
     // No room for labels is made then.

@@ -17,17 +17,17 @@ returns-then-block-gt-BLOCK c =
 
 pub returns-then-not-head_ok : goal.returns-then-not-head_ok
 returns-then-not-head_ok c =
-    sym (head-bad c.args.block.now c.if-block-lt-MIN_BLOCK.false c.if-block-gt-BLOCK.false (sym c.head_ok.ensures ∙ not-true _ c.if-not-head_ok.true))
+    sym (head-bad c.args.block.now c.if-block-lt-MIN_BLOCK.false c.if-block-gt-BLOCK.false (sym c.head_ok.ensures ∙ c.if-not-head_ok.true))
 
 pub returns-then-not-all_data : goal.returns-then-not-all_data
 returns-then-not-all_data c =
     let b = c.args.block.now in
-    let head = sym c.head_ok.ensures ∙ not-false _ c.if-not-head_ok.false in
-    sym (data-bad b c.if-block-lt-MIN_BLOCK.false c.if-block-gt-BLOCK.false head (sym (c.all_data.ensures ∙ ap all_data (data-part b c.if-block-lt-MIN_BLOCK.false)) ∙ not-true _ c.if-not-all_data.true))
+    let head = sym c.head_ok.ensures ∙ c.if-not-head_ok.false in
+    sym (data-bad b c.if-block-lt-MIN_BLOCK.false c.if-block-gt-BLOCK.false head (sym (c.all_data.ensures ∙ ap all_data (data-part b c.if-block-lt-MIN_BLOCK.false)) ∙ c.if-not-all_data.true))
 
 pub returns : goal.returns
 returns c =
     let b = c.args.block.now in
-    let head = sym c.head_ok.ensures ∙ not-false _ c.if-not-head_ok.false in
-    let fit = sym (c.all_data.ensures ∙ ap all_data (data-part b c.if-block-lt-MIN_BLOCK.false)) ∙ not-false _ c.if-not-all_data.false in
+    let head = sym c.head_ok.ensures ∙ c.if-not-head_ok.false in
+    let fit = sym (c.all_data.ensures ∙ ap all_data (data-part b c.if-block-lt-MIN_BLOCK.false)) ∙ c.if-not-all_data.false in
     c.end_ok.ensures ∙ sym (end-left b c.if-block-lt-MIN_BLOCK.false c.if-block-gt-BLOCK.false head fit)

@@ -11,4 +11,4 @@ pub returns : goal.returns
 returns c =
     let a = c.args in
     block-put a.count a.label (data_from a.set.now a.from a.n) a.out.now _ _ _ _ a.n (sym (length-data a.set.now a.from a.n))
-    (omega (arith, c.requires.0)) c.put_lead.ensures c.put_data.ensures c.put_tail.ensures c.clear.ensures
+    (omega (arith, c.requires.numbers)) c.put_lead.ensures c.put_data.ensures c.put_tail.ensures c.clear.ensures

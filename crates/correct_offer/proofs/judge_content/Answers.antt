@@ -16,17 +16,17 @@ returns-then-first_low-content c =
 pub returns-then-not-fits_label : goal.returns-then-not-fits_label
 returns-then-not-fits_label c =
     let f = sym c.is_fixed.ensures ∙ c.if-is_fixed.false in
-    let g = sym c.fits_label.ensures ∙ not-true _ c.if-not-fits_label.true in
+    let g = sym c.fits_label.ensures ∙ c.if-not-fits_label.true in
     to-bad _ _ _ f _ c.first_low.ensures c.if-first_low-content.false g
 
 pub returns-then-seven : goal.returns-then-seven
 returns-then-seven c =
     let f = sym c.is_fixed.ensures ∙ c.if-is_fixed.false in
-    let g = sym c.fits_label.ensures ∙ not-false _ c.if-not-fits_label.false in
+    let g = sym c.fits_label.ensures ∙ c.if-not-fits_label.false in
     c.judge_high.ensures ∙ to_high _ _ _ f _ c.first_low.ensures c.if-first_low-content.false g c.if-seven.true
 
 pub returns : goal.returns
 returns c =
     let f = sym c.is_fixed.ensures ∙ c.if-is_fixed.false in
-    let g = sym c.fits_label.ensures ∙ not-false _ c.if-not-fits_label.false in
+    let g = sym c.fits_label.ensures ∙ c.if-not-fits_label.false in
     to-good _ _ _ f _ c.first_low.ensures c.if-first_low-content.false g c.if-seven.false

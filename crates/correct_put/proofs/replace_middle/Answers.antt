@@ -8,7 +8,7 @@ pub returns : goal.returns
 returns c =
     let a = c.args in
     let p = c.requires in
-    three-loans a.buffer.now a.new.now _ _ _ _ _ a.at a.old a.used _ _ p.0.0 p.0.1 p.1 refl refl
+    three-loans a.buffer.now a.new.now _ _ _ _ _ a.at a.old a.used _ _ p.within.0 p.within.1 p.room refl refl
     c.move_within.ensures refl
     c.copy_front.ensures refl
     c.clear.ensures

@@ -15,15 +15,15 @@ use Rattle.day_index.proofs.put_sets.Goals as goal
 pub loop-k-init : goal.loop-k-init
 loop-k-init c =
     let z : c.args.count ≡ c.args.count - 0 = omega arith in
-    (omega arith, omega arith, c.requires.0 ∙ ap Done z, refl, refl)
+    (omega arith, omega arith, c.requires.counted ∙ ap Done z, refl, refl)
 
 pub overflow_mul-k : goal.overflow_mul-k
 overflow_mul-k c =
-    omega (arith, c.requires.1, c.ranges, c.well_formed)
+    omega (arith, c.requires.room, c.ranges, c.well_formed)
 
 pub put_entry-requires : goal.put_entry-requires
 put_entry-requires c =
-    omega (arith, c.requires.1, c.loop-k.invariant.3)
+    omega (arith, c.requires.room, c.loop-k.invariant.3)
 
 pub overflow_add-at : goal.overflow_add-at
 overflow_add-at c =
@@ -37,7 +37,7 @@ loop-k-preserved c =
     let a = c.args in
     let l = c.loop-k in
     let t = set-turn a.file.now l.at l.k a.count _ c.entry_at-entry.ensures c.loop-k-test.true l.invariant.1 l.invariant.2 in
-    let p = t.puts l.index _ (omega (arith, c.requires.1, l.invariant.3)) c.put_entry.ensures in
+    let p = t.puts l.index _ (omega (arith, c.requires.room, l.invariant.3)) c.put_entry.ensures in
     (omega arith, t.within, t.still, p.0 ∙ l.invariant.3, p.1 ∙ l.invariant.4)
 
 pub shape_of-index : goal.shape_of-index

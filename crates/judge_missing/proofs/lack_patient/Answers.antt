@@ -11,15 +11,15 @@ pub returns-then-not-has : goal.returns-then-not-has
 unfolding lack_all seen label_number rows_before field_table
 returns-then-not-has c =
     rw
-    (sym c.has.ensures ∙ not-true _ c.if-not-has.true)
+    (sym c.has.ensures ∙ c.if-not-has.true)
     c.missing.ensures
 
 pub returns-then-not-has-2 : goal.returns-then-not-has-2
 unfolding lack_all seen label_number rows_before field_table
 returns-then-not-has-2 c =
     rw (
-      sym c.has.ensures ∙ not-false _ c.if-not-has.false,
-      sym c.has-2.ensures ∙ not-true _ c.if-not-has-2.true,
+      sym c.has.ensures ∙ c.if-not-has.false,
+      sym c.has-2.ensures ∙ c.if-not-has-2.true,
     )
     c.missing-then-not-has-2.ensures
 
@@ -27,9 +27,9 @@ pub returns-then-not-has-3 : goal.returns-then-not-has-3
 unfolding lack_all seen label_number rows_before field_table
 returns-then-not-has-3 c =
     rw (
-      sym c.has.ensures ∙ not-false _ c.if-not-has.false,
-      sym c.has-2.ensures ∙ not-false _ c.if-not-has-2.false,
-      sym c.has-3.ensures ∙ not-true _ c.if-not-has-3.true,
+      sym c.has.ensures ∙ c.if-not-has.false,
+      sym c.has-2.ensures ∙ c.if-not-has-2.false,
+      sym c.has-3.ensures ∙ c.if-not-has-3.true,
     )
     c.missing-then-not-has-3.ensures
 
@@ -37,10 +37,10 @@ pub returns-then-not-has-4 : goal.returns-then-not-has-4
 unfolding lack_all seen label_number rows_before field_table
 returns-then-not-has-4 c =
     rw (
-      sym c.has.ensures ∙ not-false _ c.if-not-has.false,
-      sym c.has-2.ensures ∙ not-false _ c.if-not-has-2.false,
-      sym c.has-3.ensures ∙ not-false _ c.if-not-has-3.false,
-      sym c.has-4.ensures ∙ not-true _ c.if-not-has-4.true,
+      sym c.has.ensures ∙ c.if-not-has.false,
+      sym c.has-2.ensures ∙ c.if-not-has-2.false,
+      sym c.has-3.ensures ∙ c.if-not-has-3.false,
+      sym c.has-4.ensures ∙ c.if-not-has-4.true,
     )
     c.missing-then-not-has-4.ensures
 
@@ -48,11 +48,11 @@ pub returns-then-not-has-5 : goal.returns-then-not-has-5
 unfolding lack_all seen label_number rows_before field_table
 returns-then-not-has-5 c =
     rw (
-      sym c.has.ensures ∙ not-false _ c.if-not-has.false,
-      sym c.has-2.ensures ∙ not-false _ c.if-not-has-2.false,
-      sym c.has-3.ensures ∙ not-false _ c.if-not-has-3.false,
-      sym c.has-4.ensures ∙ not-false _ c.if-not-has-4.false,
-      sym c.has-5.ensures ∙ not-true _ c.if-not-has-5.true,
+      sym c.has.ensures ∙ c.if-not-has.false,
+      sym c.has-2.ensures ∙ c.if-not-has-2.false,
+      sym c.has-3.ensures ∙ c.if-not-has-3.false,
+      sym c.has-4.ensures ∙ c.if-not-has-4.false,
+      sym c.has-5.ensures ∙ c.if-not-has-5.true,
     )
     c.missing-then-not-has-5.ensures
 
@@ -60,12 +60,12 @@ pub returns-then-not-has-6 : goal.returns-then-not-has-6
 unfolding lack_all seen label_number rows_before field_table
 returns-then-not-has-6 c =
     rw (
-      sym c.has.ensures ∙ not-false _ c.if-not-has.false,
-      sym c.has-2.ensures ∙ not-false _ c.if-not-has-2.false,
-      sym c.has-3.ensures ∙ not-false _ c.if-not-has-3.false,
-      sym c.has-4.ensures ∙ not-false _ c.if-not-has-4.false,
-      sym c.has-5.ensures ∙ not-false _ c.if-not-has-5.false,
-      sym c.has-6.ensures ∙ not-true _ c.if-not-has-6.true,
+      sym c.has.ensures ∙ c.if-not-has.false,
+      sym c.has-2.ensures ∙ c.if-not-has-2.false,
+      sym c.has-3.ensures ∙ c.if-not-has-3.false,
+      sym c.has-4.ensures ∙ c.if-not-has-4.false,
+      sym c.has-5.ensures ∙ c.if-not-has-5.false,
+      sym c.has-6.ensures ∙ c.if-not-has-6.true,
     )
     c.missing-then-not-has-6.ensures
 
@@ -73,13 +73,13 @@ pub returns-then-not-has-7 : goal.returns-then-not-has-7
 unfolding lack_all seen label_number rows_before field_table
 returns-then-not-has-7 c =
     rw (
-      sym c.has.ensures ∙ not-false _ c.if-not-has.false,
-      sym c.has-2.ensures ∙ not-false _ c.if-not-has-2.false,
-      sym c.has-3.ensures ∙ not-false _ c.if-not-has-3.false,
-      sym c.has-4.ensures ∙ not-false _ c.if-not-has-4.false,
-      sym c.has-5.ensures ∙ not-false _ c.if-not-has-5.false,
-      sym c.has-6.ensures ∙ not-false _ c.if-not-has-6.false,
-      sym c.has-7.ensures ∙ not-true _ c.if-not-has-7.true,
+      sym c.has.ensures ∙ c.if-not-has.false,
+      sym c.has-2.ensures ∙ c.if-not-has-2.false,
+      sym c.has-3.ensures ∙ c.if-not-has-3.false,
+      sym c.has-4.ensures ∙ c.if-not-has-4.false,
+      sym c.has-5.ensures ∙ c.if-not-has-5.false,
+      sym c.has-6.ensures ∙ c.if-not-has-6.false,
+      sym c.has-7.ensures ∙ c.if-not-has-7.true,
     )
     c.missing-then-not-has-7.ensures
 
@@ -87,12 +87,12 @@ pub returns : goal.returns
 unfolding lack_all seen label_number rows_before field_table
 returns c =
     rw (
-      sym c.has.ensures ∙ not-false _ c.if-not-has.false,
-      sym c.has-2.ensures ∙ not-false _ c.if-not-has-2.false,
-      sym c.has-3.ensures ∙ not-false _ c.if-not-has-3.false,
-      sym c.has-4.ensures ∙ not-false _ c.if-not-has-4.false,
-      sym c.has-5.ensures ∙ not-false _ c.if-not-has-5.false,
-      sym c.has-6.ensures ∙ not-false _ c.if-not-has-6.false,
-      sym c.has-7.ensures ∙ not-false _ c.if-not-has-7.false,
+      sym c.has.ensures ∙ c.if-not-has.false,
+      sym c.has-2.ensures ∙ c.if-not-has-2.false,
+      sym c.has-3.ensures ∙ c.if-not-has-3.false,
+      sym c.has-4.ensures ∙ c.if-not-has-4.false,
+      sym c.has-5.ensures ∙ c.if-not-has-5.false,
+      sym c.has-6.ensures ∙ c.if-not-has-6.false,
+      sym c.has-7.ensures ∙ c.if-not-has-7.false,
     )
     c.none.ensures

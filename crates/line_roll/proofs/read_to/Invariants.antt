@@ -9,7 +9,7 @@ use Rattle.line_roll.proofs.RollLaws.{rolled-next, next-labelled, next-within, n
 use Rattle.line_roll.proofs.read_to.Given as goal
 
 abbrev pub invariant-loop-known : goal.invariant-loop-known
-invariant-loop-known l = Rolled l.set l.labels (record { l.known = l.known; l.at = l.at }) × (length l.labels ≡ length l.initial.labels)
+invariant-loop-known l = Rolled l.set l.labels (record { known = l.known; at = l.at }) × (length l.labels ≡ length l.initial.labels)
 
 abbrev pub decreases-loop-known : goal.decreases-loop-known
 decreases-loop-known l = l.lines - l.known

@@ -35,7 +35,7 @@ returns-then-out-need c =
 pub put_entries-requires : goal.put_entries-requires
 put_entries-requires c =
     let e = listed-are c.args.set.now c.args.shape c.requires in
-    (e.all, omega (arith, e.need, c.if-out-need.false))
+    record { all_read = e.all; room = omega (arith, e.need, c.if-out-need.false) }
 
 pub returns : goal.returns
 returns c =

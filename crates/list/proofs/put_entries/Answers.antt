@@ -17,7 +17,7 @@ loop-k-init c =
     let z : a.lines - 0 ≡ a.lines = omega arith in (
       omega arith,
       omega arith,
-      subst (AllRead a.set.now 0) (sym z) c.requires.0,
+      subst (AllRead a.set.now 0) (sym z) c.requires.all_read,
       refl,
       omega (arith, ap (λ (n : ℕ). length (listed_from a.set.now 0 0 n)) z),
       ap (λ (n : ℕ). over 0 (listed_from a.set.now 0 0 n) a.out.now) z,

@@ -12,7 +12,7 @@ pub overflow_add-result : goal.overflow_add-result
 overflow_add-result c =
     let a = c.args in
     let p = c.requires in
-    let i = line-inside a.set.now a.shape a.line p.0 p.1.0 p.1.1 in
+    let i = line-inside a.set.now a.shape a.line p.accepted p.line_there.0 p.line_there.1 in
     let e = c.line_after-x.ensures in
     omega (arith, ap (λ (x : OneLine). x.at) e, ap (λ (x : OneLine). x.size) e, i.least, i.within, c.ranges, c.well_formed)
 
@@ -20,7 +20,7 @@ pub overflow_sub-result : goal.overflow_sub-result
 overflow_sub-result c =
     let a = c.args in
     let p = c.requires in
-    let i = line-inside a.set.now a.shape a.line p.0 p.1.0 p.1.1 in
+    let i = line-inside a.set.now a.shape a.line p.accepted p.line_there.0 p.line_there.1 in
     omega (arith, ap (λ (x : OneLine). x.size) c.line_after-x.ensures, i.least)
 
 pub returns : goal.returns

@@ -26,7 +26,7 @@ pub check_entry-checked-requires : goal.check_entry-checked-requires
 check_entry-checked-requires c =
     let l = c.loop-at in
     let a = c.args in
-    (c.requires.0, (l.invariant.4, omega (arith, c.requires.1, l.invariant.5)))
+    record { lined = c.requires.lined; rolled = l.invariant.4; room = omega (arith, c.requires.room, l.invariant.5) }
 
 pub shape_of-labels-in-Refused : goal.shape_of-labels-in-Refused
 shape_of-labels-in-Refused c =

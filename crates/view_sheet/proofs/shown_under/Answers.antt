@@ -12,7 +12,7 @@ returns-then-sheet-eq0 c = ap Set c.part_of_set.ensures ∙ under-empty _ _ _ _ 
 
 pub shown_by_sheet-requires : goal.shown_by_sheet-requires
 shown_by_sheet-requires c =
-    rw c.terms_of-terms.ensures (judged-lined c.args.set.now c.args.shape c.requires.0)
+    rw c.terms_of-terms.ensures (judged-lined c.args.set.now c.args.shape c.requires.accepted)
 
 pub returns-in-Refused : goal.returns-in-Refused
 returns-in-Refused c =
