@@ -68,7 +68,7 @@ put_block-requires c =
     let within = data-within a.set.now a.shape e _ l a.i (omega (arith, m, c.if-blocks-i.false)) _ _ c.cut_for-start.ensures c.end_for.ensures _
     c.place_of-from.ensures in
     let short = data-short a.set.now a.shape e _ l a.i (omega (arith, m, c.if-blocks-i.false)) _ _ c.cut_for-start.ensures c.end_for.ensures in
-    ((omega (arith, c.if-count-gt-COUNT.false), c.label_for-label.ensures.1), (within, short, c.requires.1))
+    record { numbers = (omega (arith, c.if-count-gt-COUNT.false), c.label_for-label.ensures.1); room = (within, short, c.requires.1) }
 
 pub returns : goal.returns
 returns c =

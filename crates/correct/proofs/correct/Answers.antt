@@ -23,7 +23,7 @@ put_content-requires c =
     let h = c.if-room-used.false in
     let q = sym c.plan_change.ensures ∙ c.in-Make.is in
     let m = plan-made a.buffer.now a.content.now a.used a.line _ _ _ h q in
-    ((m.within, h), (m.total-so, m.fits_in, m.sum-in))
+    record { within = (m.within, h); total_room = (m.total-so, m.fits_in, m.sum-in) }
 
 pub returns-in-Refused : goal.returns-in-Refused
 returns-in-Refused c =

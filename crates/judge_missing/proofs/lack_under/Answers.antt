@@ -1,12 +1,12 @@
 -- `lack_under` goes by the header itself: 8410, 6302 or a name, which has four digits, so that the label one higher fits.
 use mathlib.Core.Path.{sym, ◌∙◌}
-use mathlib.Core.Logic.{⊎_elim}
 use native.Mathlib.Omega.{arith}
 use borrow.Author.Rules.{rules}
 use Rattle.meaning.specs.Tables.{row_label}
 use Rattle.judge_missing.specs.Lacks.{lack_under}
 use Rattle.judge_missing.proofs.HeaderLackLaws.{name_below, under-name, under-odd, under-other, under_low}
 use Rattle.judge_missing.proofs.lack_under.Goals as goal
+use Rattle.judge_missing.proofs.lack_under.Goals.{then-is_pair+else-header-eq0, else-is_pair}
 
 pub returns-then-header-lt-LABEL_6302 : goal.returns-then-header-lt-LABEL_6302
 returns-then-header-lt-LABEL_6302 c = c.none.ensures ∙ under_low _ _ _ (omega arith)
@@ -30,5 +30,7 @@ pub returns : goal.returns
 returns c =
     let is-pair = c.is_pair.ensures in
     c.none-2.ensures
-    ∙ ⊎_elim (λ w. under-odd _ _ _ (sym is-pair ∙ w.0.taken) w.1.left)
-    (λ w. under-other _ _ _ c.if-header-eq-LABEL_8410.false c.if-header-eq-LABEL_6302.false (sym is-pair ∙ w.left)) c.if-is_pair.branch
+    ∙ elim c.if-is_pair.branch [
+        then-is_pair+else-header-eq0 w ↦ under-odd _ _ _ (sym is-pair ∙ w.if-is_pair.true) w.if-header-eq0.false
+      | else-is_pair w ↦ under-other _ _ _ c.if-header-eq-LABEL_8410.false c.if-header-eq-LABEL_6302.false (sym is-pair ∙ w.if-is_pair.false)
+      ]
