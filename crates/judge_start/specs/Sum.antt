@@ -1,4 +1,4 @@
--- The sum of line 2, and 17, as the code walks them, at the offset of line 2. `sum_is_lem` in `judge` ties 17 to the meaning, `sum-fitting` in proofs/TypeAndSumLaws says that 14 asks for a sum.
+-- The sum of line 2, and 17, as the code walks them, at the offset of line 2. `sum_is` in `judge` ties 17 to the meaning, `sum-fitting` in proofs/TypeAndSumLaws says that 14 asks for a sum.
 use Rattle.std.specs.Prelude.{Bool, true, false, cond, List, ℕ, ◌+◌, eqb}
 use Rattle.meaning.specs.declared.Refusal.{Refusal}
 use Rattle.meaning.specs.Refusals.{refusal, bad_sum}

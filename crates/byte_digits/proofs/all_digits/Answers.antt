@@ -1,9 +1,5 @@
-use mathlib.Core.Path.{◌≡◌, refl, sym, ◌∙◌}
-use Prim.Native.Nat.{◌-◌}
+use mathlib.Core.Path.{sym, ◌∙◌}
 use native.Mathlib.Omega.{arith}
-use lib.ListN.{length, drop}
-use borrow.Author.Rules.{rules}
-use Rattle.meaning.specs.Digits.{all_digits}
 use Rattle.byte_digits.proofs.AllDigitsLaws.{digits-stop, digits_more, digits-end}
 use Rattle.byte_digits.proofs.all_digits.Goals as goal
 

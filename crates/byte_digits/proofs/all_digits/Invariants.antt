@@ -1,11 +1,8 @@
 -- The loop of `all-digits`: the bytes left are digits exactly if all are.
-use mathlib.Core.Path.{◌≡◌, refl, sym, ◌∙◌}
+use mathlib.Core.Path.{◌≡◌}
 use Prim.Native.Nat.{◌-◌}
-use native.Mathlib.Omega.{arith}
 use lib.ListN.{length, drop}
-use borrow.Author.Rules.{rules}
 use Rattle.meaning.specs.Digits.{all_digits}
-use Rattle.byte_digits.proofs.AllDigitsLaws.{digits-stop, digits_more, digits-end}
 use Rattle.byte_digits.proofs.all_digits.Given as goal
 
 abbrev pub invariant-loop-i : goal.invariant-loop-i

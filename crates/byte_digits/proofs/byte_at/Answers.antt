@@ -1,8 +1,7 @@
 -- `byte_at` is the element, or 0 after the end.
-use mathlib.Core.Path.{refl, sym}
+use mathlib.Core.Path.{sym}
 use native.Mathlib.Omega.{arith}
 use lib.ListN.{get_or-eq_default}
-use borrow.Author.Rules.{rules}
 use Rattle.byte_digits.proofs.byte_at.Goals as goal
 
 pub returns-then-c-i : goal.returns-then-c-i

@@ -1,7 +1,6 @@
 -- `two_at` asks the two bytes, if there are two.
 use mathlib.Core.Path.{sym}
 use native.Mathlib.Omega.{arith}
-use borrow.Author.Rules.{rules}
 use Rattle.meaning.specs.Kinds.{two_at}
 use Rattle.byte_digits.proofs.TwoDigitsLaws.{two-end}
 use Rattle.byte_digits.proofs.two_at.Goals as goal

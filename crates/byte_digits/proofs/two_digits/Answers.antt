@@ -1,7 +1,6 @@
 -- `two_digits` asks for two digits and counts them.
 use mathlib.Core.Path.{sym, ◌∙◌}
 use native.Mathlib.Omega.{arith}
-use borrow.Author.Rules.{rules}
 use Rattle.meaning.specs.Kinds.{two_at}
 use Rattle.byte_digits.proofs.TwoDigitsLaws.{digit-counts}
 use Rattle.byte_digits.proofs.two_digits.Goals as goal

@@ -1,8 +1,6 @@
 use mathlib.Core.Path.{◌≡◌, refl}
-use Prim.Native.Nat.{◌≤◌, ◌-◌}
 use native.Mathlib.Omega.{arith}
-use lib.ListN.{length, length-set}
-use Rattle.byte_move.specs.Moved.{moved}
+use lib.ListN.{length-set}
 use Rattle.byte_move.proofs.MoveLaws.{down-none, down_turn}
 use Rattle.byte_move.proofs.move_down.Goals as goal
 

@@ -1,10 +1,8 @@
 -- `move_down` meets its contract: after i turns the first i bytes are moved. A turn is `down_step`.
-use mathlib.Core.Path.{◌≡◌, refl}
+use mathlib.Core.Path.{◌≡◌}
 use Prim.Native.Nat.{◌≤◌, ◌-◌}
-use native.Mathlib.Omega.{arith}
-use lib.ListN.{length, length-set}
+use lib.ListN.{length}
 use Rattle.byte_move.specs.Moved.{moved}
-use Rattle.byte_move.proofs.MoveLaws.{down-none, down_turn}
 use Rattle.byte_move.proofs.move_down.Given as goal
 
 abbrev pub invariant-loop-i : goal.invariant-loop-i

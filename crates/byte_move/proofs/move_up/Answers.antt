@@ -1,8 +1,7 @@
 use mathlib.Core.Path.{◌≡◌, refl, ◌∙◌}
-use Prim.Native.Nat.{◌≤◌}
 use native.Mathlib.Omega.{arith}
-use lib.ListN.{length, length-set}
-use Rattle.byte_move.proofs.MoveLaws.{upward, up_none, up_turn, up-all}
+use lib.ListN.{length-set}
+use Rattle.byte_move.proofs.MoveLaws.{up_none, up_turn, up-all}
 use Rattle.byte_move.proofs.move_up.Goals as goal
 
 pub loop-i-init : goal.loop-i-init

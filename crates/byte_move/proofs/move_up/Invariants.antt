@@ -1,9 +1,8 @@
 -- `move_up` meets its contract: the places from i on are done. A turn is `up_turn`.
-use mathlib.Core.Path.{◌≡◌, refl, ◌∙◌}
+use mathlib.Core.Path.{◌≡◌}
 use Prim.Native.Nat.{◌≤◌}
-use native.Mathlib.Omega.{arith}
-use lib.ListN.{length, length-set}
-use Rattle.byte_move.proofs.MoveLaws.{upward, up_none, up_turn, up-all}
+use lib.ListN.{length}
+use Rattle.byte_move.proofs.MoveLaws.{upward}
 use Rattle.byte_move.proofs.move_up.Given as goal
 
 abbrev pub invariant-loop-i : goal.invariant-loop-i

@@ -1,11 +1,8 @@
 -- `clear` meets its contract.
-use mathlib.Core.Path.{◌≡◌, refl}
-use mathlib.Core.List.{◌++◌, append-nil}
+use mathlib.Core.Path.{◌≡◌}
+use mathlib.Core.List.{◌++◌}
 use Prim.Native.Nat.{◌≤◌, ◌-◌}
-use native.Mathlib.Omega.{arith}
-use lib.ListN.{length, drop, replicate, length-set}
-use lib.Seq.{drop-length}
-use borrow.Author.Fill.{fill_more}
+use lib.ListN.{length, drop, replicate}
 use Rattle.byte_put.proofs.clear.Given as goal
 
 abbrev pub invariant-loop-i : goal.invariant-loop-i

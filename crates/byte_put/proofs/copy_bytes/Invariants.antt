@@ -1,11 +1,8 @@
 -- `copy_bytes`: a turn is a byte more.
-use mathlib.Core.Path.{◌≡◌, refl}
+use mathlib.Core.Path.{◌≡◌}
 use mathlib.Core.List.{◌++◌}
 use Prim.Native.Nat.{◌≤◌, ◌-◌}
-use native.Mathlib.Omega.{arith}
-use lib.ListN.{length, drop, take, length-set}
-use lib.Seq.{take-length}
-use Rattle.byte_put.proofs.PutLaws.{copy-turn}
+use lib.ListN.{length, drop, take}
 use Rattle.byte_put.proofs.copy_bytes.Given as goal
 
 abbrev pub invariant-loop-i : goal.invariant-loop-i

@@ -1,7 +1,6 @@
 -- `copy_half`: the stores are a block.
 use mathlib.Core.List.{[], ◌∷◌}
 use native.Mathlib.Omega.{arith}
-use borrow.Author.Rules.{rules}
 use lib.Seq.{length-sets, lt-length-sets}
 use Rattle.byte_put.specs.Places.{half_word}
 use Rattle.byte_put.proofs.PutLaws.{block-put}

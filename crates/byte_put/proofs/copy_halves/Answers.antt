@@ -2,7 +2,6 @@
 use mathlib.Core.Path.{◌∙◌}
 use Prim.Native.Nat.{◌-◌}
 use native.Mathlib.Omega.{arith}
-use borrow.Author.Rules.{rules}
 use lib.ListN.{length}
 use Rattle.byte_put.specs.Places.{half_word}
 use Rattle.byte_put.proofs.PutLaws.{lent-block, blocks-all}

@@ -1,8 +1,7 @@
-use mathlib.Core.Path.{◌≡◌, refl, ◌∙◌}
-use mathlib.Core.List.{◌++◌}
-use Prim.Native.Nat.{◌-◌, ◌≤◌}
+use mathlib.Core.Path.{refl, ◌∙◌}
+use Prim.Native.Nat.{◌-◌}
 use native.Mathlib.Omega.{arith}
-use lib.ListN.{length, take, drop}
+use lib.ListN.{length}
 use Rattle.byte_put.specs.Places.{word}
 use Rattle.byte_put.proofs.PutLaws.{lent-block, length-block, block-turn, blocks-all}
 use Rattle.byte_put.proofs.copy_words.Goals as goal

@@ -1,9 +1,6 @@
 use mathlib.Core.Path.{◌≡◌, refl, sym, ◌∙◌}
-use Prim.Native.Nat.{◌≤◌}
 use native.Mathlib.Omega.{arith}
-use lib.ListN.{length, length-set}
-use Rattle.meaning.specs.Digits.{digits}
-use Rattle.byte_put.specs.Places.{over}
+use lib.ListN.{length-set}
 use Rattle.byte_put.proofs.PutLaws.{digits-none, digit-turn}
 use Rattle.byte_put.proofs.put_digits.Goals as goal
 

@@ -1,11 +1,9 @@
 -- `put_digits` meets its contract: with the digits that are left put, the buffer is what it is to be. A turn is `digit-turn`.
-use mathlib.Core.Path.{◌≡◌, refl, sym, ◌∙◌}
+use mathlib.Core.Path.{◌≡◌}
 use Prim.Native.Nat.{◌≤◌}
-use native.Mathlib.Omega.{arith}
-use lib.ListN.{length, length-set}
+use lib.ListN.{length}
 use Rattle.meaning.specs.Digits.{digits}
 use Rattle.byte_put.specs.Places.{over}
-use Rattle.byte_put.proofs.PutLaws.{digits-none, digit-turn}
 use Rattle.byte_put.proofs.put_digits.Given as goal
 
 abbrev pub invariant-loop-i : goal.invariant-loop-i

@@ -1,6 +1,5 @@
 -- `entry_at` is the walk `entry_at`: each return by the law of the bytes that are there.
 use native.Mathlib.Omega.{arith}
-use borrow.Author.Rules.{rules}
 use Rattle.entry_read.proofs.HeadLaws.{entry-headless, entry-short, entry-told}
 use Rattle.entry_read.proofs.entry_at.Goals as goal
 

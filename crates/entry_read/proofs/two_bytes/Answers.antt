@@ -1,6 +1,5 @@
 -- `two_bytes`: the second byte counts 256 times.
 use native.Mathlib.Numerals.{add-one}
-use borrow.Author.Rules.{rules}
 use Rattle.entry_read.proofs.two_bytes.Goals as goal
 
 pub returns : goal.returns

@@ -1,5 +1,4 @@
 -- `finish_at` says what the set lacks, else what its first group lacks.
-use borrow.Author.Rules.{rules}
 use borrow.Author.Tests.{ne_eqb}
 use Rattle.meaning.specs.Answers.{or_else}
 use Rattle.judge_missing.specs.Lacks.{finish}

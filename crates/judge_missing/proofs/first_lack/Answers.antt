@@ -1,6 +1,5 @@
 -- `first_lack` keeps the lack that was found, else asks the open group.
 use mathlib.Core.Path.{◌∙◌}
-use borrow.Author.Rules.{rules}
 use borrow.Author.Tests.{ne_eqb}
 use Rattle.meaning.specs.Answers.{or_else}
 use Rattle.judge_missing.specs.Lacks.{first_lack}

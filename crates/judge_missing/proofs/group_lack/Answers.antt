@@ -1,5 +1,4 @@
 -- `group_lack` asks in a 6310 set what the header's group lacks; no other set has groups.
-use borrow.Author.Rules.{rules}
 use Rattle.judge_missing.specs.Lacks.{group_lack}
 use Rattle.judge_missing.proofs.group_lack.Goals as goal
 

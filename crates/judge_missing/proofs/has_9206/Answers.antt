@@ -1,5 +1,4 @@
 -- `has_9206`: the number of 9206 is its place in the field table.
-use borrow.Author.Rules.{rules}
 use Rattle.meaning.specs.FieldTable.{field_table}
 use Rattle.table_fields.specs.LabelNumbers.{label_number, rows_before}
 use Rattle.judge_missing.specs.Lacks.{seen}

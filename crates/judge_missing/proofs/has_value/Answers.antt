@@ -1,6 +1,5 @@
 -- `has_value` reads the flags of 8420, 8461 and 8462.
 use mathlib.Core.Path.{sym, ◌∙◌}
-use borrow.Author.Rules.{rules}
 use Rattle.meaning.specs.FieldTable.{field_table}
 use Rattle.table_fields.specs.LabelNumbers.{label_number, rows_before}
 use Rattle.judge_missing.specs.Lacks.{valued, seen}

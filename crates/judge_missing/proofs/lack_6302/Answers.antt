@@ -1,6 +1,5 @@
 -- `lack_6302` asks for 6303, 6304 and 6305, in this order.
 use mathlib.Core.Path.{sym, ◌∙◌}
-use borrow.Author.Rules.{rules}
 use Rattle.meaning.specs.FieldTable.{field_table}
 use Rattle.table_fields.specs.LabelNumbers.{label_number, rows_before}
 use Rattle.judge_missing.specs.Lacks.{lack6302, seen}

@@ -1,6 +1,5 @@
 -- `lack_8410` asks for 8421 if a value or a limit stands, then for 8437.
 use mathlib.Core.Path.{sym, ◌∙◌}
-use borrow.Author.Rules.{rules}
 use Rattle.meaning.specs.FieldTable.{field_table}
 use Rattle.table_fields.specs.LabelNumbers.{label_number, rows_before}
 use Rattle.judge_missing.specs.Lacks.{lack8410, seen}

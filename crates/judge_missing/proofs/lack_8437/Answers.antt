@@ -1,6 +1,5 @@
 -- `lack_8437` asks for 8437 if 8438 stands.
 use mathlib.Core.Path.{sym, ◌∙◌}
-use borrow.Author.Rules.{rules}
 use Rattle.meaning.specs.FieldTable.{field_table}
 use Rattle.table_fields.specs.LabelNumbers.{label_number, rows_before}
 use Rattle.judge_missing.specs.Lacks.{lack8437, seen}

@@ -1,8 +1,6 @@
 -- `lack_patient` asks for the required labels, lowest first, and stops at the first that was not seen.
 use mathlib.Core.Path.{sym, ◌∙◌}
-use borrow.Author.Rules.{rules}
 use Rattle.meaning.specs.FieldTable.{field_table}
-use Rattle.meaning.proofs.Bools.{not-true, not-false}
 use Rattle.table_fields.specs.LabelNumbers.{label_number, rows_before}
 use Rattle.judge_missing.specs.Lacks.{lack_all, seen}
 use Rattle.judge_missing.proofs.lack_patient.Goals as goal

@@ -1,7 +1,6 @@
 -- `lack_under` goes by the header itself: 8410, 6302 or a name, which has four digits, so that the label one higher fits.
 use mathlib.Core.Path.{sym, ◌∙◌}
 use native.Mathlib.Omega.{arith}
-use borrow.Author.Rules.{rules}
 use Rattle.meaning.specs.Tables.{row_label}
 use Rattle.judge_missing.specs.Lacks.{lack_under}
 use Rattle.judge_missing.proofs.HeaderLackLaws.{name_below, under-name, under-odd, under-other, under_low}
@@ -31,6 +30,6 @@ returns c =
     let is-pair = c.is_pair.ensures in
     c.none-2.ensures
     ∙ elim c.if-is_pair.branch [
-        then-is_pair+else-header-eq0 w ↦ under-odd _ _ _ (sym is-pair ∙ w.if-is_pair.true) w.if-header-eq0.false
+      | then-is_pair+else-header-eq0 w ↦ under-odd _ _ _ (sym is-pair ∙ w.if-is_pair.true) w.if-header-eq0.false
       | else-is_pair w ↦ under-other _ _ _ c.if-header-eq-LABEL_8410.false c.if-header-eq-LABEL_6302.false (sym is-pair ∙ w.if-is_pair.false)
-      ]
+    ]

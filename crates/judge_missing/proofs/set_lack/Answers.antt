@@ -1,6 +1,5 @@
 -- `set_lack` asks for the labels that the set type requires; those of 6311 stand in the rows of 6300.
 use mathlib.Core.Path.{◌∙◌}
-use borrow.Author.Rules.{rules}
 use Rattle.judge_missing.specs.Lacks.{set_lack}
 use Rattle.judge_missing.proofs.set_lack.Goals as goal
 

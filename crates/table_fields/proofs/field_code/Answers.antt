@@ -1,5 +1,4 @@
 -- `field_code` is the code of the row of the label that the row is printed under.
-use borrow.Author.Rules.{rules}
 use Rattle.meaning.specs.FieldTable.{field_row}
 use Rattle.table_fields.proofs.field_code.Goals as goal
 

@@ -1,6 +1,5 @@
 -- `row_label` is the label of the row: that of the names or of the odd labels, or the label itself.
 use mathlib.Core.Path.{sym, ◌∙◌}
-use borrow.Author.Rules.{rules}
 use Rattle.meaning.specs.Tables.{row_label}
 use Rattle.table_fields.proofs.row_label.Goals as goal
 

@@ -1,6 +1,5 @@
 -- `put_line`: four parts put one after the other.
 use Prim.Native.Nat.{◌+◌}
-use borrow.Author.Rules.{rules}
 use Rattle.byte_put.proofs.OverLaws.{over-lent}
 use Rattle.write_lines.proofs.LinePutLaws.{line-put}
 use Rattle.write_lines.proofs.put_line.Goals as goal

@@ -1,6 +1,5 @@
 -- `put_lines`: the line of the entry, and after the first that of the sum.
 use native.Mathlib.Omega.{arith}
-use borrow.Author.Rules.{rules}
 use lib.ListN.{length}
 use Rattle.meaning.specs.Digits.{digits}
 use Rattle.meaning.specs.Lists.{sum_digits}

@@ -1,5 +1,4 @@
 -- `put_sum`: four parts put one after the other.
-use borrow.Author.Rules.{rules}
 use Rattle.meaning.specs.Digits.{digits}
 use Rattle.meaning.specs.Lists.{sum_digits}
 use Rattle.write_lines.proofs.LinePutLaws.{line-put}
