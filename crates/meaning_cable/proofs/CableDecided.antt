@@ -1,7 +1,7 @@
 -- Computed examples: CRC vectors of appendix C's program, P's two blocks, where data are cut and how blocks are labelled, which reply is ACK 1, the rules of sender and receiver row by row
 -- with all that a call leaves, the form of a block, the calls with their records and buffers, and that the bound of 4n is reached.
 use mathlib.Core.Path.{◌≡◌, refl}
-use mathlib.Core.Bool.{Bool, true, false, cond}
+use mathlib.Core.Bool.{true, false, cond}
 use mathlib.Core.List.{List, [], ◌∷◌, ◌++◌, map}
 use Prim.Native.Nat.{ℕ, zero, suc, ◌-◌}
 use Prim.Native.String.{String}
@@ -18,10 +18,8 @@ use Rattle.meaning_cable.specs.declared.Action.{Action}
 use Rattle.meaning_cable.specs.declared.Turned.{Turned}
 use Rattle.meaning_cable.specs.declared.Sent.{Sent}
 use Rattle.meaning_cable.specs.declared.Sent.TheVariants.{Next, Refused as RefusedSet}
-use Rattle.meaning_cable.specs.declared.BlockCount.{BlockCount}
 use Rattle.meaning_cable.specs.declared.BlockCount.TheVariants.{Of, Refused as RefusedCount}
 use Rattle.meaning_cable.specs.declared.Receiver.{Receiver}
-use Rattle.meaning_cable.specs.declared.Received.{Received}
 use Rattle.meaning_cable.specs.declared.Received.TheVariants.{Done, Refused as RefusedBlock}
 use Rattle.meaning_cable.specs.Crc.{crc}
 use Rattle.meaning_cable.specs.Stream.{separator, restored}

@@ -1,12 +1,12 @@
 -- An accepted set that stands alone in its bytes: its lines, its data and its blocks.
 use mathlib.Core.Path.{◌≡◌, refl, sym, ap, ◌∙◌, subst}
 use mathlib.Core.List.{List, [], ◌∷◌, ◌++◌, cons≢nil}
-use Prim.Native.Nat.{ℕ, ◌+◌, ◌-◌, ◌≤◌, ◌<◌}
+use Prim.Native.Nat.{ℕ, ◌-◌, ◌≤◌, ◌<◌}
 use native.Mathlib.Omega.{arith}
 use lib.ListN.{length}
 use Rattle.meaning.specs.Field.{Field}
-use Rattle.meaning.specs.Refusals.{done, then_to, verdict}
-use Rattle.meaning.specs.Pieces.{Parsed, parsed}
+use Rattle.meaning.specs.Refusals.{done, verdict}
+use Rattle.meaning.specs.Pieces.{parsed}
 use Rattle.meaning.specs.Lines.{cr, lf, size, render}
 use Rattle.meaning.specs.Rules.{start_faults}
 use Rattle.meaning.specs.Reading.{read, in_set}

@@ -3,7 +3,7 @@ use mathlib.Core.Path.{◌≡◌, refl, sym, ap, ◌∙◌, subst}
 use mathlib.Core.Bool.{Bool, true, false, cond, not, ◌&&◌, true≢false}
 use mathlib.Core.List.{List, [], ◌++◌}
 use mathlib.Core.Logic.{◌⊎◌, inl, inr, ◌≢◌}
-use Prim.Native.Nat.{ℕ, zero, suc, ◌+◌, ◌-◌, ◌≤◌, ◌<◌, min}
+use Prim.Native.Nat.{ℕ, zero, suc, ◌+◌, ◌-◌, ◌≤◌, min}
 use native.Mathlib.Omega.{arith}
 use lib.Dec.{eqb, leb}
 use lib.ListN.{length, take, get_or, replicate, length-append, length-take, length-replicate}
@@ -15,7 +15,7 @@ use Rattle.meaning_cable.specs.Stream.{all_data}
 use Rattle.meaning.proofs.Bools.{and_left, and_right, and_both, not-true}
 use Rattle.meaning.proofs.FaultLaws.{ask-none, ask-last}
 use Rattle.meaning_cable.specs.declared.Receiver.{Receiver}
-use Rattle.meaning_cable.specs.Blocks.{b00, b01, b02}
+use Rattle.meaning_cable.specs.Blocks.{b00, b02}
 use Rattle.meaning_cable.specs.Sending.{next_count, ack_bytes}
 use Rattle.meaning_cable.specs.CableCalls.{received, received_call, kept_by, ack_by}
 use Rattle.meaning_cable.specs.Receiving.{count_of, label_of, data_of, length_ok, head_ok, end_ok, form_ok, crc_ok, block_faults, ReceiveCall, is_taken, is_again, is_whole, ack_number, ack_of}

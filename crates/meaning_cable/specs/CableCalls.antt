@@ -13,7 +13,7 @@ use Rattle.meaning_cable.specs.declared.BlockCount.TheVariants.{Of, Refused as R
 use Rattle.meaning_cable.specs.declared.Receiver.{Receiver}
 use Rattle.meaning_cable.specs.declared.Received.{Received}
 use Rattle.meaning_cable.specs.declared.Received.TheVariants.{Done, Refused as RefusedBlock}
-use Rattle.meaning_cable.specs.Blocks.{block, blocks_of}
+use Rattle.meaning_cable.specs.Blocks.{block}
 use Rattle.meaning_cable.specs.Sending.{action, send, link_left}
 use Rattle.meaning_cable.specs.Receiving.{ReceiveCall, ack_number}
 

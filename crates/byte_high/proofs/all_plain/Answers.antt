@@ -1,9 +1,7 @@
-use mathlib.Core.Path.{◌≡◌, sym, ap, ◌∙◌}
-use Prim.Native.Nat.{◌-◌, ◌≤◌}
+use mathlib.Core.Path.{sym, ap, ◌∙◌}
+use Prim.Native.Nat.{◌-◌}
 use native.Mathlib.Omega.{arith}
-use borrow.Author.Rules.{rules}
 use borrow.Author.Tests.{eqb-true}
-use lib.ListN.{length}
 use Rattle.byte_low.proofs.SeekLaws.{seek-on, seek-tail}
 use Rattle.byte_high.specs.High.{seven_bits, first_high}
 use Rattle.byte_high.proofs.all_plain.Goals as goal

@@ -1,12 +1,8 @@
 -- `all_plain`: the search among the bytes after plain blocks finds what the search among all finds, and in the last block it finds nothing.
-use mathlib.Core.Path.{◌≡◌, sym, ap, ◌∙◌}
+use mathlib.Core.Path.{◌≡◌}
 use Prim.Native.Nat.{◌-◌, ◌≤◌}
-use native.Mathlib.Omega.{arith}
-use borrow.Author.Rules.{rules}
-use borrow.Author.Tests.{eqb-true}
 use lib.ListN.{length}
-use Rattle.byte_low.proofs.SeekLaws.{seek-on, seek-tail}
-use Rattle.byte_high.specs.High.{seven_bits, first_high}
+use Rattle.byte_high.specs.High.{first_high}
 use Rattle.byte_high.proofs.all_plain.Given as goal
 
 abbrev pub invariant-loop-i : goal.invariant-loop-i

@@ -1,10 +1,7 @@
 -- `first_high` is the walk `first_high`: the search among the bytes after blocks that have none finds what the search among all finds.
-use mathlib.Core.Path.{◌≡◌, sym, ap, ◌∙◌}
+use mathlib.Core.Path.{◌≡◌}
 use Prim.Native.Nat.{◌-◌, ◌≤◌}
-use native.Mathlib.Omega.{arith}
-use borrow.Author.Rules.{rules}
-use Rattle.byte_low.proofs.SeekLaws.{seek-on}
-use Rattle.byte_high.specs.High.{seven_bits, first_high}
+use Rattle.byte_high.specs.High.{first_high}
 use Rattle.byte_high.proofs.first_high.Given as goal
 
 abbrev pub invariant-loop-i : goal.invariant-loop-i

@@ -1,8 +1,6 @@
 use mathlib.Core.Path.{◌≡◌, ap, ◌∙◌}
-use Prim.Native.Nat.{◌+◌, ◌-◌, ◌≤◌}
+use Prim.Native.Nat.{◌+◌, ◌-◌}
 use native.Mathlib.Omega.{arith}
-use lib.ListN.{length}
-use borrow.Author.Rules.{rules}
 use Rattle.byte_low.proofs.SeekLaws.{seek-done, seek-join}
 use Rattle.byte_high.specs.High.{seven_bits, first_high}
 use Rattle.byte_high.proofs.pass_blocks.Goals as goal

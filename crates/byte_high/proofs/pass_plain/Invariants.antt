@@ -1,11 +1,8 @@
 -- `pass_plain`: the blocks that it passes over have no byte over 7Fh.
-use mathlib.Core.Path.{◌≡◌, ap, ◌∙◌}
-use Prim.Native.Nat.{◌+◌, ◌-◌, ◌≤◌}
-use native.Mathlib.Omega.{arith}
+use mathlib.Core.Path.{◌≡◌}
+use Prim.Native.Nat.{◌-◌, ◌≤◌}
 use lib.ListN.{length}
-use borrow.Author.Rules.{rules}
-use Rattle.byte_low.proofs.SeekLaws.{seek-done, seek-join}
-use Rattle.byte_high.specs.High.{seven_bits, first_high}
+use Rattle.byte_high.specs.High.{first_high}
 use Rattle.byte_high.proofs.pass_plain.Given as goal
 
 abbrev pub invariant-loop-i : goal.invariant-loop-i

@@ -1,6 +1,5 @@
 -- `plain_front` is the walk `plain_front`: the search goes on after the blocks that are passed over.
 use mathlib.Core.Path.{◌∙◌}
-use borrow.Author.Rules.{rules}
 use Rattle.byte_high.proofs.HighLaws.{front-after}
 use Rattle.byte_high.proofs.plain_front.Goals as goal
 

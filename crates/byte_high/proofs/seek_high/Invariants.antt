@@ -1,12 +1,7 @@
 -- `seek_high` is the walk `first_high`: the search among the bytes that are left finds what the search among all finds.
-use mathlib.Core.Path.{◌≡◌, sym, ap, ◌∙◌}
+use mathlib.Core.Path.{◌≡◌}
 use Prim.Native.Nat.{◌-◌, ◌≤◌}
-use native.Mathlib.Omega.{arith}
-use borrow.Author.Rules.{rules}
-use borrow.Author.Tests.{le-leb, lt-leb}
-use Rattle.meaning.specs.Lines.{most_seven_bits}
-use Rattle.byte_high.specs.High.{seven_bits, first_high}
-use Rattle.byte_low.proofs.SeekLaws.{seek-here, seek-further, seek-end}
+use Rattle.byte_high.specs.High.{first_high}
 use Rattle.byte_high.proofs.seek_high.Given as goal
 
 abbrev pub invariant-loop-i : goal.invariant-loop-i

@@ -1,14 +1,8 @@
 -- `clean` finds no byte under 20h: while no byte so far is under it, the search has come as far as the loop.
-use mathlib.Core.Path.{◌≡◌, sym, ap₂, ◌∙◌}
+use mathlib.Core.Path.{◌≡◌}
 use mathlib.Core.Bool.{true}
 use Prim.Native.Nat.{◌+◌, ◌-◌, ◌≤◌}
-use native.Mathlib.Omega.{arith}
-use borrow.Author.Rules.{rules}
-use lib.Dec.{leb}
-use Rattle.meaning.specs.Lines.{least_byte}
-use Rattle.meaning.proofs.Bools.{and_left, and_right}
 use Rattle.byte_low.specs.Low.{first_low}
-use Rattle.byte_low.proofs.SeekLaws.{seek-step, seek-done}
 use Rattle.byte_low.proofs.clean.Given as goal
 
 abbrev pub invariant-loop-i : goal.invariant-loop-i

@@ -1,10 +1,8 @@
-use mathlib.Core.Path.{◌≡◌, refl, sym, ◌∙◌}
-use Prim.Native.Nat.{◌-◌, ◌≤◌}
+use mathlib.Core.Path.{refl, sym, ◌∙◌}
+use Prim.Native.Nat.{◌-◌}
 use native.Mathlib.Omega.{arith}
-use borrow.Author.Rules.{rules}
 use lib.Dec.{leb}
 use Rattle.meaning.specs.Lines.{least_byte}
-use Rattle.byte_low.specs.Low.{first_low}
 use Rattle.byte_low.proofs.SeekLaws.{seek-on, seek-tail}
 use Rattle.byte_low.proofs.clean_content.Goals as goal
 

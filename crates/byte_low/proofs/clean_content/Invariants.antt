@@ -1,12 +1,7 @@
 -- `clean_content`: the search among the bytes after clean blocks finds what the search among all finds, and in the last block it finds nothing.
-use mathlib.Core.Path.{◌≡◌, refl, sym, ◌∙◌}
+use mathlib.Core.Path.{◌≡◌}
 use Prim.Native.Nat.{◌-◌, ◌≤◌}
-use native.Mathlib.Omega.{arith}
-use borrow.Author.Rules.{rules}
-use lib.Dec.{leb}
-use Rattle.meaning.specs.Lines.{least_byte}
 use Rattle.byte_low.specs.Low.{first_low}
-use Rattle.byte_low.proofs.SeekLaws.{seek-on, seek-tail}
 use Rattle.byte_low.proofs.clean_content.Given as goal
 
 abbrev pub invariant-loop-i : goal.invariant-loop-i

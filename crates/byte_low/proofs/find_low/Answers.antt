@@ -1,6 +1,5 @@
 -- `find_low` is the walk `first_low`: the search after clean blocks finds what the search among all bytes finds.
 use mathlib.Core.Path.{◌∙◌}
-use borrow.Author.Rules.{rules}
 use Rattle.byte_low.proofs.find_low.Goals as goal
 
 pub returns : goal.returns

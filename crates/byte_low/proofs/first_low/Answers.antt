@@ -1,7 +1,6 @@
 -- `first_low` is the walk `first_low`: each search finds what the one before it finds.
 use mathlib.Core.Path.{ap, ◌∙◌}
 use native.Mathlib.Omega.{arith}
-use borrow.Author.Rules.{rules}
 use Rattle.byte_low.specs.Low.{first_low}
 use Rattle.byte_low.proofs.first_low.Goals as goal
 

@@ -1,12 +1,7 @@
 -- `pass_clean`: the search among the bytes after clean blocks finds what the search among all finds.
-use mathlib.Core.Path.{◌≡◌, sym, ap, ◌∙◌}
+use mathlib.Core.Path.{◌≡◌}
 use Prim.Native.Nat.{◌-◌, ◌≤◌}
-use native.Mathlib.Omega.{arith}
-use borrow.Author.Rules.{rules}
-use lib.Dec.{leb}
-use Rattle.meaning.specs.Lines.{least_byte}
 use Rattle.byte_low.specs.Low.{first_low}
-use Rattle.byte_low.proofs.SeekLaws.{seek-on}
 use Rattle.byte_low.proofs.pass_clean.Given as goal
 
 abbrev pub invariant-loop-i : goal.invariant-loop-i

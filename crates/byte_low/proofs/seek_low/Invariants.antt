@@ -1,13 +1,7 @@
 -- `seek_low` is the walk `first_low`: the search among the bytes that are left finds what the search among all finds.
-use mathlib.Core.Path.{◌≡◌, sym, ap, ◌∙◌}
+use mathlib.Core.Path.{◌≡◌}
 use Prim.Native.Nat.{◌-◌, ◌≤◌}
-use native.Mathlib.Omega.{arith}
-use borrow.Author.Rules.{rules}
-use borrow.Author.Tests.{le-leb, lt-leb}
-use lib.Dec.{leb}
-use Rattle.meaning.specs.Lines.{least_byte}
 use Rattle.byte_low.specs.Low.{first_low}
-use Rattle.byte_low.proofs.SeekLaws.{seek-here, seek-further, seek-end}
 use Rattle.byte_low.proofs.seek_low.Given as goal
 
 abbrev pub invariant-loop-i : goal.invariant-loop-i

@@ -1,7 +1,6 @@
 -- `short_low` is the walk `first_low`: two clean halves leave no byte between them.
 use mathlib.Core.Path.{sym}
 use native.Mathlib.Omega.{arith}
-use borrow.Author.Rules.{rules}
 use lib.Dec.{leb}
 use Rattle.meaning.specs.Lines.{least_byte}
 use Rattle.meaning.proofs.Bools.{and_left, and_right}

@@ -1,7 +1,6 @@
 -- `block_accepted`: each return by the law of the answer.
 use mathlib.Core.Path.{◌∙◌}
 use native.Mathlib.Omega.{arith}
-use borrow.Author.Rules.{rules}
 use Rattle.cable_block.proofs.BlockAnswers.{data-few, answer-none, none_after, none_over, in_order, has-data, data-short, data-within, answer-made}
 use Rattle.cable_block.proofs.block_accepted.Goals as goal
 

@@ -1,6 +1,5 @@
 -- `block_in`: as the set is judged.
 use mathlib.Core.Path.{sym, ◌∙◌}
-use borrow.Author.Rules.{rules}
 use Rattle.cable_set.proofs.AloneSetLaws.{alone-so}
 use Rattle.cable_block.proofs.BlockAnswers.{answer-refused}
 use Rattle.cable_block.proofs.block_in.Goals as goal

@@ -1,6 +1,5 @@
 -- `end_for`: the lesser of two.
 use native.Mathlib.Omega.{arith}
-use borrow.Author.Rules.{rules}
 use Rattle.cable_block.specs.Cutting.{end_for}
 use Rattle.cable_block.proofs.CutLaws.{count-few}
 use Rattle.cable_block.proofs.end_for.Goals as goal

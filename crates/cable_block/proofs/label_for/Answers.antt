@@ -1,6 +1,5 @@
 -- `label_for`: by its tests.
 use native.Mathlib.Omega.{arith}
-use borrow.Author.Rules.{rules}
 use borrow.Author.Tests.{le-leb, lt-leb, eq-eqb, ne_eqb}
 use Rattle.meaning_cable.specs.Blocks.{block_label}
 use Rattle.cable_block.proofs.label_for.Goals as goal

@@ -1,5 +1,4 @@
 -- `next_count`: 1 after 9 or more, else one more.
-use borrow.Author.Rules.{rules}
 use borrow.Author.Tests.{le-leb, lt-leb}
 use Rattle.meaning_cable.specs.Sending.{next_count}
 use Rattle.cable_count.proofs.next_count.Goals as goal

@@ -1,7 +1,6 @@
 -- `crc_byte`: the closed form of a byte.
 use mathlib.Core.Path.{sym}
 use native.Mathlib.Omega.{arith}
-use borrow.Author.Rules.{rules}
 use Rattle.cable_crc.proofs.ByteLaws.{high-byte, byte-is}
 use Rattle.cable_crc.proofs.crc_byte.Goals as goal
 

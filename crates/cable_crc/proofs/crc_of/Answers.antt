@@ -1,8 +1,7 @@
-use mathlib.Core.Path.{◌≡◌, refl, sym, ap, ◌∙◌}
+use mathlib.Core.Path.{sym, ap, ◌∙◌}
 use Prim.Native.Nat.{ℕ, ◌+◌, ◌-◌}
 use native.Mathlib.Omega.{arith}
-use lib.ListN.{length, drop}
-use borrow.Author.Rules.{rules}
+use lib.ListN.{drop}
 use Rattle.meaning_cable.specs.Crc.{crc_from}
 use Rattle.cable_crc.proofs.ByteLaws.{crc-more, crc-end}
 use Rattle.cable_crc.proofs.crc_of.Goals as goal

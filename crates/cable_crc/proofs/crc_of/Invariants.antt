@@ -1,11 +1,8 @@
 -- The loop of `crc_of`: what the register and the bytes that are left come to.
-use mathlib.Core.Path.{◌≡◌, refl, sym, ap, ◌∙◌}
-use Prim.Native.Nat.{ℕ, ◌+◌, ◌-◌}
-use native.Mathlib.Omega.{arith}
+use mathlib.Core.Path.{◌≡◌}
+use Prim.Native.Nat.{◌-◌}
 use lib.ListN.{length, drop}
-use borrow.Author.Rules.{rules}
 use Rattle.meaning_cable.specs.Crc.{crc_from}
-use Rattle.cable_crc.proofs.ByteLaws.{crc-more, crc-end}
 use Rattle.cable_crc.proofs.crc_of.Given as goal
 
 abbrev pub invariant-loop-i : goal.invariant-loop-i

@@ -1,8 +1,6 @@
-use mathlib.Core.Path.{◌≡◌, refl, sym, ◌∙◌}
+use mathlib.Core.Path.{refl, sym, ◌∙◌}
 use native.Mathlib.Omega.{arith}
-use borrow.Author.Rules.{rules}
-use Rattle.cable_data.specs.Carried.{place_after}
-use Rattle.cable_data.proofs.CarriedLaws.{Ahead, ahead-first, line-within, place_here, place-later, ahead-next}
+use Rattle.cable_data.proofs.CarriedLaws.{ahead-first, line-within, place_here, place-later, ahead-next}
 use Rattle.cable_data.proofs.place_of.Goals as goal
 
 pub loop-left-init : goal.loop-left-init

@@ -1,9 +1,7 @@
 -- `place_of`: the byte that is left to find is always the one that is asked for.
-use mathlib.Core.Path.{◌≡◌, refl, sym, ◌∙◌}
-use native.Mathlib.Omega.{arith}
-use borrow.Author.Rules.{rules}
+use mathlib.Core.Path.{◌≡◌}
 use Rattle.cable_data.specs.Carried.{place_after}
-use Rattle.cable_data.proofs.CarriedLaws.{Ahead, ahead-first, line-within, place_here, place-later, ahead-next}
+use Rattle.cable_data.proofs.CarriedLaws.{Ahead}
 use Rattle.cable_data.proofs.place_of.Given as goal
 
 abbrev pub invariant-loop-left : goal.invariant-loop-left

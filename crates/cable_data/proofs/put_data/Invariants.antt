@@ -1,12 +1,9 @@
 -- `put_data`: what is left to put is always what is to be put in all.
-use mathlib.Core.Path.{◌≡◌, refl, sym, ap, ap₂, ◌∙◌}
-use Prim.Native.Nat.{ℕ, ◌+◌, ◌-◌, ◌≤◌}
-use native.Mathlib.Omega.{arith}
-use borrow.Author.Rules.{rules}
-use lib.ListN.{length, length-set}
+use mathlib.Core.Path.{◌≡◌}
+use Prim.Native.Nat.{◌+◌, ◌-◌, ◌≤◌}
+use lib.ListN.{length}
 use Rattle.byte_put.specs.Places.{over}
 use Rattle.cable_data.specs.Carried.{data_from, place_after}
-use Rattle.cable_data.proofs.CarriedLaws.{place-on, data-turn, place-turn, data-none}
 use Rattle.cable_data.proofs.put_data.Given as goal
 
 abbrev pub invariant-loop-i : goal.invariant-loop-i

@@ -1,9 +1,6 @@
-use mathlib.Core.Path.{◌≡◌, refl, sym, ◌∙◌}
-use mathlib.Core.Bool.{◌&&◌}
+use mathlib.Core.Path.{refl, sym, ◌∙◌}
 use Prim.Native.Nat.{◌-◌}
 use native.Mathlib.Omega.{arith}
-use lib.ListN.{length, drop}
-use borrow.Author.Rules.{rules}
 use Rattle.meaning_cable.specs.Stream.{data_byte, all_data}
 use Rattle.cable_form.proofs.EachByteLaws.{all-turn, all-over}
 use Rattle.cable_form.proofs.all_data.Goals as goal

@@ -1,12 +1,9 @@
 -- The loop of `all_data`: the bytes so far and the bytes left are all right exactly if all are.
-use mathlib.Core.Path.{◌≡◌, refl, sym, ◌∙◌}
+use mathlib.Core.Path.{◌≡◌}
 use mathlib.Core.Bool.{◌&&◌}
 use Prim.Native.Nat.{◌-◌}
-use native.Mathlib.Omega.{arith}
 use lib.ListN.{length, drop}
-use borrow.Author.Rules.{rules}
-use Rattle.meaning_cable.specs.Stream.{data_byte, all_data}
-use Rattle.cable_form.proofs.EachByteLaws.{all-turn, all-over}
+use Rattle.meaning_cable.specs.Stream.{all_data}
 use Rattle.cable_form.proofs.all_data.Given as goal
 
 abbrev pub invariant-loop-i : goal.invariant-loop-i

@@ -1,8 +1,6 @@
-use mathlib.Core.Path.{◌≡◌, refl, sym, ◌∙◌}
+use mathlib.Core.Path.{refl, sym, ◌∙◌}
 use Prim.Native.Nat.{◌-◌}
 use native.Mathlib.Omega.{arith}
-use lib.ListN.{length, drop}
-use borrow.Author.Rules.{rules}
 use Rattle.meaning_cable.specs.Receiving.{is_hex, all_hex}
 use Rattle.cable_form.proofs.EachByteLaws.{all-stop, all_more, all_end}
 use Rattle.cable_form.proofs.all_hex.Goals as goal

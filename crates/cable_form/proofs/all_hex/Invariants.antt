@@ -1,11 +1,8 @@
 -- The loop of `all_hex`: the bytes left are all right exactly if all are.
-use mathlib.Core.Path.{◌≡◌, refl, sym, ◌∙◌}
+use mathlib.Core.Path.{◌≡◌}
 use Prim.Native.Nat.{◌-◌}
-use native.Mathlib.Omega.{arith}
 use lib.ListN.{length, drop}
-use borrow.Author.Rules.{rules}
-use Rattle.meaning_cable.specs.Receiving.{is_hex, all_hex}
-use Rattle.cable_form.proofs.EachByteLaws.{all-stop, all_more, all_end}
+use Rattle.meaning_cable.specs.Receiving.{all_hex}
 use Rattle.cable_form.proofs.all_hex.Given as goal
 
 abbrev pub invariant-loop-i : goal.invariant-loop-i

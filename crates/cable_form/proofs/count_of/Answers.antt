@@ -1,6 +1,5 @@
 -- `count_of`: the byte is a digit.
 use native.Mathlib.Omega.{arith}
-use borrow.Author.Rules.{rules}
 use Rattle.cable_form.proofs.FormLaws.{formed}
 use Rattle.cable_form.proofs.count_of.Goals as goal
 

@@ -4,7 +4,6 @@ use Prim.Native.Nat.{◌-◌}
 use native.Mathlib.Omega.{arith}
 use lib.Dec.{eqb}
 use lib.ListN.{length}
-use borrow.Author.Rules.{rules}
 use Rattle.meaning_cable.specs.Crc.{crc}
 use Rattle.meaning_cable.specs.Receiving.{all_hex, hex_from, crc_ok}
 use Rattle.cable_form.proofs.FormLaws.{formed, four-digits, front-part}

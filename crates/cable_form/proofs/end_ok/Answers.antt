@@ -1,7 +1,5 @@
 -- `end_ok`: four hex digits, then 0Dh.
 use mathlib.Core.Path.{sym, ap, ◌∙◌}
-use borrow.Author.Rules.{rules}
-use Rattle.meaning.proofs.Bools.{not-true, not-false}
 use Rattle.meaning_cable.specs.Receiving.{all_hex}
 use Rattle.cable_form.proofs.FormLaws.{digits-part, end-no-hex, end-hex}
 use Rattle.cable_form.proofs.end_ok.Goals as goal

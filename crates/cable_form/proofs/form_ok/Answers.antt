@@ -1,8 +1,5 @@
 -- `form_ok`: each return by the test that decides.
 use mathlib.Core.Path.{sym, ap, ◌∙◌}
-use borrow.Author.Rules.{rules}
-use native.Mathlib.Omega.{arith}
-use Rattle.meaning.proofs.Bools.{not-true, not-false}
 use Rattle.meaning_cable.specs.Stream.{all_data}
 use Rattle.cable_form.proofs.FormLaws.{form-short, form-long, head-bad, data-bad, end-left, data-part}
 use Rattle.cable_form.proofs.form_ok.Goals as goal

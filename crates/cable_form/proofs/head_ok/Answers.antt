@@ -1,9 +1,7 @@
 -- `head_ok` is the tests of `head_ok`.
 use mathlib.Core.Path.{sym, ◌∙◌}
 use lib.ListN.{get_or}
-use borrow.Author.Rules.{rules}
 use borrow.Author.Tests.{eq-eqb, ne_eqb, le-leb, lt-leb}
-use Rattle.meaning.proofs.Bools.{not-true, not-false}
 use Rattle.cable_form.proofs.head_ok.Goals as goal
 
 pub returns-then-not-is_digit : goal.returns-then-not-is_digit

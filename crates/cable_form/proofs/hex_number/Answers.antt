@@ -1,5 +1,4 @@
 -- `hex_number`: each of the four is a hex digit.
-use borrow.Author.Rules.{rules}
 use Rattle.cable_form.proofs.FormLaws.{four-hex, four-number}
 use Rattle.cable_form.proofs.hex_number.Goals as goal
 

@@ -1,6 +1,5 @@
 -- `hex_value`: a digit, or one of six letters.
 use native.Mathlib.Omega.{arith}
-use borrow.Author.Rules.{rules}
 use Rattle.cable_form.proofs.FormLaws.{number-least, letter-bounds, number-value, letter-value}
 use Rattle.cable_form.proofs.hex_value.Goals as goal
 

@@ -1,6 +1,5 @@
 -- `is_hex` is the tests of `is_hex`.
 use mathlib.Core.Path.{sym, ◌∙◌}
-use borrow.Author.Rules.{rules}
 use borrow.Author.Tests.{le-leb, lt-leb}
 use Rattle.cable_form.proofs.is_hex.Goals as goal
 

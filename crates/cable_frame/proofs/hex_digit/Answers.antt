@@ -1,6 +1,5 @@
 -- `hex_digit`: a digit or a letter.
 use native.Mathlib.Omega.{arith}
-use borrow.Author.Rules.{rules}
 use borrow.Author.Tests.{le-leb, lt-leb}
 use Rattle.cable_frame.proofs.hex_digit.Goals as goal
 

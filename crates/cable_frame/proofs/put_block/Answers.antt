@@ -1,7 +1,6 @@
 -- `put_block`: the parts put one after the other.
 use mathlib.Core.Path.{sym}
 use native.Mathlib.Omega.{arith}
-use borrow.Author.Rules.{rules}
 use Rattle.cable_data.specs.Carried.{data_from}
 use Rattle.cable_data.proofs.CarriedLaws.{length-data}
 use Rattle.cable_frame.proofs.FramedLaws.{block-put}

@@ -1,6 +1,5 @@
 -- `put_lead`: the four stores are the four bytes.
 use native.Mathlib.Omega.{arith}
-use borrow.Author.Rules.{rules}
 use lib.ListN.{length-set}
 use Rattle.cable_frame.proofs.FramedLaws.{lead-put}
 use Rattle.cable_frame.proofs.put_lead.Goals as goal

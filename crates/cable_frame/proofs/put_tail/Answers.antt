@@ -2,7 +2,6 @@
 use mathlib.Core.Path.{◌≡◌, ap, ◌∙◌}
 use Prim.Native.Nat.{ℕ, ◌-◌}
 use native.Mathlib.Omega.{arith}
-use borrow.Author.Rules.{rules}
 use lib.ListN.{take, length-set}
 use Rattle.meaning_cable.specs.Crc.{crc}
 use Rattle.cable_frame.proofs.FramedLaws.{crc-put}

@@ -1,5 +1,4 @@
 -- `put_block`: zeros after what is put.
-use borrow.Author.Rules.{rules}
 use Rattle.meaning_cable.specs.Receiving.{put_by}
 use Rattle.cable_put.proofs.BlockPutLaws.{zeros-after}
 use Rattle.cable_put.proofs.put_block.Goals as goal

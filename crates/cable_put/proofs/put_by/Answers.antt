@@ -1,6 +1,5 @@
 -- `put_by`: the data, and after B02 the end of the last line.
 use native.Mathlib.Omega.{arith}
-use borrow.Author.Rules.{rules}
 use Rattle.cable_put.proofs.BlockPutLaws.{by-least, last-length, other_length, last-put, other-put}
 use Rattle.cable_put.proofs.put_by.Goals as goal
 

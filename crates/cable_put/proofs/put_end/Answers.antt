@@ -1,6 +1,5 @@
 -- `put_end`: the two stores are the two bytes.
 use native.Mathlib.Omega.{arith}
-use borrow.Author.Rules.{rules}
 use lib.ListN.{length-set}
 use Rattle.cable_put.proofs.RestoreLaws.{end-put}
 use Rattle.cable_put.proofs.put_end.Goals as goal

@@ -1,10 +1,5 @@
-use mathlib.Core.Path.{◌≡◌, refl, ◌∙◌}
-use Prim.Native.Nat.{◌+◌, ◌-◌, ◌≤◌}
+use mathlib.Core.Path.{refl, ◌∙◌}
 use native.Mathlib.Omega.{arith}
-use borrow.Author.Rules.{rules}
-use lib.ListN.{length, drop}
-use Rattle.byte_put.specs.Places.{over}
-use Rattle.meaning_cable.specs.Stream.{restored}
 use Rattle.cable_put.proofs.RestoreLaws.{byte_fits, byte-turned, size-turn, size-end, put-end}
 use Rattle.cable_put.proofs.put_restored.Goals as goal
 

@@ -1,12 +1,9 @@
 -- `put_restored`: those put, and those left to put, are always all.
-use mathlib.Core.Path.{◌≡◌, refl, ◌∙◌}
+use mathlib.Core.Path.{◌≡◌}
 use Prim.Native.Nat.{◌+◌, ◌-◌, ◌≤◌}
-use native.Mathlib.Omega.{arith}
-use borrow.Author.Rules.{rules}
 use lib.ListN.{length, drop}
 use Rattle.byte_put.specs.Places.{over}
 use Rattle.meaning_cable.specs.Stream.{restored}
-use Rattle.cable_put.proofs.RestoreLaws.{byte_fits, byte-turned, size-turn, size-end, put-end}
 use Rattle.cable_put.proofs.put_restored.Given as goal
 
 abbrev pub invariant-loop-i : goal.invariant-loop-i

@@ -1,7 +1,6 @@
 -- `put_size`: after B02 the end of the last line too.
 use mathlib.Core.Path.{sym, ◌∙◌}
 use native.Mathlib.Omega.{arith}
-use borrow.Author.Rules.{rules}
 use Rattle.cable_put.proofs.BlockPutLaws.{last-length, other_length}
 use Rattle.cable_put.proofs.put_size.Goals as goal
 

@@ -1,11 +1,8 @@
 -- `restored_size`: those counted, and those left, are always all.
-use mathlib.Core.Path.{◌≡◌, ap, ◌∙◌}
-use Prim.Native.Nat.{ℕ, ◌+◌, ◌-◌, ◌≤◌}
-use native.Mathlib.Omega.{arith}
-use borrow.Author.Rules.{rules}
+use mathlib.Core.Path.{◌≡◌}
+use Prim.Native.Nat.{◌+◌, ◌-◌, ◌≤◌}
 use lib.ListN.{length, drop}
 use Rattle.meaning_cable.specs.Stream.{restored}
-use Rattle.cable_put.proofs.RestoreLaws.{size-turn, size-end}
 use Rattle.cable_put.proofs.restored_size.Given as goal
 
 abbrev pub invariant-loop-i : goal.invariant-loop-i

@@ -1,5 +1,4 @@
 -- `in_turn`: each return by its row of the table.
-use borrow.Author.Rules.{rules}
 use Rattle.cable_receive.proofs.TurnLaws.{shown, told, turn-no-set, turn-next-set, turn-in-set, turn-goes-on}
 use Rattle.cable_receive.proofs.in_turn.Goals as goal
 

@@ -1,6 +1,5 @@
 -- `put_at`: 22 with the need, or the block is put.
 use native.Mathlib.Omega.{arith}
-use borrow.Author.Rules.{rules}
 use Rattle.cable_receive.proofs.RoomLaws.{put_full, put-made}
 use Rattle.cable_receive.proofs.put_at.Goals as goal
 

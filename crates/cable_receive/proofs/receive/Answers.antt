@@ -3,8 +3,6 @@ use mathlib.Core.Path.{sym, ◌∙◌}
 use Prim.Native.Nat.{◌-◌}
 use native.Mathlib.Omega.{arith}
 use lib.ListN.{length, drop, length-take}
-use borrow.Author.Rules.{rules}
-use Rattle.meaning.proofs.Bools.{not-true, not-false}
 use Rattle.cable_form.proofs.FormLaws.{formed, data-part}
 use Rattle.cable_receive.proofs.TurnLaws.{shown, told, no-form, no-crc, has-turn}
 use Rattle.cable_receive.proofs.receive.Goals as goal

@@ -1,6 +1,5 @@
 -- `take_turn`: each return by its row of the table.
 use mathlib.Core.Path.{refl}
-use borrow.Author.Rules.{rules}
 use Rattle.cable_receive.proofs.TurnLaws.{shown, told, zero-other, zero-afresh, fresh-other, last-again, other-count, next-turn}
 use Rattle.cable_receive.proofs.take_turn.Goals as goal
 

@@ -1,7 +1,6 @@
 -- `begun`: the first block with the count that `first_count` gives.
 use mathlib.Core.Path.{ap, ◌∙◌}
 use Prim.Native.Nat.{ℕ}
-use borrow.Author.Rules.{rules}
 use Rattle.meaning_cable.specs.Sending.{begun}
 use Rattle.meaning_cable.specs.Sending.{goes, opened}
 use Rattle.cable_send.proofs.begun.Goals as goal

@@ -1,5 +1,4 @@
 -- `end_of`: delivered, given up, nothing under way.
-use borrow.Author.Rules.{rules}
 use borrow.Author.Tests.{eq-eqb, ne_eqb}
 use Rattle.meaning_cable.specs.Sending.{end_of}
 use Rattle.cable_send.proofs.end_of.Goals as goal

@@ -1,6 +1,5 @@
 -- `failed`: the first error on a block, the second in the first attempt, the second in the second.
 use native.Mathlib.Omega.{arith}
-use borrow.Author.Rules.{rules}
 use borrow.Author.Tests.{le-leb, lt-leb, eq-eqb, ne_eqb}
 use Rattle.meaning_cable.specs.Sending.{failed}
 use Rattle.cable_send.proofs.failed.Goals as goal

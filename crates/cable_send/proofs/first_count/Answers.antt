@@ -1,6 +1,5 @@
 -- `first_count`: after any set but a delivered one, and after that.
 use native.Mathlib.Omega.{arith}
-use borrow.Author.Rules.{rules}
 use borrow.Author.Tests.{eq-eqb, ne_eqb}
 use Rattle.meaning_cable.specs.Sending.{first_count}
 use Rattle.cable_send.proofs.first_count.Goals as goal

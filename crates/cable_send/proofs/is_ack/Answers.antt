@@ -1,7 +1,6 @@
 -- `is_ack`: two bytes, the first, the second.
 use native.Mathlib.Omega.{arith}
 use lib.ListN.{get_or}
-use borrow.Author.Rules.{rules}
 use borrow.Author.Tests.{eq-eqb, ne_eqb}
 use Rattle.meaning_cable.specs.Sending.{is_ack}
 use Rattle.cable_send.proofs.is_ack.Goals as goal

@@ -1,5 +1,4 @@
 -- `send`: the set is refused, it begins, or a reply comes.
-use borrow.Author.Rules.{rules}
 use Rattle.cable_send.proofs.SentLaws.{sent-refused, sent-begun, sent-reply}
 use Rattle.cable_send.proofs.send.Goals as goal
 

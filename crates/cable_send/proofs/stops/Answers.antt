@@ -1,6 +1,5 @@
 -- `stops`: the link with its new phase, and no block.
 use mathlib.Core.Path.{ap}
-use borrow.Author.Rules.{rules}
 use Rattle.meaning_cable.specs.Sending.{with_phase}
 use Rattle.meaning_cable.specs.declared.Action.{Action}
 use Rattle.cable_send.proofs.stops.Goals as goal

@@ -1,6 +1,5 @@
 -- `turn_of`: nothing under way, ACK 1, an error.
 use mathlib.Core.Path.{sym, ap, ◌∙◌}
-use borrow.Author.Rules.{rules}
 use borrow.Author.Tests.{eq-eqb, ne_eqb}
 use Rattle.meaning_cable.specs.Sending.{turn_of}
 use Rattle.meaning_cable.specs.declared.Action.{Action}

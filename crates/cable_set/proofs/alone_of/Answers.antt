@@ -1,6 +1,5 @@
 -- `alone-of`: as the set is judged, and 18 if something follows it.
 use mathlib.Core.Path.{ap, ◌∙◌}
-use borrow.Author.Rules.{rules}
 use Rattle.meaning.specs.declared.Judged.TheVariants.{Refused}
 use Rattle.cable_set.proofs.AloneSetLaws.{held-refused, held_more, held-only}
 use Rattle.cable_set.proofs.alone_of.Goals as goal

@@ -1,6 +1,5 @@
 -- `blocks_of`: as the set is judged, else by its length and lines.
 use mathlib.Core.Path.{sym, ap, ◌∙◌}
-use borrow.Author.Rules.{rules}
 use Rattle.meaning_cable.specs.declared.BlockCount.TheVariants.{Of, Refused}
 use Rattle.cable_set.specs.BlockCounts.{count_for}
 use Rattle.cable_set.proofs.AloneSetLaws.{alone-so, blocks-counted, blocks-empty, blocks-refused}

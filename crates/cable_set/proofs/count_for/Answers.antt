@@ -1,8 +1,6 @@
 -- `count_for`: two, or as many as 128 bytes each need.
-use mathlib.Core.Path.{◌≡◌, sym, ap, ◌∙◌}
 use native.Mathlib.Omega.{arith}
 use borrow.Author.Tests.{le-leb, lt-leb}
-use borrow.Author.Rules.{rules}
 use Rattle.cable_set.proofs.count_for.Goals as goal
 
 pub returns-then-length-le-DATA : goal.returns-then-length-le-DATA

@@ -1,7 +1,6 @@
 -- `correct` answers and leaves what the definition says: by what was planned.
 use mathlib.Core.Path.{sym, ap, ◌∙◌}
 use lib.Seq.{length-take-le}
-use borrow.Author.Rules.{rules}
 use Rattle.meaning.specs.Refusals.{refused}
 use Rattle.correct.proofs.CorrectLaws.{correct-over, kept, plan-refused, plan-made}
 use Rattle.correct.proofs.correct.Goals as goal

@@ -1,7 +1,6 @@
 -- `plan_change` answers what was planned.
 use mathlib.Core.Path.{sym, ◌∙◌}
 use Rattle.correct.proofs.CorrectLaws.{plan-unread}
-use borrow.Author.Rules.{rules}
 use Rattle.correct.proofs.plan_change.Goals as goal
 
 pub plan_judged-requires : goal.plan_judged-requires

@@ -1,5 +1,4 @@
 -- `asks_seven`: by the byte that counts.
-use borrow.Author.Rules.{rules}
 use Rattle.correct_offer.proofs.OfferWalkLaws.{asks-it, asks_nothing}
 use Rattle.correct_offer.proofs.asks_seven.Goals as goal
 

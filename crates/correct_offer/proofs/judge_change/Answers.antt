@@ -2,7 +2,6 @@
 use mathlib.Core.Path.{◌∙◌}
 use Rattle.correct_offer.specs.Offered.{terms_of}
 use Rattle.correct_offer.proofs.OfferWalkLaws.{number-none, number-beyond, number-there, objection-by}
-use borrow.Author.Rules.{rules}
 use Rattle.correct_offer.proofs.judge_change.Goals as goal
 
 pub returns-then-line-lt1 : goal.returns-then-line-lt1

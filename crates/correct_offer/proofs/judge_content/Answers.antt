@@ -1,8 +1,6 @@
 -- `judge_content`: each return by the law of the test that decides.
 use mathlib.Core.Path.{sym, ◌∙◌}
-use Rattle.meaning.proofs.Bools.{not-true, not-false}
 use Rattle.correct_offer.proofs.OfferWalkLaws.{to-fixed, to_low, to-bad, to_high, to-good}
-use borrow.Author.Rules.{rules}
 use Rattle.correct_offer.proofs.judge_content.Goals as goal
 
 pub returns-then-is_fixed : goal.returns-then-is_fixed

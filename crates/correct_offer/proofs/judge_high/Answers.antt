@@ -1,6 +1,5 @@
 -- `judge_high`: by the byte that is found.
 use Rattle.correct_offer.proofs.OfferWalkLaws.{high-found, high-none}
-use borrow.Author.Rules.{rules}
 use Rattle.correct_offer.proofs.judge_high.Goals as goal
 
 pub returns-then-first_high-content : goal.returns-then-first_high-content

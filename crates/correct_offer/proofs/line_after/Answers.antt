@@ -1,8 +1,7 @@
-use mathlib.Core.Path.{◌≡◌, refl, ◌∙◌}
+use mathlib.Core.Path.{refl, ◌∙◌}
 use native.Mathlib.Omega.{arith}
-use borrow.Author.Rules.{rules}
 use Rattle.line_read.proofs.ToldLaws.{told-there}
-use Rattle.correct_offer.specs.Offered.{line_from, line_after}
+use Rattle.correct_offer.specs.Offered.{line_after}
 use Rattle.correct_offer.proofs.OfferWalkLaws.{line-lost, line-next, line-here}
 use Rattle.correct_offer.proofs.line_after.Goals as goal
 

@@ -1,10 +1,6 @@
 -- `line_after` is the walk `line_from`: the line after those that are left is the line after all.
-use mathlib.Core.Path.{◌≡◌, refl, ◌∙◌}
-use native.Mathlib.Omega.{arith}
-use borrow.Author.Rules.{rules}
-use Rattle.line_read.proofs.ToldLaws.{told-there}
+use mathlib.Core.Path.{◌≡◌}
 use Rattle.correct_offer.specs.Offered.{line_from, line_after}
-use Rattle.correct_offer.proofs.OfferWalkLaws.{line-lost, line-next, line-here}
 use Rattle.correct_offer.proofs.line_after.Given as goal
 
 abbrev pub invariant-loop-left : goal.invariant-loop-left

@@ -1,7 +1,6 @@
 -- `objection_by_number`: each return by the law of the number.
 use mathlib.Core.Path.{◌∙◌}
 use Rattle.correct_offer.proofs.OfferWalkLaws.{number-good, number-low, number-high, number-label}
-use borrow.Author.Rules.{rules}
 use Rattle.correct_offer.proofs.objection_by_number.Goals as goal
 
 pub returns-then-no-eq0 : goal.returns-then-no-eq0

@@ -1,6 +1,5 @@
 -- `sheet_asks_seven`: a sheet without a byte over 7Fh asks for nothing, whatever the set says.
 use mathlib.Core.Path.{sym}
-use borrow.Author.Rules.{rules}
 use Rattle.correct_offer.proofs.OfferWalkLaws.{plain-unasked}
 use Rattle.correct_offer.proofs.sheet_asks_seven.Goals as goal
 

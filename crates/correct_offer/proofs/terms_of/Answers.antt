@@ -1,5 +1,4 @@
 -- `terms_of`: what the shape says, and whether seven bits have to be asked for.
-use borrow.Author.Rules.{rules}
 use Rattle.correct_offer.proofs.terms_of.Goals as goal
 
 pub returns : goal.returns

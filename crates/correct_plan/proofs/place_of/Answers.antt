@@ -1,6 +1,5 @@
 -- `place_of`: the place of a refusal.
 use mathlib.Core.Path.{refl, sym, ◌∙◌}
-use borrow.Author.Rules.{rules}
 use Rattle.correct_plan.proofs.place_of.Goals as goal
 
 pub returns-then-tells_byte : goal.returns-then-tells_byte

@@ -4,7 +4,6 @@ use Prim.Native.Nat.{ℕ}
 use Rattle.meaning.specs.Refusals.{refusal}
 use Rattle.correct_plan.specs.declared.Plan.TheVariants.{Refused}
 use Rattle.correct_plan.proofs.PlanLaws.{Ready, plan-followed, plan-against, plan-ready}
-use borrow.Author.Rules.{rules}
 use Rattle.correct_plan.proofs.plan_judged.Goals as goal
 
 pub returns-then-shape-set : goal.returns-then-shape-set

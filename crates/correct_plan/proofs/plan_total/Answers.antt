@@ -1,7 +1,6 @@
 -- `plan_total` tests 22, as `within_room` does.
 use mathlib.Core.Path.{refl, ◌∙◌}
 use borrow.Author.Tests.{le-leb, lt-leb}
-use borrow.Author.Rules.{rules}
 use Rattle.correct_plan.proofs.plan_total.Goals as goal
 
 pub returns-then-room-total : goal.returns-then-room-total

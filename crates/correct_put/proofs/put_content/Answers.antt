@@ -1,6 +1,5 @@
 -- `put_content` leaves what `recontented` says: `three-puts`.
 use Rattle.correct_put.proofs.MiddleLaws.{three-puts}
-use borrow.Author.Rules.{rules}
 use Rattle.correct_put.proofs.put_content.Goals as goal
 
 pub returns : goal.returns

@@ -1,7 +1,6 @@
 -- `replace_middle` leaves what `replaced` says: `three-loans`.
 use mathlib.Core.Path.{refl}
 use Rattle.correct_put.proofs.MiddleLaws.{three-loans}
-use borrow.Author.Rules.{rules}
 use Rattle.correct_put.proofs.replace_middle.Goals as goal
 
 pub returns : goal.returns

@@ -1,5 +1,4 @@
 -- `entry_at`: what the three walks say.
-use borrow.Author.Rules.{rules}
 use Rattle.day_entry.proofs.ToldEntryLaws.{entry-so}
 use Rattle.day_entry.proofs.entry_at.Goals as goal
 

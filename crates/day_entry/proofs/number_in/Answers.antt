@@ -1,6 +1,5 @@
 -- `number_in`: by what the bytes write.
 use mathlib.Core.Path.{sym, ◌∙◌}
-use borrow.Author.Rules.{rules}
 use Rattle.day_entry.proofs.ToldEntryLaws.{number-so}
 use Rattle.day_entry.proofs.number_in.Goals as goal
 

@@ -1,6 +1,5 @@
 -- `append`: as the set after the old length is judged.
 use mathlib.Core.Path.{sym, ap, ◌∙◌}
-use borrow.Author.Rules.{rules}
 use Rattle.meaning.specs.declared.Made.TheVariants.{Refused}
 use Rattle.day_index.proofs.DayAnswerLaws.{append-over, append-empty, append-own}
 use Rattle.day_index.proofs.append.Goals as goal

@@ -1,6 +1,5 @@
 -- `build`: as the sets are counted.
 use mathlib.Core.Path.{sym, ◌∙◌}
-use borrow.Author.Rules.{rules}
 use Rattle.day_index.proofs.DayAnswerLaws.{build-refused}
 use Rattle.day_index.proofs.build.Goals as goal
 

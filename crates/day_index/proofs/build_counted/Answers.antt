@@ -1,6 +1,5 @@
 -- `build_counted`: each return by the law of the answer.
 use mathlib.Core.Path.{ap, ◌∙◌}
-use borrow.Author.Rules.{rules}
 use Rattle.meaning.specs.declared.Made.TheVariants.{Refused}
 use Rattle.day_index.proofs.DayAnswerLaws.{build-full, build-made}
 use Rattle.day_index.proofs.build_counted.Goals as goal

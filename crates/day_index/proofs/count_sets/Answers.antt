@@ -1,12 +1,8 @@
-use mathlib.Core.Path.{◌≡◌, sym, ap, ◌∙◌}
-use Prim.Native.Nat.{◌-◌, ◌≤◌, ◌<◌}
+use mathlib.Core.Path.{sym, ap, ◌∙◌}
+use Prim.Native.Nat.{◌-◌, ◌<◌}
 use native.Mathlib.Omega.{arith}
-use borrow.Author.Rules.{rules}
-use lib.ListN.{length, drop}
 use Rattle.meaning.specs.declared.Made.TheVariants.{Refused}
-use Rattle.meaning.specs.Answers.{made}
 use Rattle.meaning_day.specs.Days.{max_sets, sets_from}
-use Rattle.day_index.specs.Counting.{counted_after}
 use Rattle.day_index.proofs.CountLaws.{set_here, count-end, count-refused, count-full, count_turn, counted-all}
 use Rattle.day_index.proofs.count_sets.Goals as goal
 

@@ -1,14 +1,10 @@
 -- `count_sets`: the sets counted, and those that are left, are always all.
-use mathlib.Core.Path.{◌≡◌, sym, ap, ◌∙◌}
-use Prim.Native.Nat.{◌-◌, ◌≤◌, ◌<◌}
-use native.Mathlib.Omega.{arith}
-use borrow.Author.Rules.{rules}
+use mathlib.Core.Path.{◌≡◌}
+use Prim.Native.Nat.{◌-◌, ◌≤◌}
 use lib.ListN.{length, drop}
-use Rattle.meaning.specs.declared.Made.TheVariants.{Refused}
 use Rattle.meaning.specs.Answers.{made}
 use Rattle.meaning_day.specs.Days.{max_sets, sets_from}
 use Rattle.day_index.specs.Counting.{counted_after}
-use Rattle.day_index.proofs.CountLaws.{set_here, count-end, count-refused, count-full, count_turn, counted-all}
 use Rattle.day_index.proofs.count_sets.Given as goal
 
 abbrev pub invariant-loop-at : goal.invariant-loop-at

@@ -1,7 +1,6 @@
 -- `judge_at`: as the set is judged by itself; the place of its refusal lies within the file.
 use mathlib.Core.Path.{sym, ◌∙◌}
 use native.Mathlib.Omega.{arith}
-use borrow.Author.Rules.{rules}
 use lib.ListN.{length-drop}
 use Rattle.day_index.proofs.CountLaws.{judged-accepted, judged-refused}
 use Rattle.day_index.proofs.judge_at.Goals as goal

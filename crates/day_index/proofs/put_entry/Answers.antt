@@ -1,6 +1,5 @@
 -- `put_entry`: the four stores are the entry.
 use native.Mathlib.Omega.{arith}
-use borrow.Author.Rules.{rules}
 use lib.ListN.{length-set}
 use Rattle.day_index.proofs.PutEntryLaws.{four-put}
 use Rattle.day_index.proofs.put_entry.Goals as goal

@@ -1,14 +1,8 @@
 use mathlib.Core.Path.{◌≡◌, refl, ap, ◌∙◌}
-use Prim.Native.Nat.{◌-◌, ◌*◌, ◌≤◌}
+use Prim.Native.Nat.{◌-◌, ◌*◌}
 use native.Mathlib.Omega.{arith}
-use borrow.Author.Rules.{rules}
-use lib.ListN.{length, drop}
 use Rattle.meaning.specs.declared.Made.TheVariants.{Done}
-use Rattle.meaning.specs.Answers.{made}
-use Rattle.byte_put.specs.Places.{over}
-use Rattle.meaning_day.specs.Days.{max_sets, sets_from}
-use Rattle.meaning_day.specs.DayCalls.{columns}
-use Rattle.day_index.specs.Counting.{listed}
+use Rattle.meaning_day.specs.Days.{max_sets}
 use Rattle.day_index.proofs.PutSetsLaws.{set-turn, put-end}
 use Rattle.day_index.proofs.put_sets.Goals as goal
 

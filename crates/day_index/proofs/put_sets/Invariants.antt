@@ -1,8 +1,6 @@
 -- `put_sets`: what is put, and what is left to put, is always all.
-use mathlib.Core.Path.{◌≡◌, refl, ap, ◌∙◌}
+use mathlib.Core.Path.{◌≡◌}
 use Prim.Native.Nat.{◌-◌, ◌*◌, ◌≤◌}
-use native.Mathlib.Omega.{arith}
-use borrow.Author.Rules.{rules}
 use lib.ListN.{length, drop}
 use Rattle.meaning.specs.declared.Made.TheVariants.{Done}
 use Rattle.meaning.specs.Answers.{made}
@@ -10,7 +8,6 @@ use Rattle.byte_put.specs.Places.{over}
 use Rattle.meaning_day.specs.Days.{max_sets, sets_from}
 use Rattle.meaning_day.specs.DayCalls.{columns}
 use Rattle.day_index.specs.Counting.{listed}
-use Rattle.day_index.proofs.PutSetsLaws.{set-turn, put-end}
 use Rattle.day_index.proofs.put_sets.Given as goal
 
 abbrev pub invariant-loop-k : goal.invariant-loop-k

@@ -1,10 +1,6 @@
-use mathlib.Core.Path.{◌≡◌, ◌∙◌}
-use Prim.Native.Nat.{◌+◌, ◌-◌, ◌≤◌}
+use mathlib.Core.Path.{◌∙◌}
+use Prim.Native.Nat.{◌-◌}
 use native.Mathlib.Omega.{arith}
-use borrow.Author.Rules.{rules}
-use lib.ListN.{length, drop}
-use Rattle.meaning_day.specs.DayCalls.{entries_in}
-use Rattle.day_lookup.specs.Searching.{standing}
 use Rattle.day_lookup.proofs.SearchLaws.{count_turn, count-end}
 use Rattle.day_lookup.proofs.count_matches.Goals as goal
 

@@ -1,12 +1,9 @@
 -- `count_matches`: those counted, and those left, are always all.
-use mathlib.Core.Path.{◌≡◌, ◌∙◌}
+use mathlib.Core.Path.{◌≡◌}
 use Prim.Native.Nat.{◌+◌, ◌-◌, ◌≤◌}
-use native.Mathlib.Omega.{arith}
-use borrow.Author.Rules.{rules}
 use lib.ListN.{length, drop}
 use Rattle.meaning_day.specs.DayCalls.{entries_in}
 use Rattle.day_lookup.specs.Searching.{standing}
-use Rattle.day_lookup.proofs.SearchLaws.{count_turn, count-end}
 use Rattle.day_lookup.proofs.count_matches.Given as goal
 
 abbrev pub invariant-loop-at : goal.invariant-loop-at

@@ -1,7 +1,6 @@
 -- `lookup`: each return by the law of the answer.
 use mathlib.Core.Path.{ap, ◌∙◌, subst}
 use Prim.Native.Nat.{ℕ, ◌≤◌, ◌<◌}
-use borrow.Author.Rules.{rules}
 use lib.ListN.{length}
 use Rattle.meaning.specs.declared.Made.TheVariants.{Refused}
 use Rattle.day_lookup.proofs.SearchLaws.{lookup-low, lookup-full, lookup-made}

@@ -1,5 +1,4 @@
 -- `put_match`: the number, or nothing.
-use borrow.Author.Rules.{rules}
 use Rattle.day_lookup.proofs.SearchLaws.{put-number, put-none, number_fits}
 use Rattle.day_lookup.proofs.put_match.Goals as goal
 

@@ -1,9 +1,7 @@
-use mathlib.Core.Path.{◌≡◌, refl, ◌∙◌}
-use Prim.Native.Nat.{◌+◌, ◌-◌, ◌*◌, ◌≤◌}
+use mathlib.Core.Path.{refl, ◌∙◌}
+use Prim.Native.Nat.{◌+◌, ◌-◌, ◌≤◌}
 use native.Mathlib.Omega.{arith}
-use borrow.Author.Rules.{rules}
 use lib.ListN.{length, drop}
-use Rattle.byte_put.specs.Places.{over}
 use Rattle.meaning_day.specs.DayCalls.{entries_in}
 use Rattle.day_lookup.specs.Searching.{standing}
 use Rattle.day_lookup.proofs.SearchLaws.{left-within, match-fits, match-turned, match-counted, put-end}

@@ -1,13 +1,10 @@
 -- `put_matches`: those put, and those left to put, are always all; and for each that is left, an entry stands in the index from `at` on.
-use mathlib.Core.Path.{◌≡◌, refl, ◌∙◌}
+use mathlib.Core.Path.{◌≡◌}
 use Prim.Native.Nat.{◌+◌, ◌-◌, ◌*◌, ◌≤◌}
-use native.Mathlib.Omega.{arith}
-use borrow.Author.Rules.{rules}
 use lib.ListN.{length, drop}
 use Rattle.byte_put.specs.Places.{over}
 use Rattle.meaning_day.specs.DayCalls.{entries_in}
 use Rattle.day_lookup.specs.Searching.{standing}
-use Rattle.day_lookup.proofs.SearchLaws.{left-within, match-fits, match-turned, match-counted, put-end}
 use Rattle.day_lookup.proofs.put_matches.Given as goal
 
 abbrev pub invariant-loop-found : goal.invariant-loop-found

@@ -1,8 +1,6 @@
 use mathlib.Core.Path.{◌≡◌, subst}
-use Prim.Native.Nat.{◌+◌, ◌-◌, ◌≤◌}
+use Prim.Native.Nat.{◌+◌, ◌-◌}
 use native.Mathlib.Omega.{arith}
-use borrow.Author.Rules.{rules}
-use lib.ListN.{length}
 use Rattle.day_lookup.proofs.StandsLaws.{Tail, stands-cut, stands-no-cr, stands-no-lf, stands-other, tail-end, tail_more, tail_all}
 use Rattle.day_lookup.proofs.stands_at.Goals as goal
 

@@ -1,6 +1,5 @@
 -- `all_entries`: each return by its law, with room and without.
 use mathlib.Core.Path.{ap, ◌∙◌}
-use borrow.Author.Rules.{rules}
 use Rattle.face_replies.specs.IndexPlans.{no_entries}
 use Rattle.face_replies.proofs.IndexPlanLaws.{index-no-room, index-all}
 use Rattle.face_replies.proofs.all_entries.Goals as goal

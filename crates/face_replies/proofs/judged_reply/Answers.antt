@@ -1,6 +1,5 @@
 -- `judged_reply`: the numbers of each answer.
 use mathlib.Core.Path.{sym, ap}
-use borrow.Author.Rules.{rules}
 use Rattle.face_replies.specs.Replies.{judged_reply}
 use Rattle.face_replies.proofs.judged_reply.Goals as goal
 

@@ -1,6 +1,5 @@
 -- `made_reply`: the numbers of each answer.
 use mathlib.Core.Path.{sym, ap}
-use borrow.Author.Rules.{rules}
 use Rattle.face_replies.specs.Replies.{made_reply}
 use Rattle.face_replies.proofs.made_reply.Goals as goal
 

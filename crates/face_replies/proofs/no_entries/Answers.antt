@@ -1,5 +1,4 @@
 -- `no_entries`: a plan of nothing, with the numbers of the refusal.
-use borrow.Author.Rules.{rules}
 use Rattle.face_replies.proofs.no_entries.Goals as goal
 
 pub returns : goal.returns

@@ -1,6 +1,5 @@
 -- `plan_index`: each return by its law, of a refused set and of an accepted one.
 use mathlib.Core.Path.{◌∙◌}
-use borrow.Author.Rules.{rules}
 use Rattle.face_replies.proofs.IndexPlanLaws.{index-refused, index-accepted}
 use Rattle.face_replies.proofs.plan_index.Goals as goal
 

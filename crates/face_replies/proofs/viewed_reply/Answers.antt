@@ -1,6 +1,5 @@
 -- `viewed_reply`: the numbers of each answer.
 use mathlib.Core.Path.{sym, ap}
-use borrow.Author.Rules.{rules}
 use Rattle.face_replies.specs.Replies.{viewed_reply}
 use Rattle.face_replies.proofs.viewed_reply.Goals as goal
 

@@ -1,6 +1,5 @@
 -- `gdt_correct`: the numbers of what `correct` answers, and the buffer that it leaves.
 use mathlib.Core.Path.{ap, ◌∙◌}
-use borrow.Author.Rules.{rules}
 use Rattle.face_replies.specs.Replies.{made_reply}
 use Rattle.gdt.proofs.gdt_correct.Goals as goal
 

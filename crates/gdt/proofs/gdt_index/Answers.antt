@@ -1,7 +1,7 @@
 -- Each turn is a law of the loop, and the plan says what the loop leaves: `fills`.
-use mathlib.Core.Path.{◌≡◌, refl, sym, ap, subst, ◌∙◌}
+use mathlib.Core.Path.{◌≡◌, sym, ap, subst, ◌∙◌}
 use mathlib.Core.List.{List}
-use Prim.Native.Nat.{ℕ, ◌<◌, ◌≤◌, zero-le}
+use Prim.Native.Nat.{ℕ, ◌<◌, zero-le}
 use native.Mathlib.Omega.{arith}
 use lib.ListN.{length, set}
 use Rattle.meaning.specs.declared.Entry.{Entry}
@@ -9,9 +9,8 @@ use Rattle.meaning.specs.Reading.{judge}
 use Rattle.face_replies.specs.declared.IndexPlan.{IndexPlan}
 use Rattle.face_replies.specs.IndexPlans.{plan_index}
 use Rattle.index_walk.specs.Walking.{walk_start, next_entry}
-use Rattle.index_walk.specs.declared.NextEntry.{NextEntry}
 use Rattle.gdt.specs.Filling.{stored}
-use Rattle.gdt.proofs.FillingLaws.{walk_none, stored-none, walk-next, stored_next, length-stored, Fills, fills}
+use Rattle.gdt.proofs.FillingLaws.{walk_none, stored-none, walk-next, stored_next, Fills, fills}
 use Rattle.gdt.proofs.gdt_index.Goals as goal
 
 -- what the plan that was made says of the loop

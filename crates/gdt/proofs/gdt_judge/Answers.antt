@@ -1,6 +1,5 @@
 -- `gdt_judge`: the numbers of what `judge` answers.
 use mathlib.Core.Path.{ap, ◌∙◌}
-use borrow.Author.Rules.{rules}
 use Rattle.face_replies.specs.Replies.{judged_reply}
 use Rattle.gdt.proofs.gdt_judge.Goals as goal
 

@@ -1,6 +1,5 @@
 -- `gdt_list`: the numbers of what `list` answers, and the buffer that it leaves.
 use mathlib.Core.Path.{ap, ◌∙◌}
-use borrow.Author.Rules.{rules}
 use Rattle.face_replies.specs.Replies.{made_reply}
 use Rattle.gdt.proofs.gdt_list.Goals as goal
 

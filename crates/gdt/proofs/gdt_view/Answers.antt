@@ -1,6 +1,5 @@
 -- `gdt_view`: the numbers of what `viewed` answers.
 use mathlib.Core.Path.{ap, ◌∙◌}
-use borrow.Author.Rules.{rules}
 use Rattle.face_replies.specs.Replies.{viewed_reply}
 use Rattle.gdt.proofs.gdt_view.Goals as goal
 

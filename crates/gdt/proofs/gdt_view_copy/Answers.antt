@@ -1,5 +1,4 @@
 -- `gdt_view_copy`: the part that `view` answers, copied if there is room for all of it.
-use borrow.Author.Rules.{rules}
 use Rattle.gdt.proofs.CopyLaws.{copy-none, copy-all}
 use Rattle.gdt.proofs.gdt_view_copy.Goals as goal
 

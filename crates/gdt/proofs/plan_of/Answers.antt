@@ -1,5 +1,4 @@
 -- `plan_of`: the plan of what `judge` answers.
-use borrow.Author.Rules.{rules}
 use Rattle.gdt.proofs.plan_of.Goals as goal
 
 pub returns : goal.returns

@@ -1,6 +1,5 @@
 -- `gdt_block`: the numbers of what `block` answers, and the bytes that it leaves.
 use mathlib.Core.Path.{ap, ◌∙◌}
-use borrow.Author.Rules.{rules}
 use Rattle.face_replies.specs.Replies.{made_reply}
 use Rattle.gdtcable.proofs.gdt_block.Goals as goal
 

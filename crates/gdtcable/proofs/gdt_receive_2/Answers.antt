@@ -1,6 +1,5 @@
 -- `gdt_receive_2`: the numbers of what `receive` answers, and the bytes that it leaves.
 use mathlib.Core.Path.{ap, ◌∙◌}
-use borrow.Author.Rules.{rules}
 use Rattle.gdtcable.specs.CableReplies.{received_reply}
 use Rattle.gdtcable.proofs.gdt_receive_2.Goals as goal
 

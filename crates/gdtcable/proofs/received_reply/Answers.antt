@@ -1,6 +1,5 @@
 -- `received_reply`: the numbers of each answer.
 use mathlib.Core.Path.{sym, ap}
-use borrow.Author.Rules.{rules}
 use Rattle.gdtcable.specs.CableReplies.{received_reply}
 use Rattle.gdtcable.proofs.received_reply.Goals as goal
 

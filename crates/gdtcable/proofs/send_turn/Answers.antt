@@ -1,6 +1,5 @@
 -- `send_turn`: what is made of the answer of `send`.
 use mathlib.Core.Path.{◌∙◌}
-use borrow.Author.Rules.{rules}
 use Rattle.gdtcable.proofs.CableReplyLaws.{turn_is}
 use Rattle.gdtcable.proofs.send_turn.Goals as goal
 

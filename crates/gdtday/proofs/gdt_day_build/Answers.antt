@@ -1,6 +1,5 @@
 -- `gdt_day_build`: the numbers of what `build` answers, and the numbers that it leaves.
 use mathlib.Core.Path.{ap, ◌∙◌}
-use borrow.Author.Rules.{rules}
 use Rattle.face_replies.specs.Replies.{made_reply}
 use Rattle.gdtday.proofs.gdt_day_build.Goals as goal
 

@@ -1,6 +1,5 @@
 -- `gdt_day_find`: the numbers of what `lookup` answers, and the numbers that it leaves.
 use mathlib.Core.Path.{ap, ◌∙◌}
-use borrow.Author.Rules.{rules}
 use Rattle.face_replies.specs.Replies.{made_reply}
 use Rattle.gdtday.proofs.gdt_day_find.Goals as goal
 

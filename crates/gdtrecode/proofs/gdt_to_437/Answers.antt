@@ -1,6 +1,5 @@
 -- `gdt_to_437`: the numbers of what `recode` answers, and the buffer that it leaves.
 use mathlib.Core.Path.{ap, ◌∙◌}
-use borrow.Author.Rules.{rules}
 use Rattle.face_replies.specs.Replies.{made_reply}
 use Rattle.gdtrecode.proofs.gdt_to_437.Goals as goal
 

@@ -1,6 +1,5 @@
 -- `gdt_write`: the numbers of what `write` answers, and the buffer that it leaves.
 use mathlib.Core.Path.{ap, ◌∙◌}
-use borrow.Author.Rules.{rules}
 use Rattle.face_replies.specs.Replies.{made_reply}
 use Rattle.gdtwrite.proofs.gdt_write.Goals as goal
 

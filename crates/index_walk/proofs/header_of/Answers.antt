@@ -1,6 +1,5 @@
 -- `header_of`: the test of the label decides between the two numbers.
 use mathlib.Core.Path.{sym, ◌∙◌}
-use borrow.Author.Rules.{rules}
 use Rattle.index_walk.proofs.GroupLabelLaws.{of-member, of_other}
 use Rattle.index_walk.proofs.header_of.Goals as goal
 

@@ -1,6 +1,5 @@
 -- `is_header`: each return by the law of the label that its tests leave.
 use mathlib.Core.Path.{sym, ◌∙◌}
-use borrow.Author.Rules.{rules}
 use Rattle.index_walk.proofs.GroupLabelLaws.{header-above, header-8410, header-pair, header-other}
 use Rattle.index_walk.proofs.is_header.Goals as goal
 

@@ -1,6 +1,5 @@
 -- `is_member`: each return by the law of the label that its tests leave.
 use mathlib.Core.Path.{sym, ◌∙◌}
-use borrow.Author.Rules.{rules}
 use Rattle.index_walk.proofs.GroupLabelLaws.{member-above, member-pair, member-low, member-other}
 use Rattle.index_walk.proofs.is_member.Goals as goal
 

@@ -1,6 +1,5 @@
 -- `last_after`: the test of the label decides between the two numbers.
 use mathlib.Core.Path.{sym, ◌∙◌}
-use borrow.Author.Rules.{rules}
 use Rattle.index_walk.proofs.GroupLabelLaws.{last-header, last-other}
 use Rattle.index_walk.proofs.last_after.Goals as goal
 

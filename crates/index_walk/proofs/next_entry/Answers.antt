@@ -1,7 +1,6 @@
 -- `next_entry`: the two tests decide whether seven bytes stand at the walk; then the sums fit, and length and label are those of the line there.
 use mathlib.Core.Path.{◌∙◌}
 use native.Mathlib.Omega.{arith}
-use borrow.Author.Rules.{rules}
 use Rattle.index_walk.proofs.EntryWalk.{next-none, next-told}
 use Rattle.index_walk.proofs.next_entry.Goals as goal
 

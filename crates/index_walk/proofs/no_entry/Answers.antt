@@ -1,5 +1,4 @@
 -- `no_entry`: its walk is what `start` answers.
-use borrow.Author.Rules.{rules}
 use Rattle.index_walk.proofs.no_entry.Goals as goal
 
 pub returns : goal.returns

@@ -1,6 +1,5 @@
 -- `one-more` counts up to the most lines of a set: its test is that of `counted`.
 use mathlib.Core.Path.{sym}
-use borrow.Author.Rules.{rules}
 use Rattle.index_walk.proofs.EntryWalk.{counted-on, counted-out}
 use Rattle.index_walk.proofs.one_more.Goals as goal
 

@@ -1,7 +1,6 @@
 -- `judge` answers what the definition says: `judge-is`.
 use mathlib.Core.Path.{sym, ap, ◌∙◌}
 use native.Mathlib.Omega.{arith}
-use borrow.Author.Rules.{rules}
 use Rattle.meaning.specs.declared.Judged.{Judged}
 use Rattle.line_read.proofs.LineMeaning.{read_back}
 use Rattle.judge.proofs.StartLaws.{judge-empty, judge-unread, scan-later, judge-refused, judge-read}

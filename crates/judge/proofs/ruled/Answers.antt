@@ -1,7 +1,6 @@
 -- `ruled`: each test of lines 1 and 2, the pass, and the sum.
 use mathlib.Core.Path.{sym, ap, ◌∙◌}
 use native.Mathlib.Omega.{arith}
-use borrow.Author.Rules.{rules}
 use Rattle.meaning.specs.declared.Judged.{Judged}
 use Rattle.line_read.proofs.LineMeaning.{read_back}
 use Rattle.judge.proofs.StartLaws.{first-other, first-untyped, first-typed, no_second, second-bytes, second-other, second-sum, rules-bad, sum-missing, pass-starts, sum-bad, sum-good}

@@ -1,6 +1,5 @@
 -- `content_no` asks the length, then whether the kind allows any bytes, and only then reads them.
 use mathlib.Core.Path.{sym, ◌∙◌}
-use borrow.Author.Rules.{rules}
 use Rattle.judge_line.proofs.StepLaws.{content-short, content-any, content-fits}
 use Rattle.judge_line.proofs.content_no.Goals as goal
 

@@ -1,6 +1,5 @@
 -- `fit_no` asks the kind, then for the version.
 use mathlib.Core.Path.{sym, ◌∙◌}
-use borrow.Author.Rules.{rules}
 use Rattle.judge_line.specs.Steps.{fit_no}
 use Rattle.judge_line.proofs.fit_no.Goals as goal
 

@@ -1,5 +1,4 @@
 -- `joined`: the flag, and the header after a pair.
-use borrow.Author.Rules.{rules}
 use Rattle.judge_line.proofs.StepLaws.{joined_is}
 use Rattle.judge_line.proofs.joined.Goals as goal
 

@@ -1,5 +1,4 @@
 -- `opened`: the lack of the group before it, then the flags.
-use borrow.Author.Rules.{rules}
 use Rattle.judge_line.proofs.StepLaws.{opened-is}
 use Rattle.judge_line.proofs.opened.Goals as goal
 

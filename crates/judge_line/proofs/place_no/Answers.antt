@@ -1,6 +1,5 @@
 -- `place_no` asks by the flags of set level, or by those of the group that the label belongs to.
 use mathlib.Core.Path.{sym, ◌∙◌}
-use borrow.Author.Rules.{rules}
 use borrow.Author.Tests.{ne_eqb}
 use Rattle.judge_line.specs.Steps.{place_no}
 use Rattle.judge_line.proofs.place_no.Goals as goal

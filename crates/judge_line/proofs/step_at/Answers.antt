@@ -1,7 +1,6 @@
 -- `step_at`: each return by the law of the line that leads to it.
 use mathlib.Core.Path.{refl, sym, ◌∙◌}
 use native.Mathlib.Omega.{arith}
-use borrow.Author.Rules.{rules}
 use Rattle.table_find.proofs.RowCodeLaws.{code-nothing, coded}
 use Rattle.judge_line.proofs.StepLaws.{row_at, step-unknown, step-misplaced, step-unfit, step-opened, member-pair, step-joined}
 use Rattle.judge_line.proofs.step_at.Goals as goal

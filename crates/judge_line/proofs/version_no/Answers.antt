@@ -1,6 +1,5 @@
 -- `version_no` asks 9218 alone for 02.10.
 use mathlib.Core.Path.{sym, ◌∙◌}
-use borrow.Author.Rules.{rules}
 use borrow.Author.Tests.{ne_eqb}
 use Rattle.judge_line.specs.Steps.{version_no}
 use Rattle.judge_line.proofs.version_no.Goals as goal

@@ -1,6 +1,5 @@
 -- `ended`: 16, then 24.
 use mathlib.Core.Path.{◌∙◌}
-use borrow.Author.Rules.{rules}
 use Rattle.judge_missing.proofs.FinishLaws.{lacks-first, then-high}
 use Rattle.judge_lines.proofs.ended.Goals as goal
 

@@ -1,5 +1,4 @@
 -- `line_step`: the content of the line, and its step.
-use borrow.Author.Rules.{rules}
 use Rattle.judge_lines.proofs.PassLaws.{step_line}
 use Rattle.judge_lines.proofs.line_step.Goals as goal
 

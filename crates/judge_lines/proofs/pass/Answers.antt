@@ -3,12 +3,9 @@ use mathlib.Core.Bool.{Bool, true}
 use mathlib.Core.List.{List}
 use native.Mathlib.Omega.{arith}
 use lib.ListN.{set}
-use borrow.Author.Rules.{rules}
-use Prim.Native.Nat.{◌-◌, ◌≤◌}
+use Prim.Native.Nat.{◌-◌}
 use Rattle.line_read.proofs.LineMeaning.{read_back}
-use Rattle.judge_missing.specs.Lacks.{flagged_of}
-use Rattle.judge_lines.specs.Pass.{Started}
-use Rattle.judge_lines.proofs.LineLoopLaws.{Along, along-second, along-end, along-bytes, along-least, along-within, along-bad, along-on}
+use Rattle.judge_lines.proofs.LineLoopLaws.{along-second, along-end, along-bytes, along-least, along-within, along-bad, along-on}
 use Rattle.judge_lines.proofs.pass.Goals as goal
 
 pub overflow_add-at : goal.overflow_add-at

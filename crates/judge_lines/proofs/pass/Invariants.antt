@@ -1,15 +1,8 @@
 -- `pass`: at each line start the loop stands for the scan and for the pass over the whole set.
-use mathlib.Core.Path.{ap, ◌∙◌}
-use mathlib.Core.Bool.{Bool, true}
-use mathlib.Core.List.{List}
-use native.Mathlib.Omega.{arith}
-use lib.ListN.{set}
-use borrow.Author.Rules.{rules}
 use Prim.Native.Nat.{◌-◌, ◌≤◌}
-use Rattle.line_read.proofs.LineMeaning.{read_back}
 use Rattle.judge_missing.specs.Lacks.{flagged_of}
 use Rattle.judge_lines.specs.Pass.{Started}
-use Rattle.judge_lines.proofs.LineLoopLaws.{Along, along-second, along-end, along-bytes, along-least, along-within, along-bad, along-on}
+use Rattle.judge_lines.proofs.LineLoopLaws.{Along}
 use Rattle.judge_lines.proofs.pass.Given as goal
 
 abbrev pub invariant-loop-left : goal.invariant-loop-left

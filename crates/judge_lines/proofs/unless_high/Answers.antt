@@ -1,8 +1,6 @@
 -- `unless_high`: what is found in the bytes up to the end of the set, if 9206 was seen.
 use mathlib.Core.Path.{sym, ◌∙◌}
 use lib.Seq.{length-take-le}
-use borrow.Author.Rules.{rules}
-use Rattle.meaning.proofs.Bools.{not-true, not-false}
 use Rattle.line_seven.proofs.SevenWalkLaws.{high-found, high-none}
 use Rattle.judge_lines.proofs.LineLoopLaws.{not-asked, asked}
 use Rattle.judge_lines.proofs.unless_high.Goals as goal

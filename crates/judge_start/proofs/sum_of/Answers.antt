@@ -1,6 +1,5 @@
 -- `sum_of` is the walk `sum_written`: the line has the length of one with five digits, or not.
 use mathlib.Core.Path.{◌∙◌}
-use borrow.Author.Rules.{rules}
 use Rattle.judge_start.proofs.TypeAndSumLaws.{sum-short, sum-read}
 use Rattle.judge_start.proofs.sum_of.Goals as goal
 

@@ -1,6 +1,5 @@
 -- `type_of`: by what its four bytes write.
 use mathlib.Core.Path.{sym, ◌∙◌}
-use borrow.Author.Rules.{rules}
 use Rattle.judge_start.proofs.TypeAndSumLaws.{type-other, type-known, type-none}
 use Rattle.judge_start.proofs.type_of.Goals as goal
 

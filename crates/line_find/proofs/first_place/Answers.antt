@@ -1,9 +1,6 @@
-use mathlib.Core.Path.{◌≡◌, refl, sym, ◌∙◌}
-use Prim.Native.Nat.{◌-◌, ◌≤◌}
+use mathlib.Core.Path.{refl, sym, ◌∙◌}
+use Prim.Native.Nat.{◌-◌}
 use native.Mathlib.Omega.{arith}
-use borrow.Author.Rules.{rules}
-use Rattle.meaning.specs.Limits.{max_lines}
-use Rattle.line_find.specs.FirstPlace.{place_from}
 use Rattle.line_find.proofs.FirstPlaceLaws.{place_none, place-cut, place_here, place-next}
 use Rattle.line_find.proofs.first_place.Goals as goal
 

@@ -1,11 +1,8 @@
 -- `first_place`: what is left to walk is always what is to be walked in all.
-use mathlib.Core.Path.{◌≡◌, refl, sym, ◌∙◌}
+use mathlib.Core.Path.{◌≡◌}
 use Prim.Native.Nat.{◌-◌, ◌≤◌}
-use native.Mathlib.Omega.{arith}
-use borrow.Author.Rules.{rules}
 use Rattle.meaning.specs.Limits.{max_lines}
 use Rattle.line_find.specs.FirstPlace.{place_from}
-use Rattle.line_find.proofs.FirstPlaceLaws.{place_none, place-cut, place_here, place-next}
 use Rattle.line_find.proofs.first_place.Given as goal
 
 abbrev pub invariant-loop-lines : goal.invariant-loop-lines

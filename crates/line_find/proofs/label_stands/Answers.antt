@@ -1,5 +1,4 @@
 -- `label_stands` compares the four digits one by one: the first that differs, or the last, decides.
-use borrow.Author.Rules.{rules}
 use Rattle.line_find.proofs.FirstPlaceLaws.{first-differs, second-differs, third-differs, last-decides}
 use Rattle.line_find.proofs.label_stands.Goals as goal
 

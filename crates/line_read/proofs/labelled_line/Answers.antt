@@ -1,6 +1,5 @@
 -- `labelled_line` is the walk `labelled_line`.
 use mathlib.Core.Path.{◌∙◌}
-use borrow.Author.Rules.{rules}
 use Rattle.line_read.specs.Line.{must, labelled_line}
 use Rattle.line_read.proofs.LineWalkLaws.{tests}
 use Rattle.line_read.proofs.labelled_line.Goals as goal

@@ -1,7 +1,6 @@
 -- `line_at` is the walk `line_at`.
 use mathlib.Core.Path.{sym, ◌∙◌}
 use native.Mathlib.Omega.{arith}
-use borrow.Author.Rules.{rules}
 use Rattle.line_read.specs.Line.{must_read, line_at}
 use Rattle.line_read.proofs.LineWalkLaws.{number-within}
 use Rattle.line_read.proofs.line_at.Goals as goal

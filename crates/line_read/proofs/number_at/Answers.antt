@@ -1,10 +1,9 @@
-use mathlib.Core.Path.{◌≡◌, sym, ap, ◌∙◌}
-use Prim.Native.Nat.{◌-◌, ◌^◌, ◌≤◌, ◌<◌}
+use mathlib.Core.Path.{sym, ap, ◌∙◌}
+use Prim.Native.Nat.{◌-◌, ◌<◌}
 use native.Mathlib.Nat.{one-le-pow}
 use native.Mathlib.Omega.{arith}
-use borrow.Author.Rules.{rules}
 use lib.Dec.{lit<}
-use Rattle.line_read.specs.Number.{number_after, number_at}
+use Rattle.line_read.specs.Number.{number_after}
 use Rattle.line_read.proofs.LineWalkLaws.{number-long, number_cut, number-there, digit-below, digit-above, digit-further, digits-end, digits-small, digits-grow}
 use Rattle.line_read.proofs.number_at.Goals as goal
 

@@ -1,12 +1,7 @@
 -- `number_at` is the walk `number_at`: after the number so far, the bytes that are left write what all of them write.
-use mathlib.Core.Path.{◌≡◌, sym, ap, ◌∙◌}
+use mathlib.Core.Path.{◌≡◌}
 use Prim.Native.Nat.{◌-◌, ◌^◌, ◌≤◌, ◌<◌}
-use native.Mathlib.Nat.{one-le-pow}
-use native.Mathlib.Omega.{arith}
-use borrow.Author.Rules.{rules}
-use lib.Dec.{lit<}
 use Rattle.line_read.specs.Number.{number_after, number_at}
-use Rattle.line_read.proofs.LineWalkLaws.{number-long, number_cut, number-there, digit-below, digit-above, digit-further, digits-end, digits-small, digits-grow}
 use Rattle.line_read.proofs.number_at.Given as goal
 
 abbrev pub invariant-loop-i : goal.invariant-loop-i

@@ -1,7 +1,6 @@
 -- `sized_line` is the walk `sized_line`, rule by rule.
 use mathlib.Core.Path.{sym, ◌∙◌}
 use native.Mathlib.Omega.{arith}
-use borrow.Author.Rules.{rules}
 use Rattle.line_read.specs.Line.{must, must_read, sized_line}
 use Rattle.line_read.proofs.LineWalkLaws.{tests, line-short}
 use Rattle.line_read.proofs.sized_line.Goals as goal

@@ -1,7 +1,6 @@
 -- `sound_at`: a line that passes every test is read.
 use mathlib.Core.Path.{refl}
 use native.Mathlib.Omega.{arith}
-use borrow.Author.Rules.{rules}
 use Rattle.line_read.proofs.ToldLaws.{three-least, line-sound}
 use Rattle.line_read.proofs.sound_at.Goals as goal
 

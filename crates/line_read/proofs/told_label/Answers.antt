@@ -1,7 +1,6 @@
 -- `told_label` is the walk `told_label`.
 use mathlib.Core.Path.{◌∙◌}
 use native.Mathlib.Omega.{arith}
-use borrow.Author.Rules.{rules}
 use Rattle.line_read.proofs.ToldLaws.{label-cut, label-told}
 use Rattle.line_read.proofs.told_label.Goals as goal
 

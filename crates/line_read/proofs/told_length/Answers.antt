@@ -1,7 +1,6 @@
 -- `told_length` is the walk `told_length`.
 use mathlib.Core.Path.{◌∙◌}
 use native.Mathlib.Omega.{arith}
-use borrow.Author.Rules.{rules}
 use Rattle.line_read.proofs.ToldLaws.{length_cut, length-told}
 use Rattle.line_read.proofs.told_length.Goals as goal
 

@@ -1,8 +1,6 @@
 use mathlib.Core.Path.{◌≡◌, sym, ap₂, ◌∙◌}
-use mathlib.Core.Bool.{true}
-use Prim.Native.Nat.{ℕ, ◌+◌, ◌-◌, ◌≤◌}
+use Prim.Native.Nat.{ℕ, ◌+◌, ◌-◌}
 use native.Mathlib.Omega.{arith}
-use borrow.Author.Rules.{rules}
 use lib.ListN.{take, drop}
 use Rattle.meaning.specs.Digits.{all_digits}
 use Rattle.meaning.specs.Lines.{line_lead}
@@ -18,13 +16,12 @@ loop-i-init c =
     (omega arith, λ h. ap₂ (λ (n o : ℕ). all_digits (take n (drop o a.s.now))) n o)
 
 pub loop-i-preserved : goal.loop-i-preserved
-loop-i-preserved c =
-    (
-      omega arith,
-      λ h.
-          let l = c.loop-i in
-          digits-further _ _ l.i _ (omega arith) (λ _. and_right l.fit _ h) ∙ l.invariant.1 (and_left l.fit _ h),
-    )
+loop-i-preserved c = (
+  omega arith,
+  λ h.
+      let l = c.loop-i in
+      digits-further _ _ l.i _ (omega arith) (λ _. and_right l.fit _ h) ∙ l.invariant.1 (and_left l.fit _ h),
+)
 
 pub returns : goal.returns
 returns c = λ e. let l = c.loop-i in sym (l.invariant.1 e) ∙ sym (digits-done _ _ l.i _ (omega arith))

@@ -1,14 +1,10 @@
 -- `usual_lead`: while every byte so far is a usual one, the bytes of the first seven that are left are digits exactly if all are.
-use mathlib.Core.Path.{◌≡◌, sym, ap₂, ◌∙◌}
+use mathlib.Core.Path.{◌≡◌}
 use mathlib.Core.Bool.{true}
-use Prim.Native.Nat.{ℕ, ◌+◌, ◌-◌, ◌≤◌}
-use native.Mathlib.Omega.{arith}
-use borrow.Author.Rules.{rules}
+use Prim.Native.Nat.{◌+◌, ◌-◌, ◌≤◌}
 use lib.ListN.{take, drop}
 use Rattle.meaning.specs.Digits.{all_digits}
 use Rattle.meaning.specs.Lines.{line_lead}
-use Rattle.meaning.proofs.Bools.{and_left, and_right}
-use Rattle.line_read.proofs.LineWalkLaws.{digits-further, digits-done}
 use Rattle.line_read.proofs.usual_lead.Given as goal
 
 abbrev pub invariant-loop-i : goal.invariant-loop-i

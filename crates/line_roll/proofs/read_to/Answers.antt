@@ -1,9 +1,7 @@
-use mathlib.Core.Path.{◌≡◌, ◌∙◌}
+use mathlib.Core.Path.{◌∙◌}
 use Prim.Native.Nat.{◌-◌, ◌<◌}
 use native.Mathlib.Omega.{arith}
-use borrow.Author.Rules.{rules}
 use lib.ListN.{length, length-set}
-use Rattle.line_roll.specs.Rolled.{Rolled}
 use Rattle.line_roll.proofs.RollLaws.{rolled-next, next-labelled, next-within, next-there, next-digits, next-size}
 use Rattle.line_roll.proofs.read_to.Goals as goal
 

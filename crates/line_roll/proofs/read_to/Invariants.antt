@@ -1,11 +1,8 @@
 -- `read_to`: what is known stays known, and one label more is known after each turn.
-use mathlib.Core.Path.{◌≡◌, ◌∙◌}
-use Prim.Native.Nat.{◌-◌, ◌<◌}
-use native.Mathlib.Omega.{arith}
-use borrow.Author.Rules.{rules}
-use lib.ListN.{length, length-set}
+use mathlib.Core.Path.{◌≡◌}
+use Prim.Native.Nat.{◌-◌}
+use lib.ListN.{length}
 use Rattle.line_roll.specs.Rolled.{Rolled}
-use Rattle.line_roll.proofs.RollLaws.{rolled-next, next-labelled, next-within, next-there, next-digits, next-size}
 use Rattle.line_roll.proofs.read_to.Given as goal
 
 abbrev pub invariant-loop-known : goal.invariant-loop-known

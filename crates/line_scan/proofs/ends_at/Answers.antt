@@ -1,6 +1,5 @@
 -- `ends_at` is the walk `ends_at`, test by test.
 use mathlib.Core.Path.{◌∙◌}
-use borrow.Author.Rules.{rules}
 use Rattle.line_read.proofs.LineWalkLaws.{tests}
 use Rattle.line_scan.specs.Scan.{ends_at}
 use Rattle.line_scan.proofs.ends_at.Goals as goal

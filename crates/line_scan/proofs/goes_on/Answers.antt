@@ -2,7 +2,6 @@
 use mathlib.Core.Path.{sym}
 use mathlib.Core.Bool.{true≢false}
 use native.Mathlib.Omega.{arith}
-use borrow.Author.Rules.{rules}
 use Rattle.meaning.proofs.Bools.{not-true}
 use Rattle.line_read.proofs.ToldLaws.{read-bytes}
 use Rattle.line_scan.proofs.ScanWalkLaws.{goes-on}

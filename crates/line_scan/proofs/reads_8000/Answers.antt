@@ -1,5 +1,4 @@
 -- `reads_8000`, byte by byte.
-use borrow.Author.Rules.{rules}
 use Rattle.line_read.proofs.LineWalkLaws.{tests}
 use Rattle.line_scan.proofs.reads_8000.Goals as goal
 

@@ -1,12 +1,9 @@
-use mathlib.Core.Path.{◌≡◌, refl, sym, ap, ◌∙◌}
-use Prim.Native.Nat.{◌-◌, ◌≤◌}
+use mathlib.Core.Path.{refl, sym, ap, ◌∙◌}
+use Prim.Native.Nat.{◌-◌}
 use native.Mathlib.Omega.{arith}
 use borrow.Author.Rules.{rules}
-use lib.ListN.{length}
-use Rattle.meaning.specs.Limits.{max_lines}
 use Rattle.line_read.proofs.LineMeaning.{read_back}
 use Rattle.line_scan.specs.declared.Scan.TheVariants.{Refused}
-use Rattle.line_scan.specs.Scan.{scan_from}
 use Rattle.line_scan.proofs.ScanWalkLaws.{scan-done, scan-full, scan-bad, scan-further}
 use Rattle.line_scan.proofs.scan_each.Goals as goal
 

@@ -1,14 +1,9 @@
 -- `scan_each` is the walk `scan_from`: the scan of the lines that are left is the scan of all.
-use mathlib.Core.Path.{◌≡◌, refl, sym, ap, ◌∙◌}
+use mathlib.Core.Path.{◌≡◌}
 use Prim.Native.Nat.{◌-◌, ◌≤◌}
-use native.Mathlib.Omega.{arith}
-use borrow.Author.Rules.{rules}
 use lib.ListN.{length}
 use Rattle.meaning.specs.Limits.{max_lines}
-use Rattle.line_read.proofs.LineMeaning.{read_back}
-use Rattle.line_scan.specs.declared.Scan.TheVariants.{Refused}
 use Rattle.line_scan.specs.Scan.{scan_from}
-use Rattle.line_scan.proofs.ScanWalkLaws.{scan-done, scan-full, scan-bad, scan-further}
 use Rattle.line_scan.proofs.scan_each.Given as goal
 
 abbrev pub invariant-loop-start : goal.invariant-loop-start

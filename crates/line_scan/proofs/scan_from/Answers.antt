@@ -1,11 +1,9 @@
-use mathlib.Core.Path.{◌≡◌, refl, sym, ◌∙◌}
-use Prim.Native.Nat.{◌-◌, ◌≤◌, ◌<◌}
+use mathlib.Core.Path.{refl, sym, ◌∙◌}
+use Prim.Native.Nat.{◌-◌, ◌<◌}
 use native.Mathlib.Omega.{arith}
 use borrow.Author.Rules.{rules}
-use lib.ListN.{length}
 use Rattle.meaning.specs.Limits.{max_lines}
 use Rattle.line_read.proofs.ToldLaws.{read-bytes}
-use Rattle.line_scan.specs.Scan.{scan_from}
 use Rattle.line_scan.proofs.ScanWalkLaws.{goes-within, goes_further}
 use Rattle.line_scan.proofs.scan_from.Goals as goal
 

@@ -1,13 +1,9 @@
 -- `scan_from` is the walk `scan_from`: the scan of the lines after those that are passed over is the scan of all.
-use mathlib.Core.Path.{◌≡◌, refl, sym, ◌∙◌}
-use Prim.Native.Nat.{◌-◌, ◌≤◌, ◌<◌}
-use native.Mathlib.Omega.{arith}
-use borrow.Author.Rules.{rules}
+use mathlib.Core.Path.{◌≡◌}
+use Prim.Native.Nat.{◌-◌, ◌≤◌}
 use lib.ListN.{length}
 use Rattle.meaning.specs.Limits.{max_lines}
-use Rattle.line_read.proofs.ToldLaws.{read-bytes}
 use Rattle.line_scan.specs.Scan.{scan_from}
-use Rattle.line_scan.proofs.ScanWalkLaws.{goes-within, goes_further}
 use Rattle.line_scan.proofs.scan_from.Given as goal
 
 abbrev pub invariant-loop-at : goal.invariant-loop-at

@@ -1,6 +1,5 @@
 -- `high_for`: by the offset that is found, and by whether the set says seven bits.
 use mathlib.Core.Path.{sym, ◌∙◌}
-use borrow.Author.Rules.{rules}
 use Rattle.line_seven.proofs.SevenWalkLaws.{for-found, for-eight, for-none}
 use Rattle.line_seven.proofs.high_for.Goals as goal
 

@@ -1,5 +1,4 @@
 -- `says_seven`: by where the first 9206 content stands.
-use borrow.Author.Rules.{rules}
 use Rattle.line_seven.proofs.SevenWalkLaws.{says_none, says-cut, says-digit}
 use Rattle.line_seven.proofs.says_seven.Goals as goal
 

@@ -1,6 +1,5 @@
 -- `list`: as the set is judged.
 use mathlib.Core.Path.{sym, ◌∙◌}
-use borrow.Author.Rules.{rules}
 use Rattle.list.proofs.ListLaws.{answer-refused}
 use Rattle.list.proofs.list.Goals as goal
 

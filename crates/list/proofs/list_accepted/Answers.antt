@@ -1,7 +1,6 @@
 -- `list_accepted`: the need is the length of what is put; each return by the law of the answer.
 use mathlib.Core.Path.{refl, ap, ◌∙◌}
 use native.Mathlib.Omega.{arith}
-use borrow.Author.Rules.{rules}
 use Rattle.meaning.specs.declared.Made.TheVariants.{Refused}
 use Rattle.list.proofs.ListLaws.{listed-are, answer-full, answer-made}
 use Rattle.list.proofs.list_accepted.Goals as goal

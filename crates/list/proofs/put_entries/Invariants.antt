@@ -1,15 +1,9 @@
 -- `put_entries`: what is left to put is always what is to be put in all.
-use mathlib.Core.Path.{◌≡◌, refl, sym, ap, ◌∙◌, subst}
-use mathlib.Core.List.{List}
-use Prim.Native.Nat.{ℕ, ◌+◌, ◌-◌, ◌≤◌}
-use native.Mathlib.Omega.{arith}
-use borrow.Author.Rules.{rules}
+use mathlib.Core.Path.{◌≡◌}
+use Prim.Native.Nat.{◌+◌, ◌-◌, ◌≤◌}
 use lib.ListN.{length}
-use Rattle.line_read.proofs.LineMeaning.{read_back}
 use Rattle.byte_put.specs.Places.{over}
-use Rattle.byte_put.proofs.OverLaws.{over_none}
 use Rattle.list.specs.Listing.{AllRead, listed_from}
-use Rattle.list.proofs.ListLaws.{all_told, all-within, content-length, entries-end, line-fits, line-short, put-turn}
 use Rattle.list.proofs.put_entries.Given as goal
 
 abbrev pub invariant-loop-k : goal.invariant-loop-k

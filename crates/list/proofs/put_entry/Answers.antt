@@ -1,5 +1,4 @@
 -- `put_entry`: three parts put one after the other.
-use borrow.Author.Rules.{rules}
 use Rattle.list.proofs.ListLaws.{entry-put}
 use Rattle.list.proofs.put_entry.Goals as goal
 

@@ -1,5 +1,4 @@
 -- `put_listed`: nothing for line 2, else the entry in the part from the offset on.
-use borrow.Author.Rules.{rules}
 use native.Mathlib.Omega.{arith}
 use Rattle.list.proofs.ListLaws.{other_length, line-none, line-put}
 use Rattle.list.proofs.put_listed.Goals as goal

@@ -1,5 +1,4 @@
 -- `put_two`: the two stores are the two bytes.
-use borrow.Author.Rules.{rules}
 use Rattle.list.proofs.ListLaws.{two-put}
 use Rattle.list.proofs.put_two.Goals as goal
 

@@ -1,7 +1,6 @@
 -- `list_input` lists a part of the room: the array keeps its length when it comes back from `read_input`, and the test on the count says that the part lies within it.
 use mathlib.Core.Path.{◌≡◌}
 use native.Mathlib.Omega.{arith}
-use borrow.Author.Rules.{rules}
 use lib.ListN.{length, length-take}
 use Rattle.program_list.proofs.list_input.Goals as goal
 

@@ -1,7 +1,6 @@
 -- `read_input` ends: each read that moves a byte leaves less room, and the room keeps its length.
 use mathlib.Core.Path.{◌≡◌}
 use Prim.Native.Nat.{◌-◌}
-use borrow.Author.Rules.{rules}
 use lib.ListN.{length}
 use Rattle.program_list.proofs.read_input.Given as goal
 

@@ -1,9 +1,8 @@
-use mathlib.Core.Path.{◌≡◌, refl, sym, ◌∙◌}
+use mathlib.Core.Path.{refl, sym, ◌∙◌}
 use Prim.Native.Nat.{◌-◌, ◌≤◌}
 use native.Mathlib.Omega.{arith}
 use borrow.Author.Rules.{rules}
 use lib.ListN.{length, drop, length-drop}
-use Rattle.meaning.specs.Kinds.{same_bytes}
 use Rattle.program_list.proofs.WordLaws.{same-further, same_not, same_over, same-length-only}
 use Rattle.program_list.proofs.same.Goals as goal
 

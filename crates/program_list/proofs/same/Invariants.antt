@@ -1,11 +1,8 @@
 -- `same` compares byte by byte: what is left of both words is the same exactly if the words are.
-use mathlib.Core.Path.{◌≡◌, refl, sym, ◌∙◌}
+use mathlib.Core.Path.{◌≡◌}
 use Prim.Native.Nat.{◌-◌, ◌≤◌}
-use native.Mathlib.Omega.{arith}
-use borrow.Author.Rules.{rules}
-use lib.ListN.{length, drop, length-drop}
+use lib.ListN.{length, drop}
 use Rattle.meaning.specs.Kinds.{same_bytes}
-use Rattle.program_list.proofs.WordLaws.{same-further, same_not, same_over, same-length-only}
 use Rattle.program_list.proofs.same.Given as goal
 
 abbrev pub invariant-loop-i : goal.invariant-loop-i

@@ -1,7 +1,6 @@
 -- `finish` answers true only if no write had failed before it.
 use mathlib.Core.Path.{sym}
 use mathlib.Core.Bool.{true≢false}
-use borrow.Author.Rules.{rules}
 use Rattle.program_out.proofs.finish.Goals as goal
 
 pub returns-then-failed : goal.returns-then-failed

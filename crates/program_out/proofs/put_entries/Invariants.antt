@@ -1,6 +1,5 @@
 -- `put_entries` ends: the measure is the number of lines that are left. The block stays whole from turn to turn.
 use Prim.Native.Nat.{◌-◌}
-use borrow.Author.Rules.{rules}
 use Rattle.program_out.specs.OutBlock.{Holds}
 use Rattle.program_out.proofs.put_entries.Given as goal
 

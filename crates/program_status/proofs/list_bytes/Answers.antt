@@ -5,7 +5,6 @@ use mathlib.Core.List.{List}
 use Prim.Native.Nat.{ℕ}
 use native.Mathlib.Omega.{arith}
 use borrow.Author.Tests.{eq-eqb, ne_eqb, not-false}
-use borrow.Author.Rules.{rules}
 use Rattle.program_status.specs.Stops.{stop}
 use Rattle.program_status.proofs.list_bytes.Goals as goal
 

@@ -1,13 +1,12 @@
 use mathlib.Core.Path.{sym, ap, ◌∙◌}
 use mathlib.Core.Bool.{true≢false}
 use mathlib.Core.List.{List}
-use Prim.Native.Nat.{ℕ, ◌-◌, ◌≤◌}
+use Prim.Native.Nat.{ℕ, ◌-◌}
 use borrow.Author.Rules.{rules}
 use lib.ListN.{length}
 use Rattle.face_replies.specs.declared.JudgedReply.{JudgedReply}
 use Rattle.face_replies.specs.Replies.{judged_reply}
-use Rattle.program_out.specs.OutBlock.{Holds}
-use Rattle.program_status.proofs.StopLaws.{Ahead, Answered, ahead-first, answered, refused-last, whole-last, ahead-next}
+use Rattle.program_status.proofs.StopLaws.{Answered, ahead-first, answered, refused-last, whole-last, ahead-next}
 use Rattle.program_status.proofs.list_sets.Goals as goal
 
 abbrev Turn : Type 0

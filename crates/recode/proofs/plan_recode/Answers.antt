@@ -1,6 +1,5 @@
 -- `plan_recode` answers what was planned.
 use mathlib.Core.Path.{sym, ◌∙◌}
-use borrow.Author.Rules.{rules}
 use Rattle.recode.proofs.RecodeCallLaws.{plan-unread}
 use Rattle.recode.proofs.plan_recode.Goals as goal
 

@@ -4,7 +4,6 @@ use mathlib.Core.List.{List}
 use Prim.Native.Nat.{ℕ}
 use native.Mathlib.Omega.{arith}
 use lib.Seq.{length-take-le}
-use borrow.Author.Rules.{rules}
 use Rattle.meaning.specs.Refusals.{refused}
 use Rattle.recode_bytes.specs.Mapped.{CodeTable}
 use Rattle.recode_plan.proofs.RecodedLaws.{table-codes}

@@ -1,11 +1,9 @@
-use mathlib.Core.Path.{◌≡◌, sym, ap, ◌∙◌}
-use Prim.Native.Nat.{◌-◌, ◌≤◌}
+use mathlib.Core.Path.{sym, ◌∙◌}
+use Prim.Native.Nat.{◌-◌}
 use native.Mathlib.Omega.{arith}
-use lib.ListN.{length}
-use borrow.Author.Rules.{rules}
 use Rattle.byte_high.proofs.HighLaws.{front-most}
 use Rattle.byte_low.proofs.SeekLaws.{seek-end}
-use Rattle.recode_bytes.specs.Mapped.{has_character, first_without}
+use Rattle.recode_bytes.specs.Mapped.{has_character}
 use Rattle.recode_bytes.proofs.BytesLaws.{part-more, plain-front, part-stops, part-over}
 use Rattle.recode_bytes.proofs.first_without.Goals as goal
 

@@ -1,13 +1,8 @@
 -- `first_without`: the search stops in a part, or goes on after it.
-use mathlib.Core.Path.{◌≡◌, sym, ap, ◌∙◌}
+use mathlib.Core.Path.{◌≡◌}
 use Prim.Native.Nat.{◌-◌, ◌≤◌}
-use native.Mathlib.Omega.{arith}
 use lib.ListN.{length}
-use borrow.Author.Rules.{rules}
-use Rattle.byte_high.proofs.HighLaws.{front-most}
-use Rattle.byte_low.proofs.SeekLaws.{seek-end}
-use Rattle.recode_bytes.specs.Mapped.{has_character, first_without}
-use Rattle.recode_bytes.proofs.BytesLaws.{part-more, plain-front, part-stops, part-over}
+use Rattle.recode_bytes.specs.Mapped.{first_without}
 use Rattle.recode_bytes.proofs.first_without.Given as goal
 
 abbrev pub invariant-loop-i : goal.invariant-loop-i

@@ -1,8 +1,7 @@
-use mathlib.Core.Path.{◌≡◌, refl, ap, ◌∙◌}
-use Prim.Native.Nat.{ℕ, ◌-◌, ◌≤◌}
+use mathlib.Core.Path.{refl, ap, ◌∙◌}
+use Prim.Native.Nat.{ℕ, ◌-◌}
 use native.Mathlib.Omega.{arith}
 use lib.ListN.{length}
-use borrow.Author.Rules.{rules}
 use Rattle.byte_high.proofs.HighLaws.{front-most}
 use Rattle.recode_bytes.specs.Mapped.{mapped_at}
 use Rattle.recode_bytes.proofs.BytesLaws.{part-more, length_at, map-front, map-all, map-part}

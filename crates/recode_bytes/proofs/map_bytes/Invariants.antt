@@ -1,12 +1,8 @@
 -- `map_bytes`: after some turns the bytes before i are mapped.
-use mathlib.Core.Path.{◌≡◌, refl, ap, ◌∙◌}
-use Prim.Native.Nat.{ℕ, ◌-◌, ◌≤◌}
-use native.Mathlib.Omega.{arith}
+use mathlib.Core.Path.{◌≡◌}
+use Prim.Native.Nat.{◌-◌, ◌≤◌}
 use lib.ListN.{length}
-use borrow.Author.Rules.{rules}
-use Rattle.byte_high.proofs.HighLaws.{front-most}
 use Rattle.recode_bytes.specs.Mapped.{mapped_at}
-use Rattle.recode_bytes.proofs.BytesLaws.{part-more, length_at, map-front, map-all, map-part}
 use Rattle.recode_bytes.proofs.map_bytes.Given as goal
 
 abbrev pub invariant-loop-i : goal.invariant-loop-i

@@ -1,11 +1,8 @@
 -- `map_each`: after i turns the bytes before i are mapped. A turn is `map-one`.
-use mathlib.Core.Path.{◌≡◌, refl, ap, ◌∙◌}
-use Prim.Native.Nat.{ℕ, ◌-◌, ◌%◌, ◌≤◌, ◌<◌}
-use native.Mathlib.Omega.{arith}
-use borrow.Author.Rules.{rules}
-use lib.ListN.{length, get_or, set, length-set}
+use mathlib.Core.Path.{◌≡◌}
+use Prim.Native.Nat.{◌-◌, ◌≤◌}
+use lib.ListN.{length}
 use Rattle.recode_bytes.specs.Mapped.{mapped_at}
-use Rattle.recode_bytes.proofs.BytesLaws.{entry-there, map-none, map-one, map-turn}
 use Rattle.recode_bytes.proofs.map_each.Given as goal
 
 abbrev pub invariant-loop-i : goal.invariant-loop-i

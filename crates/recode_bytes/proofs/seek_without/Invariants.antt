@@ -1,14 +1,7 @@
 -- `seek_without` is the walk `first_without`: the search among the bytes that are left finds what the search among all finds.
-use mathlib.Core.Path.{◌≡◌, sym, ap, ◌∙◌}
-use mathlib.Core.Bool.{not}
-use Prim.Native.Nat.{◌-◌, ◌≤◌, ◌<◌}
-use native.Mathlib.Omega.{arith}
-use lib.ListN.{get_or}
-use borrow.Author.Rules.{rules}
-use borrow.Author.Tests.{eq-eqb, ne_eqb}
-use Rattle.byte_low.proofs.SeekLaws.{seek-here, seek-further, seek-end}
-use Rattle.recode_bytes.specs.Mapped.{has_character, first_without}
-use Rattle.recode_bytes.proofs.BytesLaws.{entry-there}
+use mathlib.Core.Path.{◌≡◌}
+use Prim.Native.Nat.{◌-◌, ◌≤◌}
+use Rattle.recode_bytes.specs.Mapped.{first_without}
 use Rattle.recode_bytes.proofs.seek_without.Given as goal
 
 abbrev pub invariant-loop-i : goal.invariant-loop-i

@@ -1,7 +1,6 @@
 -- `plan_gained` tests 27, then 22, as `gained_by` does.
 use mathlib.Core.Path.{refl, ◌∙◌}
 use borrow.Author.Tests.{le-leb, lt-leb}
-use borrow.Author.Rules.{rules}
 use Rattle.recode_plan.proofs.plan_gained.Goals as goal
 
 pub returns-then-without-length : goal.returns-then-without-length

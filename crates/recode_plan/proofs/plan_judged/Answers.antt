@@ -1,6 +1,5 @@
 -- `plan_judged` answers what was planned: 18, then by whether a line is 9206.
 use mathlib.Core.Path.{sym, ◌∙◌}
-use borrow.Author.Rules.{rules}
 use Rattle.recode_plan.proofs.RecodePlanLaws.{plan-followed}
 use Rattle.recode_plan.proofs.plan_judged.Goals as goal
 

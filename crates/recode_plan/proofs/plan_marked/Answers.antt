@@ -1,6 +1,5 @@
 -- `plan_marked` answers what was planned: a law of proofs/RecodePlanLaws for each `return`.
 use mathlib.Core.Path.{sym, ◌∙◌, subst}
-use borrow.Author.Rules.{rules}
 use Rattle.recode_bytes.specs.Mapped.{CodeTable}
 use Rattle.recode_plan.proofs.RecodePlanLaws.{place_inside, plan-stays, plan-marks, plan-unknown, plan-recodes}
 use Rattle.recode_plan.proofs.RecodedLaws.{table-codes}

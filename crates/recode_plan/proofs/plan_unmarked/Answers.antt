@@ -1,6 +1,5 @@
 -- `plan_unmarked` answers what was planned, for each code page.
 use mathlib.Core.Path.{sym, ap, ◌∙◌, subst}
-use borrow.Author.Rules.{rules}
 use Rattle.meaning_recode.specs.declared.Code.{Code}
 use Rattle.recode_plan.specs.RecodePlans.{Alone, planned}
 use Rattle.recode_plan.proofs.RecodePlanLaws.{plan-437}

@@ -1,5 +1,4 @@
 -- `charset_line`: byte by byte the line of 9206.
-use borrow.Author.Rules.{rules}
 use Rattle.recode_put.proofs.RecodedPuts.{charset-bytes}
 use Rattle.recode_put.proofs.charset_line.Goals as goal
 

@@ -2,7 +2,6 @@
 use mathlib.Core.Path.{sym}
 use native.Mathlib.Omega.{arith}
 use lib.Seq.{length-take-le}
-use borrow.Author.Rules.{rules}
 use Rattle.recode_put.proofs.RecodedPuts.{lent-mapped, line-then-sum}
 use Rattle.recode_put.proofs.put_gained.Goals as goal
 

@@ -2,7 +2,6 @@
 use mathlib.Core.Path.{ap, ◌∙◌}
 use Prim.Native.Nat.{ℕ}
 use lib.ListN.{set}
-use borrow.Author.Rules.{rules}
 use Rattle.recode_put.specs.Recoded.{zeroed_after}
 use Rattle.recode_put.proofs.RecodedPuts.{length-zeroed}
 use Rattle.recode_put.proofs.put_mark.Goals as goal

@@ -1,5 +1,4 @@
 -- `put_nothing` leaves zeros after the set: `lent-zeros`.
-use borrow.Author.Rules.{rules}
 use Rattle.recode_put.proofs.RecodedPuts.{lent-zeros}
 use Rattle.recode_put.proofs.put_nothing.Goals as goal
 

@@ -4,7 +4,6 @@ use native.Mathlib.Omega.{arith}
 use mathlib.Core.List.{List}
 use Prim.Native.Nat.{ℕ}
 use lib.Seq.{length-take-le}
-use borrow.Author.Rules.{rules}
 use Rattle.recode_put.specs.Recoded.{zeroed_after, remarked}
 use Rattle.recode_put.proofs.RecodedPuts.{lent-mapped}
 use Rattle.recode_put.proofs.put_recoded.Goals as goal

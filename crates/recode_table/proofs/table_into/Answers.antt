@@ -1,5 +1,4 @@
 -- `table_into`: each table is that of the definition, entry by entry.
-use borrow.Author.Rules.{rules}
 use mathlib.Core.Path.{refl}
 use Rattle.meaning_recode.specs.Codes.{table_into, to437, to1252}
 use Rattle.recode_table.proofs.table_into.Goals as goal

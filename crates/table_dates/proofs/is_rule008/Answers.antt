@@ -1,5 +1,4 @@
 -- `is_rule008` asks that day and month are not 00, then `is_rule020`.
-use borrow.Author.Rules.{rules}
 use borrow.Author.Tests.{le-leb, lt-leb}
 use Rattle.meaning.specs.Kinds.{is_rule008}
 use Rattle.table_dates.proofs.is_rule008.Goals as goal

@@ -1,5 +1,4 @@
 -- `is_rule020` asks day, month and year.
-use borrow.Author.Rules.{rules}
 use borrow.Author.Tests.{le-leb, lt-leb}
 use Rattle.meaning.specs.Kinds.{is_rule020}
 use Rattle.table_dates.proofs.is_rule020.Goals as goal

@@ -1,5 +1,4 @@
 -- `is_rule090` asks hour, minute and second.
-use borrow.Author.Rules.{rules}
 use borrow.Author.Tests.{le-leb, lt-leb}
 use Rattle.meaning.specs.Kinds.{is_rule090}
 use Rattle.table_dates.proofs.is_rule090.Goals as goal

@@ -1,6 +1,5 @@
 -- `find_6300` is the search of the table: an arm knows the label, the last arm that it is none of the 7.
 use mathlib.Core.Path.{refl, sym, ap}
-use borrow.Author.Rules.{rules}
 use Rattle.meaning.specs.Tables.{rows6300, row_label}
 use Rattle.meaning.specs.FieldTable.{field_table, field_row_in}
 use Rattle.table_fields.specs.FieldCodes.{kind_number, field_code}

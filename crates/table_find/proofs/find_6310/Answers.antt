@@ -1,6 +1,5 @@
 -- `find_6310` is the search of the table: an arm knows the label, the last arm that it is none of the 55.
 use mathlib.Core.Path.{sym, ◌∙◌}
-use borrow.Author.Rules.{rules}
 use Rattle.meaning.specs.Tables.{rows6310, row_label}
 use Rattle.meaning.specs.FieldTable.{field_table, field_row_in}
 use Rattle.table_fields.specs.FieldCodes.{kind_number, field_code}

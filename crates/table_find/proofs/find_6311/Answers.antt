@@ -1,6 +1,5 @@
 -- `find_6311` is the search of the table: an arm knows the label, the last arm that it is none of the 17.
 use mathlib.Core.Path.{refl, sym, ap}
-use borrow.Author.Rules.{rules}
 use Rattle.meaning.specs.Tables.{rows6311, row_label}
 use Rattle.meaning.specs.FieldTable.{field_table, field_row_in}
 use Rattle.table_fields.specs.FieldCodes.{kind_number, field_code}

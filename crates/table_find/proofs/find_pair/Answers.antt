@@ -1,6 +1,5 @@
 -- `find_pair`: a name has row 36, an odd label row 37, any other label none of the two.
 use mathlib.Core.Path.{sym, ◌∙◌}
-use borrow.Author.Rules.{rules}
 use Rattle.meaning.specs.Tables.{rows6310}
 use Rattle.meaning.specs.FieldTable.{field_table, field_row_in}
 use Rattle.table_fields.specs.FieldCodes.{kind_number, field_code}

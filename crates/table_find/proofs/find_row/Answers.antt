@@ -1,5 +1,4 @@
 -- `find_row` searches the table of the set type.
-use borrow.Author.Rules.{rules}
 use Rattle.meaning.specs.Tables.{table}
 use Rattle.table_find.proofs.find_row.Goals as goal
 

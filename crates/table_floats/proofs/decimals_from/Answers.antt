@@ -1,7 +1,6 @@
 -- `decimals_from` asks for a byte, then for digits.
 use mathlib.Core.Path.{sym, ◌∙◌}
 use native.Mathlib.Omega.{arith}
-use borrow.Author.Rules.{rules}
 use Rattle.table_floats.proofs.FloatLaws.{decimals-some, decimals-none}
 use Rattle.table_floats.proofs.decimals_from.Goals as goal
 

@@ -1,6 +1,5 @@
 -- `float_of` leaves a minus out and asks the rest.
 use mathlib.Core.Path.{sym, ap, ◌∙◌}
-use borrow.Author.Rules.{rules}
 use Rattle.table_floats.specs.Floats.{float_if, float_of}
 use Rattle.table_floats.proofs.FloatLaws.{float-minus, float_plain}
 use Rattle.table_floats.proofs.float_of.Goals as goal

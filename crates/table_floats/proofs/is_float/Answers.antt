@@ -1,6 +1,5 @@
 -- `is_float` reads the answer of the float test.
 use mathlib.Core.Path.{sym, ◌∙◌}
-use borrow.Author.Rules.{rules}
 use Rattle.table_floats.proofs.FloatLaws.{float_is, float-not}
 use Rattle.table_floats.proofs.is_float.Goals as goal
 

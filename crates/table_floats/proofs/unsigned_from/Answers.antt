@@ -1,7 +1,6 @@
 -- `unsigned_from` asks for a digit, then for the rest.
 use mathlib.Core.Path.{sym, ◌∙◌}
 use native.Mathlib.Omega.{arith}
-use borrow.Author.Rules.{rules}
 use Rattle.table_floats.proofs.FloatLaws.{unsigned-more, unsigned-stop, unsigned-none}
 use Rattle.table_floats.proofs.unsigned_from.Goals as goal
 

@@ -1,9 +1,6 @@
-use mathlib.Core.Path.{◌≡◌, refl, sym, ◌∙◌}
+use mathlib.Core.Path.{sym, ◌∙◌}
 use Prim.Native.Nat.{◌-◌}
 use native.Mathlib.Omega.{arith}
-use lib.ListN.{length, drop}
-use borrow.Author.Rules.{rules}
-use Rattle.meaning.specs.Kinds.{whole}
 use Rattle.table_floats.proofs.FloatLaws.{whole-more, whole-point, whole-stop, whole-end}
 use Rattle.table_floats.proofs.whole_from.Goals as goal
 

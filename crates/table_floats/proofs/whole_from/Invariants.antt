@@ -1,11 +1,8 @@
 -- The loop of `whole_from`: what is left passes exactly if the whole does.
-use mathlib.Core.Path.{◌≡◌, refl, sym, ◌∙◌}
+use mathlib.Core.Path.{◌≡◌}
 use Prim.Native.Nat.{◌-◌}
-use native.Mathlib.Omega.{arith}
 use lib.ListN.{length, drop}
-use borrow.Author.Rules.{rules}
 use Rattle.meaning.specs.Kinds.{whole}
-use Rattle.table_floats.proofs.FloatLaws.{whole-more, whole-point, whole-stop, whole-end}
 use Rattle.table_floats.proofs.whole_from.Given as goal
 
 abbrev pub invariant-loop-i : goal.invariant-loop-i

@@ -1,6 +1,5 @@
 -- `fits_label` asks the length, then whether the kind allows any bytes, and only then reads them, by the code of the label's row.
 use mathlib.Core.Path.{sym, ◌∙◌}
-use borrow.Author.Rules.{rules}
 use Rattle.table_kinds.proofs.FittingLaws.{fits_not, fits-kind, fits-any}
 use Rattle.table_kinds.proofs.fits_label.Goals as goal
 

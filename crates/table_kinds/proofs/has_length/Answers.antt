@@ -1,5 +1,4 @@
 -- `has_length` asks for the least, then for the most.
-use borrow.Author.Rules.{rules}
 use borrow.Author.Tests.{le-leb, lt-leb}
 use Rattle.table_kinds.specs.Fitting.{length_fits}
 use Rattle.table_kinds.proofs.has_length.Goals as goal

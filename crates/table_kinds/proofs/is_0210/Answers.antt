@@ -1,5 +1,4 @@
 -- `is_0210` compares with the five bytes.
-use borrow.Author.Rules.{rules}
 use Rattle.meaning.specs.Kinds.{is0210}
 use Rattle.table_kinds.proofs.is_0210.Goals as goal
 

@@ -1,5 +1,4 @@
 -- `is_num` asks all bytes.
-use borrow.Author.Rules.{rules}
 use Rattle.meaning.specs.Kinds.{is_num}
 use Rattle.table_kinds.proofs.is_num.Goals as goal
 

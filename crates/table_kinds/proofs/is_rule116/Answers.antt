@@ -1,5 +1,4 @@
 -- `is_rule116` compares the first byte with each choice.
-use borrow.Author.Rules.{rules}
 use borrow.Author.Tests.{ne_eqb}
 use Rattle.meaning.specs.Field.{elem}
 use Rattle.meaning.specs.Kinds.{first_is_in, is_rule116}

@@ -1,5 +1,4 @@
 -- `is_version` asks two digits, the point and two digits.
-use borrow.Author.Rules.{rules}
 use borrow.Author.Tests.{le-leb, lt-leb, eq-eqb, ne_eqb}
 use Rattle.meaning.specs.Kinds.{is_version}
 use Rattle.table_kinds.proofs.is_version.Goals as goal

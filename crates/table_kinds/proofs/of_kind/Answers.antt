@@ -1,5 +1,4 @@
 -- `of_kind` is the test that `of_kind` names: an arm knows the kind's number, the last arm that it is none of the nine.
-use borrow.Author.Rules.{rules}
 use Rattle.meaning.specs.Kinds.{is_alnum, of_kind}
 use Rattle.table_fields.specs.FieldCodes.{kind_of}
 use Rattle.table_fields.proofs.FieldCodeLaws.{kind-last}

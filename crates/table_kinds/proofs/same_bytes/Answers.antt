@@ -1,9 +1,6 @@
-use mathlib.Core.Path.{◌≡◌, refl, sym, ◌∙◌}
+use mathlib.Core.Path.{sym, ◌∙◌}
 use Prim.Native.Nat.{◌-◌}
 use native.Mathlib.Omega.{arith}
-use lib.ListN.{length, drop}
-use borrow.Author.Rules.{rules}
-use Rattle.meaning.specs.Kinds.{same_bytes}
 use Rattle.table_kinds.proofs.FittingLaws.{same-lengths, same_more, same_stop, same_end}
 use Rattle.table_kinds.proofs.same_bytes.Goals as goal
 

@@ -1,6 +1,5 @@
 -- `shown_alone`: 18 and 19, then the sheet.
 use mathlib.Core.Path.{◌∙◌}
-use borrow.Author.Rules.{rules}
 use Rattle.view.proofs.AloneLaws.{alone-follows, alone-zero, alone-beyond, alone-there}
 use Rattle.view.proofs.shown_alone.Goals as goal
 

@@ -1,7 +1,5 @@
 -- `view`: nothing of a set that is refused; else the part that `shown_alone` names, which lies within its slice.
-use denote.Slice.{shr_slice_at}
 use mathlib.Core.Path.{sym, ap, ◌∙◌, subst}
-use borrow.Author.Rules.{rules}
 use Rattle.meaning.specs.declared.Viewed.{Viewed}
 use Rattle.meaning.specs.Views.{shown_bytes, view}
 use Rattle.view_part.specs.Parts.{Within}

@@ -1,6 +1,5 @@
 -- `viewed`: the walk after `judge`, which shows what the definition says (AloneLaws).
 use mathlib.Core.Path.{sym, ◌∙◌}
-use borrow.Author.Rules.{rules}
 use Rattle.view.proofs.AloneLaws.{viewed-refused, viewed-accepted}
 use Rattle.view.proofs.viewed.Goals as goal
 

@@ -1,6 +1,5 @@
 -- `shown_bytes`: the part lies within its slice.
 use native.Mathlib.Omega.{arith}
-use borrow.Author.Rules.{rules}
 use Rattle.view_part.proofs.PartLaws.{sheet-ends, bytes-sheet, set-ends, bytes-set}
 use Rattle.view_part.proofs.shown_bytes.Goals as goal
 

@@ -5,7 +5,6 @@ use Rattle.entry_read.proofs.HeadLaws.{whole_back}
 use Rattle.line_roll.proofs.RollLaws.{fewer-lined}
 use Rattle.view_sheet.specs.declared.Checked.{Checked}
 use Rattle.view_sheet.proofs.SheetWalkLaws.{roll-line, sheet-cut, sheet-zero, sheet-beyond, sheet-there}
-use borrow.Author.Rules.{rules}
 use Rattle.view_sheet.proofs.check_entry.Goals as goal
 
 pub returns-then-named-lt1 : goal.returns-then-named-lt1

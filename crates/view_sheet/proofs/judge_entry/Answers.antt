@@ -2,7 +2,6 @@
 use mathlib.Core.Path.{sym, ◌∙◌}
 use native.Mathlib.Omega.{arith}
 use Rattle.view_sheet.proofs.SheetWalkLaws.{content-ends, byte-within, entry-good, entry-byte, entry-bad}
-use borrow.Author.Rules.{rules}
 use Rattle.view_sheet.proofs.judge_entry.Goals as goal
 
 pub overflow_add-end : goal.overflow_add-end

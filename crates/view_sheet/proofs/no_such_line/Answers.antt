@@ -1,5 +1,4 @@
 -- `no_such_line`: the refusal that is made.
-use borrow.Author.Rules.{rules}
 use Rattle.view_sheet.proofs.no_such_line.Goals as goal
 
 pub returns : goal.returns

@@ -2,7 +2,6 @@
 use mathlib.Core.Path.{◌≡◌, ap}
 use Prim.Native.Nat.{◌-◌, pred}
 use native.Mathlib.Omega.{arith}
-use borrow.Author.Rules.{rules}
 use Rattle.correct_offer.specs.declared.OneLine.{OneLine}
 use Rattle.view_sheet.specs.Showing.{set_part}
 use Rattle.view_sheet.proofs.SheetWalkLaws.{line-inside}

@@ -1,11 +1,9 @@
-use mathlib.Core.Path.{◌≡◌, refl, sym, ap, ◌∙◌}
-use Prim.Native.Nat.{ℕ, ◌+◌, ◌-◌, ◌≤◌, pred}
+use mathlib.Core.Path.{refl, sym, ap, ◌∙◌}
+use Prim.Native.Nat.{◌-◌, pred}
 use native.Mathlib.Omega.{arith}
-use borrow.Author.Rules.{rules}
 use lib.ListN.{length}
-use Rattle.line_roll.specs.Rolled.{Rolled}
 use Rattle.line_roll.proofs.RollLaws.{rolled-none}
-use Rattle.view_sheet.specs.Showing.{shown_from, EntryWithin, shown_last, shown_by_sheet}
+use Rattle.view_sheet.specs.Showing.{shown_from, shown_last, shown_by_sheet}
 use Rattle.view_sheet.proofs.SheetWalkLaws.{sheet-within, shown-end, shown-bad, shown-next, last_none, shown-none, later-within, later-shown}
 use Rattle.view_sheet.proofs.shown_by_roll.Goals as goal
 

@@ -1,13 +1,9 @@
 -- `shown_by_roll` is the walk `shown_from`: what the entries that are left show after those before them is what all show. What the roll knows stays known.
-use mathlib.Core.Path.{◌≡◌, refl, sym, ap, ◌∙◌}
-use Prim.Native.Nat.{ℕ, ◌+◌, ◌-◌, ◌≤◌, pred}
-use native.Mathlib.Omega.{arith}
-use borrow.Author.Rules.{rules}
+use mathlib.Core.Path.{◌≡◌}
+use Prim.Native.Nat.{ℕ, ◌+◌, ◌-◌, ◌≤◌}
 use lib.ListN.{length}
 use Rattle.line_roll.specs.Rolled.{Rolled}
-use Rattle.line_roll.proofs.RollLaws.{rolled-none}
 use Rattle.view_sheet.specs.Showing.{shown_from, EntryWithin, shown_last, shown_by_sheet}
-use Rattle.view_sheet.proofs.SheetWalkLaws.{sheet-within, shown-end, shown-bad, shown-next, last_none, shown-none, later-within, later-shown}
 use Rattle.view_sheet.proofs.shown_by_roll.Given as goal
 
 abbrev pub invariant-loop-at : goal.invariant-loop-at

@@ -1,7 +1,6 @@
 -- `shown_under`: the part of the set if the sheet is empty; else what the sheet shows, and the part of the set if it shows none.
 use mathlib.Core.Path.{sym, ap, ◌∙◌}
 use native.Mathlib.Omega.{arith}
-use borrow.Author.Rules.{rules}
 use Rattle.meaning.specs.declared.Viewed.TheVariants.{Set}
 use Rattle.line_roll.proofs.RollLaws.{judged-lined}
 use Rattle.view_sheet.proofs.SheetWalkLaws.{under-empty, under-by}

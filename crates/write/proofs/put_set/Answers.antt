@@ -1,16 +1,13 @@
-use mathlib.Core.Path.{◌≡◌, refl, sym, ap, ◌∙◌}
+use mathlib.Core.Path.{refl, sym, ap, ◌∙◌}
 use mathlib.Core.List.{List}
-use Prim.Native.Nat.{ℕ, ◌+◌, ◌-◌, ◌≤◌}
+use Prim.Native.Nat.{ℕ, ◌-◌}
 use native.Mathlib.Omega.{arith}
 use native.Mathlib.Nat.{add_assoc, add-sub_cancel_left}
-use borrow.Author.Rules.{rules}
-use lib.ListN.{length}
 use Rattle.meaning.specs.Digits.{digits}
 use Rattle.meaning.specs.Lists.{sum_digits}
 use Rattle.entry_read.proofs.HeadLaws.{whole_back}
 use Rattle.byte_put.specs.Places.{over}
 use Rattle.byte_put.proofs.OverLaws.{over_none}
-use Rattle.write.specs.Writing.{lines_left}
 use Rattle.write.proofs.WriteLaws.{lines_end, lines_cut, lines_fit, put-turn}
 use Rattle.write.proofs.put_set.Goals as goal
 

@@ -1,7 +1,6 @@
 -- `write`: 1, and then as the list is judged.
 use mathlib.Core.Path.{sym, ap, ◌∙◌}
 use native.Mathlib.Omega.{arith}
-use borrow.Author.Rules.{rules}
 use Rattle.meaning.specs.declared.Made.TheVariants.{Refused}
 use Rattle.write.proofs.WriteLaws.{answer-empty, answer-refused}
 use Rattle.write.proofs.write.Goals as goal

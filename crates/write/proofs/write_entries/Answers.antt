@@ -1,7 +1,6 @@
 -- `write_entries`: each return by the law of the answer.
 use mathlib.Core.Path.{ap, ◌∙◌}
 use native.Mathlib.Omega.{arith}
-use borrow.Author.Rules.{rules}
 use Rattle.meaning.specs.declared.Made.TheVariants.{Refused}
 use Rattle.write.proofs.WriteLaws.{not-many, set-fits, answer-full, answer-long, answer-set}
 use Rattle.write.proofs.write_entries.Goals as goal

@@ -1,7 +1,6 @@
 -- `check_entry`: each return by the law of the test that leads to it.
 use mathlib.Core.Path.{sym, ap, ◌∙◌}
 use native.Mathlib.Omega.{arith}
-use borrow.Author.Rules.{rules}
 use Rattle.entry_read.proofs.HeadLaws.{whole_back}
 use Rattle.write_judge.specs.declared.Item.TheVariants.{Refused}
 use Rattle.write_judge.proofs.CheckLaws.{entry-cut, label-over, content-low, content-clean, content-usual}

@@ -1,10 +1,6 @@
-use mathlib.Core.Path.{◌≡◌, refl, sym, ap, ◌∙◌}
-use Prim.Native.Nat.{◌≤◌, ◌<◌}
+use mathlib.Core.Path.{refl, sym, ap, ◌∙◌}
 use native.Mathlib.Omega.{arith}
-use borrow.Author.Rules.{rules}
-use Rattle.meaning.specs.Limits.{max_entries}
 use Rattle.write_judge.specs.declared.ListJudged.TheVariants.{Refused}
-use Rattle.write_judge.specs.Judging.{check_some}
 use Rattle.write_judge.proofs.CheckLaws.{checked-within, some-bad, some-done, some-full, some-on}
 use Rattle.write_judge.proofs.check_list.Goals as goal
 
@@ -48,12 +44,11 @@ loop-r-smaller c =
     omega (arith, c.loop-r.invariant.0)
 
 pub loop-r-preserved : goal.loop-r-preserved
-loop-r-preserved c =
-    (
-      omega (arith, c.if-left-eq0.false),
-      omega (arith, c.loop-r.invariant.1),
-      sym (some-on c.args.list.now c.loop-r.at c.loop-r.left (sym c.check_entry.ensures ∙ c.in-Read.is)
-          (omega (arith, c.if-at-list.false, checked-within c.args.list.now c.loop-r.at (sym c.check_entry.ensures ∙ c.in-Read.is)))
-          (omega (arith, c.if-left-eq0.false)) c.loop-r.invariant.1)
-          ∙ c.loop-r.invariant.2,
-    )
+loop-r-preserved c = (
+  omega (arith, c.if-left-eq0.false),
+  omega (arith, c.loop-r.invariant.1),
+  sym (some-on c.args.list.now c.loop-r.at c.loop-r.left (sym c.check_entry.ensures ∙ c.in-Read.is)
+      (omega (arith, c.if-at-list.false, checked-within c.args.list.now c.loop-r.at (sym c.check_entry.ensures ∙ c.in-Read.is)))
+      (omega (arith, c.if-left-eq0.false)) c.loop-r.invariant.1)
+      ∙ c.loop-r.invariant.2,
+)

@@ -1,12 +1,8 @@
 -- `check_list`: the check that is left is always the whole of it.
-use mathlib.Core.Path.{◌≡◌, refl, sym, ap, ◌∙◌}
+use mathlib.Core.Path.{◌≡◌}
 use Prim.Native.Nat.{◌≤◌, ◌<◌}
-use native.Mathlib.Omega.{arith}
-use borrow.Author.Rules.{rules}
 use Rattle.meaning.specs.Limits.{max_entries}
-use Rattle.write_judge.specs.declared.ListJudged.TheVariants.{Refused}
 use Rattle.write_judge.specs.Judging.{check_some}
-use Rattle.write_judge.proofs.CheckLaws.{checked-within, some-bad, some-done, some-full, some-on}
 use Rattle.write_judge.proofs.check_list.Given as goal
 
 abbrev pub invariant-loop-r : goal.invariant-loop-r

@@ -1,7 +1,6 @@
 -- `judge_entries`: 8, 9, and then the other rules.
 use mathlib.Core.Path.{refl, sym, ◌∙◌}
 use native.Mathlib.Omega.{arith}
-use borrow.Author.Rules.{rules}
 use Rattle.write_judge.proofs.CheckLaws.{told-head, told-later, told-within, head-there}
 use Rattle.write_judge.proofs.EntryPass.{first-other, first-unknown, first-known}
 use Rattle.write_judge.proofs.judge_entries.Goals as goal

@@ -1,6 +1,5 @@
 -- `judge_list`: what the check refuses; else what the rules refuse; else the count.
 use mathlib.Core.Path.{sym, ◌∙◌}
-use borrow.Author.Rules.{rules}
 use Rattle.write_judge.proofs.CheckLaws.{some-checked}
 use Rattle.write_judge.proofs.JudgedListLaws.{list-unchecked, list-refused, list-good}
 use Rattle.write_judge.proofs.judge_list.Goals as goal

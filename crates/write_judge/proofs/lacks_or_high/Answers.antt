@@ -1,6 +1,5 @@
 -- `lacks_or_high`: what is lacking, then what is found in the contents of the list.
 use mathlib.Core.Path.{◌∙◌}
-use borrow.Author.Rules.{rules}
 use Rattle.judge_missing.proofs.FinishLaws.{lacks-first, high-next, nothing-found}
 use Rattle.write_judge.proofs.lacks_or_high.Goals as goal
 

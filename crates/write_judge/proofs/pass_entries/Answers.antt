@@ -1,11 +1,9 @@
-use mathlib.Core.Path.{◌≡◌, refl, sym, ap, ◌∙◌}
+use mathlib.Core.Path.{refl, sym, ap, ◌∙◌}
 use Prim.Native.Nat.{◌-◌}
 use native.Mathlib.Omega.{arith}
-use borrow.Author.Rules.{rules}
-use lib.ListN.{length}
 use Rattle.meaning.specs.declared.Refusal.{Refusal}
 use Rattle.judge_missing.specs.Lacks.{flagged_of}
-use Rattle.write_judge.specs.Judging.{Checked, entries_pass, started}
+use Rattle.write_judge.specs.Judging.{entries_pass, started}
 use Rattle.write_judge.proofs.CheckLaws.{told-head, told-later, told-within, head-there}
 use Rattle.write_judge.proofs.EntryPass.{step-entry, pass-end, pass-bad, pass_on}
 use Rattle.write_judge.proofs.pass_entries.Goals as goal
@@ -35,12 +33,11 @@ overflow_add-end c =
     )
 
 pub step_at-r-requires : goal.step_at-r-requires
-step_at-r-requires c =
-    (
-      omega arith,
-      told-within c.args.list.now c.loop-at.at c.loop-at.invariant.0 c.loop-at-test.true
-          c.told_label-label.ensures c.told_length.ensures,
-    )
+step_at-r-requires c = (
+  omega arith,
+  told-within c.args.list.now c.loop-at.at c.loop-at.invariant.0 c.loop-at-test.true
+      c.told_label-label.ensures c.told_length.ensures,
+)
 
 pub returns-then-no-ne0 : goal.returns-then-no-ne0
 returns-then-no-ne0 c =

@@ -1,14 +1,9 @@
 -- `pass_entries`: what is left of the pass is always the whole of it.
-use mathlib.Core.Path.{◌≡◌, refl, sym, ap, ◌∙◌}
+use mathlib.Core.Path.{◌≡◌}
 use Prim.Native.Nat.{◌-◌}
-use native.Mathlib.Omega.{arith}
-use borrow.Author.Rules.{rules}
 use lib.ListN.{length}
-use Rattle.meaning.specs.declared.Refusal.{Refusal}
 use Rattle.judge_missing.specs.Lacks.{flagged_of}
-use Rattle.write_judge.specs.Judging.{Checked, entries_pass, started}
-use Rattle.write_judge.proofs.CheckLaws.{told-head, told-later, told-within, head-there}
-use Rattle.write_judge.proofs.EntryPass.{step-entry, pass-end, pass-bad, pass_on}
+use Rattle.write_judge.specs.Judging.{Checked, entries_pass}
 use Rattle.write_judge.proofs.pass_entries.Given as goal
 
 abbrev pub invariant-loop-at : goal.invariant-loop-at

@@ -1,10 +1,7 @@
-use mathlib.Core.Path.{◌≡◌, refl, sym, ◌∙◌}
-use Prim.Native.Nat.{◌-◌, ◌≤◌}
+use mathlib.Core.Path.{refl, sym, ◌∙◌}
+use Prim.Native.Nat.{◌-◌}
 use native.Mathlib.Omega.{arith}
-use borrow.Author.Rules.{rules}
-use lib.ListN.{length}
 use Rattle.entry_read.proofs.HeadLaws.{whole_back}
-use Rattle.write_seven.specs.ListSeven.{high_in_contents}
 use Rattle.write_seven.proofs.ListSevenLaws.{high_cut, high-here, high-later}
 use Rattle.write_seven.proofs.high_in_contents.Goals as goal
 

@@ -1,12 +1,8 @@
 -- `high_in_contents`: what the contents that are left give is what all give.
-use mathlib.Core.Path.{◌≡◌, refl, sym, ◌∙◌}
+use mathlib.Core.Path.{◌≡◌}
 use Prim.Native.Nat.{◌-◌, ◌≤◌}
-use native.Mathlib.Omega.{arith}
-use borrow.Author.Rules.{rules}
 use lib.ListN.{length}
-use Rattle.entry_read.proofs.HeadLaws.{whole_back}
 use Rattle.write_seven.specs.ListSeven.{high_in_contents}
-use Rattle.write_seven.proofs.ListSevenLaws.{high_cut, high-here, high-later}
 use Rattle.write_seven.proofs.high_in_contents.Given as goal
 
 abbrev pub invariant-loop-length : goal.invariant-loop-length

@@ -1,6 +1,5 @@
 -- `high_in_list`: by whether the list says seven bits.
 use mathlib.Core.Path.{sym, ◌∙◌}
-use borrow.Author.Rules.{rules}
 use Rattle.write_seven.proofs.ListSevenLaws.{list-seven, list-not-seven}
 use Rattle.write_seven.proofs.high_in_list.Goals as goal
 

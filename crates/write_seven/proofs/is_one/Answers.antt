@@ -1,5 +1,4 @@
 -- `is_one`: by the length of the content.
-use borrow.Author.Rules.{rules}
 use Rattle.write_seven.proofs.ListSevenLaws.{other_length, one-byte}
 use Rattle.write_seven.proofs.is_one.Goals as goal
 

@@ -1,10 +1,7 @@
-use mathlib.Core.Path.{◌≡◌, refl, sym, ◌∙◌}
-use Prim.Native.Nat.{◌-◌, ◌≤◌}
+use mathlib.Core.Path.{refl, sym, ◌∙◌}
+use Prim.Native.Nat.{◌-◌}
 use native.Mathlib.Omega.{arith}
-use borrow.Author.Rules.{rules}
-use lib.ListN.{length}
 use Rattle.entry_read.proofs.HeadLaws.{whole_back}
-use Rattle.write_seven.specs.ListSeven.{list_says_seven}
 use Rattle.write_seven.proofs.ListSevenLaws.{seven-cut, seven-here, seven-later}
 use Rattle.write_seven.proofs.list_says_seven.Goals as goal
 

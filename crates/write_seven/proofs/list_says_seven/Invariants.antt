@@ -1,12 +1,8 @@
 -- `list_says_seven`: what the entries that are left say is what all say.
-use mathlib.Core.Path.{◌≡◌, refl, sym, ◌∙◌}
+use mathlib.Core.Path.{◌≡◌}
 use Prim.Native.Nat.{◌-◌, ◌≤◌}
-use native.Mathlib.Omega.{arith}
-use borrow.Author.Rules.{rules}
 use lib.ListN.{length}
-use Rattle.entry_read.proofs.HeadLaws.{whole_back}
 use Rattle.write_seven.specs.ListSeven.{list_says_seven}
-use Rattle.write_seven.proofs.ListSevenLaws.{seven-cut, seven-here, seven-later}
 use Rattle.write_seven.proofs.list_says_seven.Given as goal
 
 abbrev pub invariant-loop-label : goal.invariant-loop-label
