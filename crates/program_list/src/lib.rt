@@ -1,14 +1,16 @@
-// The program gdtlist: it lists the sets of a file or of standard input, and answers its exit status.
-// A program of the kit cannot give an exit status. So the program is `gdtlist_run`, which start.c beside src/ calls from C's `main`; crate `gdtlist` has the kit's own start.
+// The program gdtlist: it lists the sets of a file or of standard input, and answers its exit status. Crate `gdtlist` has its `main`.
 // Here are its words and what it reads; `program_status::list_bytes` lists what was read, and `program_out` has all that is written. Every function is proved safe and ending.
 #![tactic(auto)]
 
 ghost use Rattle.std.specs.Prelude.{◌≡◌};
 ghost use Rattle.meaning.specs.Kinds.{same_bytes};
 
-use libc::{STDIN_FILENO, STDOUT_FILENO};
 use program_out::{tell, tell_failed};
 use program_status::{LISTED, REFUSED, TROUBLE};
+use std::env::{Env, FillError};
+use std::fs::File;
+use std::io::{Error, ErrorKind, Read};
+use std::{io, str};
 
 // "at most 65,536 bytes"
 const MOST_BYTES: usize = 65_536;
@@ -16,14 +18,11 @@ const MOST_BYTES: usize = 65_536;
 // One byte more, so that a longer input shows.
 const ROOM: usize = MOST_BYTES + 1;
 
-// What reading the input came to.
-#[derive(Drop)]
-enum Input {
-    // It ended, or the room is full: this many bytes were read.
-    Bytes(usize),
-    // A read failed.
-    Failed,
-}
+// The most bytes of the word.
+const MOST_WORD: usize = 4096;
+
+// What the system calls a name that is too long.
+const NAME_TOO_LONG: i32 = 36;
 
 // What the one word asks.
 #[derive(Drop)]
@@ -36,61 +35,72 @@ enum Request {
 
 // ---- reading
 
-// All that can be read, until it ends or the room is full.
-fn read_input(fd: i32, room: &mut [u8]) -> Input {
+// All that can be read, until it ends or the room is full: this many bytes were read.
+fn read_input(input: &mut impl Read, room: &mut [u8]) -> io::Result<usize> {
     let mut at: usize = 0;
     while at < room.len() {
-        let part = &mut room[at..];
-        let got = libc::read(fd, part);
-        if got < 0 {
-            return Input::Failed;
-        }
-        let n = io::count(got, part);
+        let n = input.read(&mut room[at..])?;
         if n == 0 {
-            return Input::Bytes(at);
+            return Ok(at);
         }
         at += n;
     }
-    Input::Bytes(at)
+    Ok(at)
 }
 
 // ---- the list
 
 // "longer prints only `too long`"
-fn list_too_long() -> i32 {
-    let written = io::write_all(STDOUT_FILENO, b"too long\n");
-    if !program_out::finish(!written) {
+fn list_too_long(rt: &HostRuntime) -> i32 {
+    let failed = rt.stdout().write_all(b"too long\n").err();
+    if !program_out::finish(&rt.stderr(), failed) {
         return TROUBLE;
     }
-    tell(b"gdtlist: the input has more than 65536 bytes\n");
+    tell(
+        &rt.stderr(),
+        b"gdtlist: the input has more than 65536 bytes\n",
+    );
     REFUSED
 }
 
-// What can be read from a descriptor; `name` is what the reader of a message calls it.
-fn list_input(fd: i32, name: &[u8]) -> i32 {
+// The sets of all that can be read of an input; `name` is what the reader of a message calls it.
+fn list_input(rt: &HostRuntime, input: &mut impl Read, name: &[u8]) -> i32 {
     let mut room = [0u8; ROOM];
-    let Input::Bytes(n) = read_input(fd, &mut room) else {
-        tell_failed(b"read ", name);
-        return TROUBLE;
-    };
-    if MOST_BYTES < n {
-        return list_too_long();
+    match read_input(input, &mut room) {
+        Err(error) => {
+            tell_failed(&rt.stderr(), b"read ", name, error);
+            TROUBLE
+        }
+        Ok(n) => {
+            if MOST_BYTES < n {
+                return list_too_long(rt);
+            }
+            program_status::list_bytes(&rt.stdout(), &rt.stderr(), &room[..n])
+        }
     }
-    program_status::list_bytes(&room[..n])
 }
 
-fn list_standard_input() -> i32 {
-    list_input(STDIN_FILENO, b"standard input")
+fn list_standard_input(rt: &HostRuntime) -> i32 {
+    list_input(rt, &mut rt.stdin(), b"standard input")
 }
 
-// It is closed when the process ends: nothing is written to it, so closing cannot lose anything.
-fn list_file(path: &[u8]) -> i32 {
-    let fd = os::open_read(path);
-    if fd < 0 {
-        tell_failed(b"open ", path);
-        return TROUBLE;
+// std opens a file by a name that is text. One by another name can be given as standard input.
+fn open(rt: &HostRuntime, path: &[u8]) -> io::Result<File> {
+    match str::from_utf8(path) {
+        Ok(name) => File::open(rt, name),
+        Err(_) => Err(Error::new(ErrorKind::InvalidFilename, "its name is not UTF-8")),
     }
-    list_input(fd, path)
+}
+
+// It is closed at the end: nothing is written to it, so closing cannot lose anything.
+fn list_file(rt: &HostRuntime, path: &[u8]) -> i32 {
+    match open(rt, path) {
+        Ok(mut file) => list_input(rt, &mut file, path),
+        Err(error) => {
+            tell_failed(&rt.stderr(), b"open ", path, error);
+            TROUBLE
+        }
+    }
 }
 
 // ---- the words
@@ -132,21 +142,20 @@ fn request_of(word: &[u8]) -> Request {
     Request::File
 }
 
-fn tell_usage() {
-    tell(b"usage: gdtlist [FILE]\n");
+fn tell_usage(rt: &HostRuntime) {
+    tell(&rt.stderr(), b"usage: gdtlist [FILE]\n");
 }
 
-fn unknown(word: &[u8]) -> i32 {
-    tell(b"gdtlist: ");
-    tell(word);
-    tell(b" is no option\n");
-    tell_usage();
+fn unknown(rt: &HostRuntime, word: &[u8]) -> i32 {
+    tell(&rt.stderr(), b"gdtlist: ");
+    tell(&rt.stderr(), word);
+    tell(&rt.stderr(), b" is no option\n");
+    tell_usage(rt);
     TROUBLE
 }
 
-fn help() -> i32 {
-    let written = io::write_all(
-        STDOUT_FILENO,
+fn help(rt: &HostRuntime) -> i32 {
+    let written = rt.stdout().write_all(
         b"usage: gdtlist [FILE]\n\
 Lists the GDT 2.1 sets of FILE, or of standard input if FILE is - or not given.\n\
 \n\
@@ -158,38 +167,41 @@ too long                          an input of more than 65536 bytes: nothing els
 A place counts from the start of its set. The status is 0 if every set is listed,\n\
 1 if a set is refused or the input is too long, 2 if something failed.\n",
     );
-    if !program_out::finish(!written) {
+    if !program_out::finish(&rt.stderr(), written.err()) {
         return TROUBLE;
     }
     LISTED
 }
 
-fn run_word(word: &[u8]) -> i32 {
+fn run_word(rt: &HostRuntime, word: &[u8]) -> i32 {
     match request_of(word) {
-        Request::Help => help(),
-        Request::StandardInput => list_standard_input(),
-        Request::File => list_file(word),
-        Request::Unknown => unknown(word),
+        Request::Help => help(rt),
+        Request::StandardInput => list_standard_input(rt),
+        Request::File => list_file(rt, word),
+        Request::Unknown => unknown(rt, word),
     }
 }
 
+// Whether it was started with this word; the first one, 0, is the program's own name.
+fn has_word(rt: &HostRuntime, i: usize) -> bool {
+    !matches!(rt.arg(i, &mut [0u8; 1]), Err(FillError::NotPresent))
+}
+
 // The program, by the words that it was started with; answers its exit status.
-#[unsafe(no_mangle)]
-pub extern "C" fn gdtlist_run() -> i32 {
-    let words = os::arg_count();
-    if words < 2 {
-        return list_standard_input();
-    }
-    if 2 < words {
-        tell(b"gdtlist: more than one word\n");
-        tell_usage();
+pub fn gdtlist_run(rt: &HostRuntime) -> i32 {
+    if has_word(rt, 2) {
+        tell(&rt.stderr(), b"gdtlist: more than one word\n");
+        tell_usage(rt);
         return TROUBLE;
     }
-    let mut word = io::buffer();
-    let n = os::arg(1, &mut word);
-    if os::errno() != 0 {
-        tell_failed(b"take ", b"the file name");
-        return TROUBLE;
+    let mut word = [0u8; MOST_WORD];
+    match rt.arg(1, &mut word) {
+        Ok(n) => run_word(rt, &word[..n]),
+        Err(FillError::NotPresent) => list_standard_input(rt),
+        Err(FillError::TooLong) => {
+            let error = Error::from_raw_os_error(NAME_TOO_LONG);
+            tell_failed(&rt.stderr(), b"take ", b"the file name", error);
+            TROUBLE
+        }
     }
-    run_word(&word[..n])
 }

@@ -5,7 +5,7 @@ use lib.ListN.{length}
 use Rattle.program_list.proofs.read_input.Given as goal
 
 abbrev pub invariant-loop-at : goal.invariant-loop-at
-invariant-loop-at l = length l.room ≡ length l.initial.room
+invariant-loop-at g l = length l.room ≡ length l.initial.room
 
 abbrev pub decreases-loop-at : goal.decreases-loop-at
-decreases-loop-at l = length l.initial.room - l.at
+decreases-loop-at g l = length l.initial.room - l.at

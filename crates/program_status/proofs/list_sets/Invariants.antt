@@ -6,7 +6,7 @@ use Rattle.program_status.proofs.StopLaws.{Ahead}
 use Rattle.program_status.proofs.list_sets.Given as goal
 
 abbrev pub invariant-loop-out : goal.invariant-loop-out
-invariant-loop-out l = Holds l.block l.held × ((l.at ≤ length l.s) × Ahead l.s l.at)
+invariant-loop-out g l = Holds l.block l.held × ((l.at ≤ length l.s) × Ahead l.s l.at)
 
 abbrev pub decreases-loop-out : goal.decreases-loop-out
-decreases-loop-out l = length l.s - l.at
+decreases-loop-out g l = length l.s - l.at
