@@ -1,14 +1,16 @@
 """What the code says of its functions: who may call them, what they ask, what their contracts say, whom they call, and in which of them a place of a file stands.
 For tests/promises. Every path is from the repository's root, at which the caller stands."""
+import functools
 import glob
 import re
 from typing import Dict, List, NamedTuple, Tuple
 
-HEAD = re.compile(r"^( *)(pub )?(extern \"C\" )?fn (\w+)(?:<[^>]*>)?\((.*?)\)( ->[^\n{]*)?(?: \{|$(.*?)^ *\{)", re.M | re.S)
-CONTRACT = re.compile(r"\{ λ (\w+)\. ⌜ ([^⌜⌝]*) ⌝ \}")
+HEAD = re.compile(r"^( *)(pub )?(extern \"C\" )?fn (\w+)(?:<[^>]*>)?\((.*?)\)( ->[^\n{]*)?(?: \{|$(.*?)^\1\{)", re.M | re.S)
+CLAUSE = re.compile(r"(ensures|requires)(?: \w+)? \{((?:[^{}]|\{(?:[^{}]|\{[^{}]*\})*\})*)\}")  # it has a name if there are several of its kind; records stand in braces, too
 LOGIC = re.compile(r"[∨∧→↔⊤⊥×⊎≡≢λ∀∃]")
+RESULT = "result"
 LIBRARY = ("length",)  # what a public contract may name beside definitions of the project
-SIGNS = ("_≡_", "_×_", "_≤_", "_<_", "now", *LIBRARY)  # what no file of code may take from the project: it would have another meaning
+SIGNS = ("◌≡◌", "◌×◌", "◌≤◌", "◌<◌", "now", "old", "new", RESULT, *LIBRARY)  # what no file of code may take from the project: it would have another meaning
 
 
 class Function(NamedTuple):
@@ -18,7 +20,8 @@ class Function(NamedTuple):
     asks: bool
     given: Dict[str, str]  # its parameters, each with its type
     answers: bool
-    ensures: List[str]
+    ensures: List[str]  # what stands in its clauses `ensures`; nothing of one that is not understood, which `strange` has
+    strange: str  # what else stands in its contract
     calls: List[str]
     span: Tuple[int, int, int]  # in its file: where it starts, where its body does, where it ends
 
@@ -36,6 +39,11 @@ def sources():
 
 def crate_of(path):
     return path.split("/")[1]
+
+
+@functools.lru_cache(None)
+def own_crates():
+    return set(re.findall(r"^(\w+)[^#:\n]*:", open("crates.txt", encoding="utf-8").read(), re.M))
 
 
 # ---- Functions ---------------------------------------------------------------------------------------------------------------------
@@ -65,11 +73,12 @@ def functions(texts) -> Dict[str, Function]:
         for head, end in heads(path, text):
             name, contract = "%s::%s" % (crate_of(path), head[4]), head[7] or ""
             assert name not in found, "%s: two functions %s" % (path, head[4])
-            marked = re.search(r"#\[(no_mangle|export_name)[^\n]*\n(\s*#\[[^\n]*\n)*\s*\Z", text[: head.start()])
-            ensures = [" ".join(one.split()) for one in re.split(r"\b(?:ensures|requires)\b", contract.partition("ensures")[2])] if "ensures" in contract else []
+            marked = re.search(r"#\[(?:unsafe\()?(no_mangle|export_name)[^\n]*\n(\s*#\[[^\n]*\n)*\s*\Z", text[: head.start()])
+            ensures = [" ".join(said.split()) for word, said in CLAUSE.findall(contract) if word == "ensures"]
+            strange = " ".join(CLAUSE.sub("", contract).split())
             span = (head.start(), head.end(), end)
             given = parameters(head[5])
-            found[name] = Function(path, bool(head[2]), bool(head[3] or marked), "requires" in contract, given, bool(head[6]), ensures, [], span)
+            found[name] = Function(path, bool(head[2]), bool(head[3] or marked), "requires" in contract, given, bool(head[6]), ensures, strange, [], span)
     for name, calls in called(texts, found).items():
         found[name].calls.extend(calls)
     return found
@@ -149,19 +158,18 @@ def factors(text):
 
 def equations(function):
     """What a contract says of the answer, "", and of each lent parameter: the text after `≡`. Raises ValueError with the reason if it leaves anything of these open."""
-    if len(function.ensures) != 1 or not CONTRACT.fullmatch(function.ensures[0]):
-        raise ValueError("its contract is not one `ensures` with one proposition")
-    result, text = CONTRACT.fullmatch(function.ensures[0]).groups()
-    sides = {result: "", "now " + result: ""}
-    sides.update(("now (%s .exit)" % name, name) for name in lent(function))
+    if not function.ensures or function.strange:
+        raise ValueError("its contract is not made of `ensures` with a proposition each" + (": " + function.strange if function.strange else ""))
+    sides = {RESULT: "", RESULT + ".now": ""}
+    sides.update((name + ".new", name) for name in lent(function))
     found = {}
-    for factor in factors(text):
+    for factor in (one for text in function.ensures for one in factors(text)):
         left, *right = parted(factor, "≡")
-        if not right and re.fullmatch(r"%s [<≤] [^<≤]+" % result, factor) and not LOGIC.search(factor):
+        if not right and re.fullmatch(r"%s [<≤] [^<≤]+" % RESULT, factor) and not LOGIC.search(factor):
             continue  # a bound of the answer beside its equation
         if len(right) != 1 or left not in sides or sides[left] in found:
             raise ValueError("`%s` is no equation of its answer or of what is lent, or a second one" % factor)
-        if LOGIC.search(right[0]) or re.search(r"(?<![\w.])%s(?![\w'-])|\.exit\b" % result, right[0]):
+        if LOGIC.search(right[0]) or re.search(r"(?<![\w.])%s(?![\w'-])|\.new\b" % RESULT, right[0]):
             raise ValueError("what stands after `%s ≡` names the result, or is no value" % left)
         found[sides[left]] = right[0]
     missing = [name for name in ([""] if function.answers else []) + lent(function) if name not in found]
@@ -184,7 +192,8 @@ def imports(text, word="ghost use"):
     declares it; nothing for a library's. Of a module that is imported as a whole the home ends with '.'."""
     found = {}
     for way, some, other in re.findall(r"^ *%s ([^;{\n]*?)(?:\.\{([^}]*)\}| as (\w+))?;?$" % word, text, re.M):
-        home = re.fullmatch(r"Rattle·(\w+?)(?:·\w+)?\.(?:specs|proofs)\.(.*)", way)
+        home = re.fullmatch(r"Rattle\.(\w+)\.(?:specs|proofs)\.(.*)", way)
+        home = home if home and home[1] in own_crates() else None
         module = way.split(".")[-1]
         if home and word == "ghost use":
             assert ".specs." in way and ("." not in home[2] or home[2].startswith("declared.")), "%s: a contract names only what stands in specs/ itself" % way
@@ -209,11 +218,13 @@ def defined(right, function, text):
     known = imports(text)
     coded = {last: crate for crate, last in re.findall(r"^use (\w+)::(\w+);", text, re.M)}
     names, strange = set(), []
-    right = re.sub(r"\bnow \((\w+) \.entry\)", lambda slice: slice[1] if function.given.get(slice[1], "").startswith("&") else slice[0], right)
+    held = {name: ".old" if re.match(r"&('\w+ )?mut ", kind) else ".now" if kind.startswith("&") else "" for name, kind in function.given.items()}
     for word in re.findall(r"[^\s()]+", right):
         first, _, last = word.partition(".")
-        if word in function.given or word in LIBRARY or re.fullmatch(r"\d+|\.(?!entry$|exit$)[\w-]+", word):
+        if word in LIBRARY or re.fullmatch(r"\d+|\.(?!now$|old$|new$)[\w-]+", word):
             continue
+        if first in held and re.fullmatch(r"%s(\.(?!now\b|old\b|new\b)[\w-]+)*" % re.escape(first + held[first]), word):
+            continue  # a parameter as it comes, or a field of it
         if home_in(word, known):
             names.add(home_in(word, known))
         elif last and first in coded:
