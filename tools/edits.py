@@ -1,21 +1,30 @@
-"""The must-fail edits and their controls: what stands in their files, and one of them tried. For tools/loop, tools/controls and tests/promises.
-A file of edits has one slip, of the file's name, or several, each after a line `slip: NAME`; the gate tries a file as a whole. A control is that of one slip.
+"""The must-fail edits and their controls: what stands in their files, and one of them tried. And what a check of a crate costs. For tools/loop, tools/logs, tools/controls and three tests.
+A file of edits has one slip, of the file's name, or several, each after a line `slip: NAME`; `rt ci` tries a file as a whole, tools/logs each slip alone. A control is that of one slip.
 Every path is from the repository's root, at which the caller stands."""
 import concurrent.futures
 import difflib
+import functools
+import hashlib
 import os
 import re
 import shutil
 import subprocess
+import tempfile
 import time
 
 ROOT = os.path.dirname(os.path.dirname(os.path.abspath(__file__)))
 LOGS = os.path.join("target", "loop")
+SLIP_LOGS = os.path.join("target", "must-fail")  # what the prover said of each slip alone
+CRATE_LOGS = os.path.join("target", "log")  # and of each crate as it is, from nothing
+COST, MADE_OF = "cost: ", "made of: "  # the last two lines of these logs: megabytes and processor seconds, and the sum of all that it was made from
 CONTROLS = os.path.join("tests", "controls")
 PARTS = ("src", "specs", "proofs")  # of a crate
+MEGABYTES = 2000  # what a check may take: tests/budget
 CHANGED = ("src/", "specs/")  # where a slip may stand: a proof that is broken says nothing
 # lines of a check that are no complaint of their own: what went well, counts, and what only rests on something that was complained of
-QUIET = re.compile(r"rt: \S+ proved |(fn|struct|enum|impl) .*: proved$|logic |library |crate \S+: modules |note: no function with a body |.* was not admitted ")
+QUIET = re.compile(
+    r"rt: (chose|rt check|rt lemma|\S+: begins) |(fn|struct|enum|impl) .*: proved$|logic |library |statements |crate \S+: modules |note: no function with a body |note: finished |.*: error: \d+ declarations? that depends? on "
+)
 
 
 class NotTried(Exception):
@@ -26,10 +35,10 @@ def step(name, text):
     print("%-8s  %s" % (name, text), flush=True)
 
 
-def ran(*words):
-    """Status, output and seconds of a command, run at the repository's root."""
+def ran(*words, folder=ROOT):
+    """Status, output and seconds of a command, run at the repository's root or in this folder."""
     started = time.monotonic()
-    run = subprocess.run(words, cwd=ROOT, text=True, errors="replace", stdin=subprocess.DEVNULL, stdout=subprocess.PIPE, stderr=subprocess.STDOUT)
+    run = subprocess.run(words, cwd=folder, text=True, errors="replace", stdin=subprocess.DEVNULL, stdout=subprocess.PIPE, stderr=subprocess.STDOUT)
     return run.returncode, run.stdout.rstrip("\n"), "%.0f s" % (time.monotonic() - started)
 
 
@@ -42,8 +51,21 @@ def complaints(said):
 
 def crates():
     """Each crate of crates.txt with those that it cites."""
-    lines = [line.split("#")[0] for line in open("crates.txt")]
-    return {name.strip(): cited.split() for name, colon, cited in (line.partition(":") for line in lines) if colon}
+    lines = [line.split("#")[0].partition(":") for line in open("crates.txt")]
+    return {head.split()[0]: cited.split() for head, colon, cited in lines if colon}
+
+
+def archives():
+    """The crates that are static libraries."""
+    return re.findall(r"^(\w+) staticlib *:", open("crates.txt").read(), re.M)
+
+
+def below(crate, known):
+    """The crates of the repository that a crate rests on, each once, after those that it rests on itself."""
+    found = []
+    for cited in known[crate]:
+        found += [one for one in [*below(cited, known), cited] if one not in found] if cited in known else []
+    return found
 
 
 def stored(folder, suffix):
@@ -158,51 +180,144 @@ def changed(crate, edit, changes, controls=()):
     return texts
 
 
-def checker(crate, room):
-    """The kit's check of a crate that stands in a folder, over the proved crates that it cites."""
-    kit = os.path.dirname(os.path.dirname(ran("rt", "doc")[1]))
-    own = os.path.join(kit, "on", os.uname().machine)
-    known = crates()
-    source = next(path for path in (os.path.join(room, "src", name) for name in ("main.rt", "lib.rt")) if os.path.exists(path))
-    words = [os.path.join(own, "bin", "rattle"), "check", "--crate-name", crate, source]
+@functools.lru_cache(None)
+def kit():
+    return os.path.dirname(ran("rt", "doc")[1])
+
+
+def checker(crate, jobs=1):
+    """The kit's check of a crate that stands in the folder where it is called, over the libraries that `rt check` and `rt lib` left of the crates that it cites: the words that rt gives it."""
+    known, of_kit = crates(), os.path.join(kit(), "rlibs")
+    rlib = lambda name: os.path.join(ROOT, "crates", name, "out", "rlib")
+    source = next(name for name in ("src/main.rt", "src/lib.rt") if os.path.exists(os.path.join(ROOT, "crates", crate, name)))
+    words = [os.path.join(kit(), "bin", "rattle"), "check", "--crate-name", crate, source]
     for cited in ["std"] + known[crate]:
-        words += ["--extern", "%s=%s/rlib/%s.rlib" % (cited, os.path.join(ROOT, "target") if cited in known else own, cited)]
-    for folder in (os.path.join(ROOT, "target"), own):
-        words += ["-L", "dependency=%s/rlib" % folder]
-    return words + ["--antt-project", os.path.join(kit, "logic", "antt-project.json"), "--logic-built", os.path.join(own, "logic-built")]
+        words += ["--extern", "%s=%s/%s.rlib" % (cited, rlib(cited) if cited in known else of_kit, cited)]
+    for folder in [of_kit, *map(rlib, below(crate, known))]:
+        words += ["-L", "dependency=" + folder]
+    words += ["--antt-project", os.path.join(kit(), "rattle", "logic", "antt-project.json"), "--logic-built", os.path.join(kit(), "logic_built")]
+    return words + ["--jobs", str(jobs), "--links", crate + "=", *(["--crate-type", "staticlib"] if crate in archives() else [])]
 
 
-def checked(crate, edit, texts):
-    """Status, output and seconds of a check of the crate with these files changed, over what its last check left. The output is kept in `log_of` the edit."""
-    room, kept = os.path.join(ROOT, LOGS, crate, edit), os.path.join("target", "inc", crate)
-    shutil.rmtree(room, ignore_errors=True)
-    for part in PARTS:
-        if os.path.isdir(os.path.join("crates", crate, part)):
-            shutil.copytree(os.path.join("crates", crate, part), os.path.join(room, part))
-    for name, text in texts.items():
-        with open(os.path.join(room, name), "w", encoding="utf-8") as file:
-            file.write(text)
-    if os.path.isdir(kept):
-        shutil.copytree(kept, os.path.join(room, "kept"))
-    status, said, took = ran(*checker(crate, room), "--incremental", os.path.join(room, "kept"))
-    shutil.rmtree(room)
-    said = said.replace(room + "/", "")
-    with open(log_of(crate, edit), "w", encoding="utf-8") as file:
-        file.write(said + "\n")
-    return status, said, took
+def linked(folder, to):
+    """Copies what a check kept. What was proved gets a second name: a check replaces such a file, and never writes into it."""
+
+    def copy(one, other):
+        try:
+            if one.endswith(".oantt"):
+                return os.link(one, other)
+        except OSError:
+            pass
+        return shutil.copy2(one, other)
+
+    shutil.copytree(folder, to, copy_function=copy)
+
+
+def checked(crate, texts, log, over=True):
+    """Status, output and seconds of a check of the crate with these files changed, over what its last check left or from nothing. The output is kept in the log, and what it cost."""
+    started, kept = time.monotonic(), os.path.join("crates", crate, "out", "incremental")
+    room = tempfile.mkdtemp(prefix="check-")
+    os.makedirs(os.path.dirname(log), exist_ok=True)
+    try:
+        for part in PARTS:
+            if os.path.isdir(os.path.join("crates", crate, part)):
+                shutil.copytree(os.path.join("crates", crate, part), os.path.join(room, part))
+        for name, text in texts.items():
+            with open(os.path.join(room, name), "w", encoding="utf-8") as file:
+                file.write(text)
+        if over and os.path.isdir(kept):
+            linked(kept, os.path.join(room, "kept"))
+        with open(log, "w", encoding="utf-8") as file:
+            run = subprocess.Popen([*checker(crate), *(["--incremental", "kept"] if over else [])], cwd=room, stdin=subprocess.DEVNULL, stdout=file, stderr=subprocess.STDOUT)
+            status, used = os.wait4(run.pid, 0)[1:]
+            run.returncode = os.waitstatus_to_exitcode(status)
+    finally:
+        shutil.rmtree(room, ignore_errors=True)
+    with open(log, encoding="utf-8", errors="replace") as file:
+        said = file.read().replace(room + "/", "")
+    with open(log, "w", encoding="utf-8") as file:
+        file.write("%s%s%d %.1f\n" % (said, COST, used.ru_maxrss // 1024, used.ru_utime + used.ru_stime))
+    return run.returncode, said.rstrip("\n"), "%.0f s" % (time.monotonic() - started)
 
 
 def log_of(crate, edit):
     return os.path.join(LOGS, crate, edit + ".log")
 
 
+def slip_log(crate, slip):
+    return os.path.join(SLIP_LOGS, crate, slip + ".log")
+
+
+@functools.lru_cache(None)
+def files_sum(crate):
+    """The sum of the files that a check of the crate reads, those of the crates below it too, and of the kit."""
+    known, found = crates(), hashlib.sha256(repr((ran("rt", "version")[1], crate in archives())).encode())
+    for name in [*below(crate, known), crate]:
+        found.update(repr((name, known[name])).encode())
+        for folder, folders, names in (step for part in PARTS for step in os.walk(os.path.join("crates", name, part))):
+            folders.sort()
+            for path in (os.path.join(folder, one) for one in sorted(names)):
+                with open(path, "rb") as file:
+                    found.update(repr((path, file.read())).encode())
+    return found.hexdigest()
+
+
+def slip_sum(crate, slip):
+    """The sum of all that the log of a slip is made from."""
+    return hashlib.sha256(repr((files_sum(crate), pairs(crate, slip))).encode()).hexdigest()
+
+
+def crate_log(crate):
+    return os.path.join(CRATE_LOGS, crate + ".log")
+
+
+def sign(log, made_of):
+    with open(log, "a", encoding="utf-8") as file:
+        file.write(MADE_OF + made_of + "\n")
+
+
+def told_in(log, made_of):
+    """What the prover said in a log; nothing if it is not there, not whole, or made of other files than there are."""
+    said, _, of = open(log, encoding="utf-8", errors="replace").read().rpartition(MADE_OF) if os.path.exists(log) else ("", "", "")
+    return said if of.strip() == made_of and re.search(r"^logic=", said, re.M) else ""
+
+
+def told_of_slip(crate, slip):
+    return told_in(slip_log(crate, slip), slip_sum(crate, slip))
+
+
+def told_of_crate(crate):
+    return told_in(crate_log(crate), files_sum(crate))
+
+
+def cost(said):
+    """Megabytes and processor seconds of the check that said this; nothing if it does not tell."""
+    found = re.search(r"^%s(\d+) ([\d.]+)$" % COST, said, re.M)
+    return (int(found[1]), float(found[2])) if found else None
+
+
+def crate_checked(crate):
+    """Whether a crate is proved from nothing, and the line that says so. What the prover says is kept with the sum of what it was made from."""
+    made_of, log = files_sum(crate), crate_log(crate)
+    status, said, took = checked(crate, {}, log, over=False)
+    good = status == 0 and re.search("^logic=proved ", said, re.M)
+    if good:
+        sign(log, made_of)
+    return bool(good), "%s %s" % (crate, "is proved (%s)" % took if good else "is NOT PROVED, status %d, see %s" % (status, log))
+
+
 def tried(crate, edit, pairs_of, controls=()):
-    """Whether a slip or a file of edits is refused, or a slip's control proved, and the line that says so; after it all complaints, if a control is not proved."""
+    """Whether a slip or a file of edits is refused, or a slip's control proved, and the line that says so; after it all complaints, if a control is not proved.
+    The log of a slip alone is kept with the sum of what it was made from."""
+    alone = pairs_of is pairs and not controls
+    name, log = "the control of " + edit if controls else edit, slip_log(crate, edit) if alone else log_of(crate, edit)
     try:
-        status, said, took = checked(crate, edit, changed(crate, edit, pairs_of(crate, edit), controls))
+        made_of = slip_sum(crate, edit) if alone else ""
+        status, said, took = checked(crate, changed(crate, edit, pairs_of(crate, edit), controls), log)
     except NotTried as why:
         return False, "NOT TRIED: %s" % why
-    name, log = "the control of " + edit if controls else edit, log_of(crate, edit)
+    if alone and status == 1:
+        sign(log, made_of)
     if status == 0 and re.search("^logic=proved", said, re.M):
         return bool(controls), "%s %s (%s)" % (name, "is proved" if controls else "is NOT REFUSED: the crate is proved with it", took)
     if status != 1 or not re.search("^logic=not-proved", said, re.M):
@@ -222,38 +337,57 @@ def shortened(names):
 
 
 def tried_all(wanted):
-    """What became of each (crate, edit, pairs_of, controls), in their order; as many at a time as rt does."""
-    with concurrent.futures.ThreadPoolExecutor(int(os.environ.get("RT_JOBS") or min(os.cpu_count(), 4))) as workers:
-        yield from workers.map(lambda one: tried(*one), wanted)
+    """What became of each (crate, edit, pairs_of, controls), in their order."""
+    yield from at_once(lambda one: tried(*one), wanted)
+
+
+def at_once(call, wanted):
+    """What a call that checks gives of each, in their order: as many at a time as there are cores, or as RT_JOBS says, and as find room in the memory that is free."""
+    with open("/proc/meminfo") as file:
+        free = int(re.search(r"^MemAvailable: *(\d+)", file.read(), re.M)[1]) // 1024
+    most = int(os.environ.get("RT_JOBS") or len(os.sched_getaffinity(0)))
+    with concurrent.futures.ThreadPoolExecutor(max(1, min(most, free // MEGABYTES))) as workers:
+        yield from workers.map(call, wanted)
 
 
 # ---- What the prover said ----------------------------------------------------------------------------------------------------------
 
 
+PLACE = r"^(?:\./)?"  # how the prover begins a line about a place of a file
+DEPENDS = r"\d+ declarations? that depends? on .*not checked: (.*)"  # what was not checked since it rests on what failed
+NO_NAME = "is not in scope|has no `|has no field"  # a name that nothing has
+CALLS = "it calls |which has no proof|its contract rests on "  # a function has no proof since it rests on another
+OWN_GOALS = "did not prove|expected a measure|expected an invariant|expected answers"  # what of its own is not proved, beside that
+
+
 def failed(log, crate):
     """What failed in a prover's log: all of it by name, and what failed by itself, not because it rests on another that failed."""
     every, itself = set(), set()
-    for module, name, why in re.findall(r"(?:^|/)(?:proofs|specs)/(\w+)\.antt:\d+:\d+: error: `(\S+)`: (.*)", log, re.M):
+    for module, name, why in re.findall(PLACE + r"(?:proofs|specs)/(\w+)\.antt:\d+:\d+: error: `(\S+)`: (.*)", log, re.M):
         label = "%s:%s.%s" % (crate, module, name)
         every.add(label)
         itself |= set() if "was not admitted" in why else {label}
+    for module, names in re.findall(PLACE + r"(?:proofs|specs)/(\w+)\.antt:\d+:\d+: error: " + DEPENDS, log, re.M):
+        every |= {"%s:%s.%s" % (crate, module, name) for name in re.split(", | and ", names) if not re.fullmatch(r"\d+ more", name)}
     for name, why in re.findall(r"^fn %s::(?:\w+::)*(\w+): (not proved.*|no proof.*)$" % crate, log, re.M):
         label = "%s::%s" % (crate, name)
-        own = re.findall(r"(?:^|/)proofs/(?:\w+/)*%s/Proof\.antt:\d+:\d+: error: `\S+`: (.*)" % name, log, re.M)
+        own = re.findall(PLACE + r"proofs/(?:\w+/)*%s/\w+\.antt:\d+:\d+: error: `\S+`: (.*)" % name, log, re.M)
         every.add(label)
-        itself |= {label} if "it calls" not in why or any("was not admitted" not in line for line in own) else set()
+        rests = re.search(CALLS, why) and not re.search(OWN_GOALS, why)
+        itself |= {label} if not rests or any("was not admitted" not in line for line in own) else set()
     return every, itself
 
 
 def senseless(log):
     """What in a prover's log shows that an edit says nothing that could be wrong: an error in the changed definitions or code themselves, a name that nothing has, or an error
-    of a whole file, as a name that it cannot import. A fact that does not hold is an error of one declaration of proofs/, or none in a file of it."""
-    errors = re.findall(r"^(?:\S*/must-fail/[^/\s]+/[^/\s]+/|crates/[^/\s]+/)?(\S+?\.(?:rt|antt):\d+:\d+): error(.*)", log, re.M)
-    return [place + why for place, why in errors if not place.startswith("proofs/") or "not in scope" in why or not re.match(": `[^`]+`: ", why)]
+    of a whole file, as a name that it cannot import. A fact that does not hold is an error of one declaration of proofs/, or of what depends on one, or none in a file of it."""
+    errors = re.findall(PLACE + r"(\S+?\.(?:rt|antt):\d+:\d+): error(.*)", log, re.M)
+    fact = r": (`[^`]+`: |%s)" % DEPENDS
+    return [place + why for place, why in errors if not place.startswith("proofs/") or re.search(NO_NAME, why) or not re.match(fact, why)]
 
 
 def proved(crate):
-    status, said, took = ran("rt", "dev", crate)
+    status, said, took = ran("rt", "check", folder=os.path.join(ROOT, "crates", crate))
     if status != 0:
         print(complaints(said))
     functions = re.findall(r"^logic=proved functions=(\d+)", said, re.M)  # of the crates below, too; the last is the crate's own
