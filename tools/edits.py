@@ -354,10 +354,25 @@ def at_once(call, wanted):
 
 
 PLACE = r"^(?:\./)?"  # how the prover begins a line about a place of a file
-DEPENDS = r"\d+ declarations? that depends? on .*not checked: (.*)"  # what was not checked since it rests on what failed
+DEPENDS = r"\d+ declarations? that depends? on `(\S+)`.*not checked: (.*)"  # what was not checked since it rests on what failed: the first three of it
 NO_NAME = "is not in scope|has no `|has no field"  # a name that nothing has
 CALLS = "it calls |which has no proof|its contract rests on "  # a function has no proof since it rests on another
 OWN_GOALS = "did not prove|expected a measure|expected an invariant|expected answers"  # what of its own is not proved, beside that
+
+
+def resting(crate, path, name):
+    """The declarations of a file of a crate that name this one, and those that name these."""
+    with open(os.path.join("crates", crate, path + ".antt"), encoding="utf-8") as file:
+        blocks = re.split(r"^(?=\S)", re.sub(r"--.*", "", file.read()), flags=re.M)
+    texts, found, reached = {}, set(), {name}
+    for block in blocks:
+        head = re.match(r"(?:(?:pub|abbrev|unfoldable|record|data) )*([^\s:=(){}]+)", block)
+        if head and head[1] not in ("use", "mod", "module", "unfolding"):
+            texts[head[1]] = texts.get(head[1], "") + block
+    while reached:
+        reached = {one for one, text in texts.items() if one not in found and reached & set(re.findall(r"[^\s(){},;]+", text)) - {one}}
+        found |= reached
+    return found
 
 
 def failed(log, crate):
@@ -367,8 +382,9 @@ def failed(log, crate):
         label = "%s:%s.%s" % (crate, module, name)
         every.add(label)
         itself |= set() if "was not admitted" in why else {label}
-    for module, names in re.findall(PLACE + r"(?:proofs|specs)/(\w+)\.antt:\d+:\d+: error: " + DEPENDS, log, re.M):
-        every |= {"%s:%s.%s" % (crate, module, name) for name in re.split(", | and ", names) if not re.fullmatch(r"\d+ more", name)}
+    for path, name, names in re.findall(PLACE + r"((?:proofs|specs)/\w+)\.antt:\d+:\d+: error: " + DEPENDS, log, re.M):
+        said = {one for one in re.split(", | and ", names) if not re.fullmatch(r"\d+ more", one)}
+        every |= {"%s:%s.%s" % (crate, os.path.basename(path), one) for one in said | (resting(crate, path, name) if names.endswith(" more") else set())}
     for name, why in re.findall(r"^fn %s::(?:\w+::)*(\w+): (not proved.*|no proof.*)$" % crate, log, re.M):
         label = "%s::%s" % (crate, name)
         own = re.findall(PLACE + r"proofs/(?:\w+/)*%s/\w+\.antt:\d+:\d+: error: `\S+`: (.*)" % name, log, re.M)
