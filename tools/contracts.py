@@ -84,6 +84,13 @@ def functions(texts) -> Dict[str, Function]:
     return found
 
 
+def brought(text):
+    """The names that a file of code imports, each with its crate."""
+    found = {last: path.split("::")[0] for path, last in re.findall(r"^use ((?:\w+::)*(\w+));", text, re.M)}
+    found.update((last, crate) for crate, some in re.findall(r"^use (\w+)::(?:\w+::)*\{([^{}]*)\};", text, re.M) for last in re.findall(r"\w+", some))
+    return found
+
+
 def called(texts, found):
     """The functions of the project that each function calls: by its crate, a module of its own crate, a type that has it, a name that is imported, or as a method."""
     types, methods = {}, {name.split("::")[1]: name for name in found if "self" in found[name].given}
@@ -94,7 +101,7 @@ def called(texts, found):
     crates, calls = {name.split("::")[0] for name in found}, {}
     for name, function in found.items():
         own, text = name.split("::")[0], texts[function.path]
-        uses = {last: path.split("::")[0] for path, last in re.findall(r"^use ((?:\w+::)*(\w+));", text, re.M)}
+        uses = brought(text)
         uses.update((other, crate) for crate, other in re.findall(r"^use (\w+) as (\w+);", text, re.M))
         calls[name] = set()
         for dot, way, last in re.findall(r"(\.?)((?:\b\w+::)*)\b(\w+)\(", text[function.span[1] : function.span[2]]):
@@ -216,7 +223,7 @@ def home_in(word, known):
 def defined(right, function, text):
     """The definitions that the right side of an equation names, and the words of it that are neither these nor parameters, fields, numbers or `length`."""
     known = imports(text)
-    coded = {last: crate for crate, last in re.findall(r"^use (\w+)::(\w+);", text, re.M)}
+    coded = brought(text)
     names, strange = set(), []
     held = {name: ".old" if re.match(r"&('\w+ )?mut ", kind) else ".now" if kind.startswith("&") else "" for name, kind in function.given.items()}
     for word in re.findall(r"[^\s()]+", right):
