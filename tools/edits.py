@@ -163,6 +163,8 @@ def control(crate, slip):
 
 # ---- One tried ---------------------------------------------------------------------------------------------------------------------
 
+PLACE = r"^(?:\./)?"  # how the prover begins a line about a place of a file
+
 
 def changed(crate, edit, changes, controls=()):
     """The files of a crate that these pairs change, or the texts of a control in the place of their new ones, each with its new text."""
@@ -306,14 +308,50 @@ def crate_checked(crate):
     return bool(good), "%s %s" % (crate, "is proved (%s)" % took if good else "is NOT PROVED, status %d, see %s" % (status, log))
 
 
+GONE = PLACE + r"proofs/(?:\w+/)*(\w+)/\w+\.antt:\d+:\d+: error: .*: module `[^`]*` has no `([^`]+)` that can be named"
+ASKED = r"^help: `\w+` has no `%s`; rattle asks for (.*)$|^note: .* \(`([^`]+)`\)"
+LOST = PLACE + r"proofs/(?:\w+/)*(\w+)/\w+\.antt:\d+:\d+: error: .*: record `[^`]*` has no field `([^`]+)` \(nearest: ([^)]*)\)"
+BRANCH = r".*?(?:^|-)(?:then|else|if|loop)-"  # how the name of a goal goes on: the condition of a branch, by its words
+
+
+def renamed(crate, said):
+    """The answers of functions in which the prover names a goal or a fact by the words of a condition, where the changed code has other words: these files with the new names, so that the
+    answers are tried there. For each pair of names, too, that it was put for another. A goal's new name begins as the old one, and no answer has it; a fact's is the old one with more words."""
+    texts, pairs = {}, set()
+    for function, gone in re.findall(GONE, said, re.M):
+        begins = re.match(BRANCH, gone)
+        asked = {name for some, one in re.findall(ASKED % re.escape(gone), said, re.M) for name in [*re.findall(r"`([^`]+)`", some), one]}
+        known = "".join(texts_of(crate, function).values())
+        found = {name[begins.end() :] for name in asked if begins and name.startswith(begins[0]) and not re.search(r"^(?:pub )?%s(?![\w-])" % re.escape(name), known, re.M)}
+        pairs |= {(function, r"(?<=-)%s(?![\w-])" % re.escape(gone[begins.end() :]), found.pop())} if len(found) == 1 else set()
+    for function, lost, near in re.findall(LOST, said, re.M):
+        found = [name for name in re.findall(r"\.([\w-]+)", near) if name.startswith(lost + "-")]
+        pairs |= {(function, r"(?<=\.)%s(?![\w-])" % re.escape(lost), found[0])} if len(found) == 1 else set()
+    for function, old, new in sorted(pairs):
+        for path, text in {**texts_of(crate, function), **{path: text for path, text in texts.items() if "/%s/" % function in path}}.items():
+            texts[path] = re.sub(old, new, text)
+    return texts
+
+
+def texts_of(crate, function):
+    """The files of a function's proof, by their names in the crate."""
+    folder = os.path.join("crates", crate)
+    paths = [os.path.join(at, name) for at, _, names in os.walk(os.path.join(folder, "proofs")) for name in names if os.path.basename(at) == function]
+    return {os.path.relpath(path, folder): open(path, encoding="utf-8").read() for path in sorted(paths)}
+
+
 def tried(crate, edit, pairs_of, controls=()):
     """Whether a slip or a file of edits is refused, or a slip's control proved, and the line that says so; after it all complaints, if a control is not proved.
-    The log of a slip alone is kept with the sum of what it was made from."""
+    The log of a slip alone is kept with the sum of what it was made from. If the changed code has other words for a condition, answers are tried by its words."""
     alone = pairs_of is pairs and not controls
     name, log = "the control of " + edit if controls else edit, slip_log(crate, edit) if alone else log_of(crate, edit)
     try:
         made_of = slip_sum(crate, edit) if alone else ""
-        status, said, took = checked(crate, changed(crate, edit, pairs_of(crate, edit), controls), log)
+        texts = changed(crate, edit, pairs_of(crate, edit), controls)
+        status, said, took = checked(crate, texts, log)
+        answers = renamed(crate, said) if pairs_of is pairs and status == 1 else {}
+        if answers:
+            status, said, took = checked(crate, {**texts, **answers}, log)
     except NotTried as why:
         return False, "NOT TRIED: %s" % why
     if alone and status == 1:
@@ -353,7 +391,6 @@ def at_once(call, wanted):
 # ---- What the prover said ----------------------------------------------------------------------------------------------------------
 
 
-PLACE = r"^(?:\./)?"  # how the prover begins a line about a place of a file
 DEPENDS = r"\d+ declarations? that depends? on `(\S+)`.*not checked: (.*)"  # what was not checked since it rests on what failed: the first three of it
 NO_NAME = "is not in scope|has no `|has no field"  # a name that nothing has
 CALLS = "it calls |which has no proof|its contract rests on "  # a function has no proof since it rests on another
