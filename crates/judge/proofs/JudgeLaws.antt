@@ -162,7 +162,8 @@ two-lines s f g fs t h w few =
     let c : Bool = eqb g.label 8100 in
     let Q : Refusal = first_of (in_set all) (ask (eqb (number g.content) (size all)) (at_line bad_sum 1 0)) in
     first-is s f (g ∷ fs) t (size all) (length all) h.0 w
-    ∙ by_tests all (parsed all t) refl (set_faults all) (real-set all a (is_known k) c refl) (line_size f) (place-one f (g ∷ fs)) (first_of (in_set all) (faults_then_high (profile all) all)) Q s a k c refl
+    ∙ by_tests all (parsed all t) refl (set_faults all) (real-set all a (is_known k) c refl) (line_size f) (place-one f (g ∷ fs))
+    (first_of (in_set all) (faults_then_high (profile all) all)) Q s a k c refl
     (λ settype e. second_is s settype (size all) f g fs t h w few (place-one f (g ∷ fs))
     ∙ ap (λ (x : Known). cond c (or_else (first_of (in_set all) (faults_then_high (record { set_type = x }) all)) Q) (refusal no_sum (line_size f) 0)) (sym e))
     (set_found all a (is_known k) c refl)

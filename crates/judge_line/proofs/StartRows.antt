@@ -58,7 +58,8 @@ abbrev pub start_top : List Bool
 start_top = set no_flags 31 true
 
 -- the step of line 1: a line 8000 that names a type is never refused
-pub start-step : (settype : SetType) (c : List ℕ) → type_named c ≡ Of settype → Stepped (row_of settype 8000) settype none_seen no_refusal 0 8000 c (record { no = 0; group = start_group }) no_flags start_top
+pub start-step : (settype : SetType) (c : List ℕ) → type_named c ≡ Of settype
+    → Stepped (row_of settype 8000) settype none_seen no_refusal 0 8000 c (record { no = 0; group = start_group }) no_flags start_top
 unfolding line_no label_no place_no repeated_no content_no version_no next_flagged stays_in first_lack open_lack or_else
 start-step settype c q =
     subst (λ (o : Found). Stepped o settype none_seen no_refusal 0 8000 c (record { no = 0; group = start_group }) no_flags start_top) (sym (row-8000 settype))
@@ -86,12 +87,14 @@ module _ (settype : SetType) (at : ℕ) (c : List ℕ) where
       → Stepped (row_of settype 8100) settype (flagged_of start_group no_flags start_top) no_refusal at 8100 c (record { no = 0; group = second_group at }) no_flags second_top
   unfolding line_no label_no place_no repeated_no content_no version_no next_flagged stays_in first_lack open_lack or_else
   second-step e =
-      subst (λ (o : Found). Stepped o settype (flagged_of start_group no_flags start_top) no_refusal at 8100 c (record { no = 0; group = second_group at }) no_flags second_top) (sym (row-8100 settype))
+      subst (λ (o : Found). Stepped o settype (flagged_of start_group no_flags start_top) no_refusal at 8100 c (record { no = 0; group = second_group at }) no_flags second_top)
+      (sym (row-8100 settype))
       (record { number = rw e; flagged-so = λ z. refl; lack-so = λ z. sym (no-group settype) })
 
   pub second-unfit : fits_label 8100 c ≡ false
       → Stepped (row_of settype 8100) settype (flagged_of start_group no_flags start_top) no_refusal at 8100 c (record { no = bad_content; group = start_group }) no_flags start_top
   unfolding line_no label_no place_no repeated_no content_no
   second-unfit e =
-      subst (λ (o : Found). Stepped o settype (flagged_of start_group no_flags start_top) no_refusal at 8100 c (record { no = bad_content; group = start_group }) no_flags start_top) (sym (row-8100 settype))
+      subst (λ (o : Found). Stepped o settype (flagged_of start_group no_flags start_top) no_refusal at 8100 c (record { no = bad_content; group = start_group }) no_flags start_top)
+      (sym (row-8100 settype))
       (record { number = rw e; flagged-so = λ z. absurd (omega arith); lack-so = λ z. absurd (omega arith) })

@@ -184,7 +184,8 @@ module _ (l : ℕ) (small : l < 10 ^ label_digits) (s : List ℕ) where
       ∙ none_from fs (at + line_size f) n h.1 (reads_on s at f (render fs []) h.0 w) (read_back s at (read-line s at f (render fs []) w h.0)).within (λ k q. x (suc k) (omega arith))
 
 -- the walk over a set: where the content of the first line with the label stands
-pub place_is : (l : ℕ) → l < 10 ^ label_digits → (fs : List Field) (t : List ℕ) (k : ℕ) → Every Sound fs → length fs ≤ max_lines → FirstLine l fs k → first_place (render fs t) l ≡ offset fs k + line_lead
+pub place_is : (l : ℕ) → l < 10 ^ label_digits → (fs : List Field) (t : List ℕ) (k : ℕ)
+    → Every Sound fs → length fs ≤ max_lines → FirstLine l fs k → first_place (render fs t) l ≡ offset fs k + line_lead
 place_is l small fs t k h c x = place-from l small (render fs t) fs t 0 max_lines k h refl c x ∙ zero-add (offset fs k + line_lead)
 
 -- and 0 if no line has it, and the set stands alone

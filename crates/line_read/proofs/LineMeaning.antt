@@ -14,7 +14,8 @@ use Rattle.meaning.specs.Digits as D
 use Rattle.meaning.specs.Digits.{digit_zero, digit, all_digits, number}
 use Rattle.meaning.specs.Field.{Field}
 use Rattle.meaning.specs.Refusals.{Fault, at_line, ask, behind, refusal, bad_length, bad_byte}
-use Rattle.meaning.specs.Lines.{length_digits, label_digits, line_lead, line_end, line_size, line_then, size_at, label_at, min_line_bytes, length_ok, whole_ok, end_ok, label_ok, low_bytes, line_faults}
+use Rattle.meaning.specs.Lines.{length_digits, label_digits, line_lead, line_end, line_size, line_then, size_at, label_at}
+use Rattle.meaning.specs.Lines.{min_line_bytes, length_ok, whole_ok, end_ok, label_ok, low_bytes, line_faults}
 use Rattle.meaning.proofs.Bools.{and_right, byte-then}
 use Rattle.meaning.proofs.LineLaws.{Sound, label-line, size-line, content-line, drop-line, faults-line, whole, size-most, sound_back}
 use Rattle.byte_low.proofs.LowLaws.{low-is}

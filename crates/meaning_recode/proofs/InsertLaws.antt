@@ -19,7 +19,8 @@ use Rattle.meaning.specs.Refusals.{Fault, at_line, ask, repeated, missing, other
 use Rattle.meaning.specs.Tables.{table, set_level, is_pair_label, row_label, find_in, find}
 use Rattle.meaning.specs.Groups.{State, first, Role, unknown, strayed, at_set_level, member, no_header, names_row, belongs, role_of, role, stays, next, after, label_faults}
 use Rattle.meaning.specs.Missing.{on_condition, needed, rows_under, ascending, missing_label, lacking_of, lacking, among, open_lacking, groups_lacking, missing_faults}
-use Rattle.meaning.specs.Rules.{Profile, profile, table_of, rows_of, fits, current, content_faults, content_rules, line_rules, role_in, rules_from, start_faults, says_seven_bit, seven_bit, high_faults}
+use Rattle.meaning.specs.Rules.{Profile, profile, table_of, rows_of, fits, current, content_faults, content_rules}
+use Rattle.meaning.specs.Rules.{line_rules, role_in, rules_from, start_faults, says_seven_bit, seven_bit, high_faults}
 use Rattle.meaning.specs.Computes.{computes}
 use Rattle.meaning.proofs.Bools.{Every, and_left, and_right, not-true}
 use Rattle.meaning.proofs.FaultLaws.{append-none, none_both, ask-last, ask-none}

@@ -31,7 +31,8 @@ use Rattle.meaning.proofs.SevenLaws.{seven-none}
 use Rattle.meaning.proofs.CorrectionLaws.{leaves}
 use Rattle.meaning_recode.specs.declared.Code.{Code}
 use Rattle.meaning_recode.specs.Codes.{table_into}
-use Rattle.meaning_recode.specs.Recoding.{has_charset, in_code, all_recoded, added_faults, no_character_from, recode_faults, recode_field, charset_field, with_charset, recode_lines, recode_set, recode}
+use Rattle.meaning_recode.specs.Recoding.{has_charset, in_code, all_recoded, added_faults, no_character_from, recode_faults, recode_field}
+use Rattle.meaning_recode.specs.Recoding.{charset_field, with_charset, recode_lines, recode_set, recode}
 use Rattle.byte_high.specs.High.{plain_front}
 use Rattle.line_find.proofs.FirstPlaceLaws.{FirstLine, NoLine, first_or_none, place_is}
 use Rattle.correct_plan.proofs.TotalLaws.{Headed, headed, size-at}

@@ -20,7 +20,8 @@ use Rattle.meaning_cable.specs.declared.Receiver.{Receiver}
 use Rattle.meaning_cable.specs.Crc.{crc}
 use Rattle.meaning_cable.specs.Stream.{all_data}
 use Rattle.meaning_cable.specs.Blocks.{hex_digits, block_front, block_bytes}
-use Rattle.meaning_cable.specs.Receiving.{data_of, front_of, crc_digits, is_hex, hex_value, all_hex, hex_from, length_ok, head_ok, end_ok, form_ok, crc_ok, block_faults, refusing, bad-form, bad-crc, receive}
+use Rattle.meaning_cable.specs.Receiving.{data_of, front_of, crc_digits, is_hex, hex_value, all_hex, hex_from, length_ok, head_ok}
+use Rattle.meaning_cable.specs.Receiving.{end_ok, form_ok, crc_ok, block_faults, refusing, bad-form, bad-crc, receive}
 use Rattle.meaning_cable.proofs.CrcLaws.{crc-one, crc-lt}
 use Rattle.meaning_cable.proofs.BlockLaws.{Writable, hex-all, hex-back, tail_of, parts-length, front-is, crc-digits-are}
 use Rattle.meaning_cable.proofs.ReceivingLaws.{faultless, faultless-form, takes-receive}
@@ -81,7 +82,8 @@ hex-one (y ∷ q) (suc j) v a l h k e =
 ends-right : (b : List ℕ) → form_ok b ≡ true → (all_hex (crc_digits b) ≡ true) × (get_or b (length b - 1) 0 ≡ cr)
 unfolding form_ok
 ends-right b e =
-    let t : end_ok b ≡ true = and_right (all_data (data_of b)) (end_ok b) (and_right (head_ok b) (all_data (data_of b) && end_ok b) (and_right (length_ok b) (head_ok b && (all_data (data_of b) && end_ok b)) e)) in
+    let t : end_ok b ≡ true =
+    and_right (all_data (data_of b)) (end_ok b) (and_right (head_ok b) (all_data (data_of b) && end_ok b) (and_right (length_ok b) (head_ok b && (all_data (data_of b) && end_ok b)) e)) in
     (and_left (all_hex (crc_digits b)) (eqb (get_or b (length b - 1) 0) cr) t, eqb-true (get_or b (length b - 1) 0) cr (and_right (all_hex (crc_digits b)) (eqb (get_or b (length b - 1) 0) cr) t))
 
 -- what the CRC test of a block says

@@ -43,7 +43,8 @@ use Rattle.meaning_cable.specs.Stream.{bare_then, stream, restored, all_data}
 use Rattle.meaning_cable.specs.Blocks.{through_first, block_count, cut_at, block_data, joined, b00, block_label, hex_digits, block_front, block_bytes, set_alone, blocks_of, block}
 use Rattle.meaning_cable.specs.Sending.{under_way, delivered, given_up, ack1, ack0, is_ack, action, sends, end_of, Begins, Follows, taken, last_taken, again, afresh as begin-again, over, ended}
 use Rattle.meaning_cable.specs.Sending.{to_send, begun, turn_of, send, link_left, after, Ended}
-use Rattle.meaning_cable.specs.Receiving.{max_block, count_of, label_of, data_of, form_ok, crc_ok, block_faults, ReceiveCall, is_taken, is_again, is_whole, ack_of, keeping, refusing, took_one, open_by}
+use Rattle.meaning_cable.specs.Receiving.{max_block, count_of, label_of, data_of, form_ok, crc_ok, block_faults, ReceiveCall, is_taken}
+use Rattle.meaning_cable.specs.Receiving.{is_again, is_whole, ack_of, keeping, refusing, took_one, open_by}
 use Rattle.meaning_cable.specs.Receiving.{TakenAt, afresh, goes-on, ends, next-set, Takes, bad-form, bad-crc, zero-other, last-again, label-in-set, label-no-set, other-count, fitted, no-room}
 use Rattle.meaning_cable.specs.Receiving.{turned, by_faults, receive}
 use Rattle.meaning_cable.specs.CableCalls.{SendCall, send_call, asked, block_call, received_call, kept_by}

@@ -8,7 +8,8 @@ use Rattle.cable_data.proofs.put_data.Given as goal
 
 abbrev pub invariant-loop-i : goal.invariant-loop-i
 invariant-loop-i l =
-    (l.i ≤ l.n) × (length l.out ≡ length l.initial.out) × (place_after l.set l.at (l.n - l.i) ≤ length l.set) × (over (l.to + l.i) (data_from l.set l.at (l.n - l.i)) l.out ≡ over l.to (data_from l.set l.from l.n) l.initial.out)
+    (l.i ≤ l.n) × (length l.out ≡ length l.initial.out) × (place_after l.set l.at (l.n - l.i) ≤ length l.set)
+    × (over (l.to + l.i) (data_from l.set l.at (l.n - l.i)) l.out ≡ over l.to (data_from l.set l.from l.n) l.initial.out)
 
 abbrev pub decreases-loop-i : goal.decreases-loop-i
 decreases-loop-i l = l.n - l.i
