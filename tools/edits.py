@@ -309,7 +309,8 @@ def crate_checked(crate):
 
 
 GONE = PLACE + r"proofs/(?:\w+/)*(\w+)/\w+\.antt:\d+:\d+: error: .*: module `[^`]*` has no `([^`]+)` that can be named"
-ASKED = r"^help: `\w+` has no `%s`; rattle asks for (.*)$|^note: .* \(`([^`]+)`\)"
+ASKED = r"^help: `\w+` has no `%s`; rattle asks for (.*)$"
+UNPROVED = r"^note: .* \(`([^`]+)`\)"  # of any function, where the prover says no more
 LOST = PLACE + r"proofs/(?:\w+/)*(\w+)/\w+\.antt:\d+:\d+: error: .*: record `[^`]*` has no field `([^`]+)` \(nearest: ([^)]*)\)"
 BRANCH = r".*?(?:^|-)(?:then|else|if|loop)-"  # how the name of a goal goes on: the condition of a branch, by its words
 
@@ -320,7 +321,7 @@ def renamed(crate, said):
     texts, pairs = {}, set()
     for function, gone in re.findall(GONE, said, re.M):
         begins = re.match(BRANCH, gone)
-        asked = {name for some, one in re.findall(ASKED % re.escape(gone), said, re.M) for name in [*re.findall(r"`([^`]+)`", some), one]}
+        asked = {name for some in re.findall(ASKED % re.escape(gone), said, re.M) for name in re.findall(r"`([^`]+)`", some)} or set(re.findall(UNPROVED, said, re.M))
         known = "".join(texts_of(crate, function).values())
         found = {name[begins.end() :] for name in asked if begins and name.startswith(begins[0]) and not re.search(r"^(?:pub )?%s(?![\w-])" % re.escape(name), known, re.M)}
         pairs |= {(function, r"(?<=-)%s(?![\w-])" % re.escape(gone[begins.end() :]), found.pop())} if len(found) == 1 else set()
