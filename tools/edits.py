@@ -394,6 +394,7 @@ def at_once(call, wanted):
 
 DEPENDS = r"\d+ declarations? that depends? on `(\S+)`.*not checked: (.*)"  # what was not checked since it rests on what failed: the first three of it
 NO_NAME = "is not in scope|has no `|has no field"  # a name that nothing has
+BY_WORDS = r"record `Rattle\.\S*\.Lts\.[^`]*` has no field `if-|module `Rattle\.\S*\.Goals` has no `[^`]*-(?:then|else|if|loop)-"  # one that the prover makes by the words of a condition
 CALLS = "it calls |which has no proof|its contract rests on "  # a function has no proof since it rests on another
 OWN_GOALS = "did not prove|expected a measure|expected an invariant|expected answers"  # what of its own is not proved, beside that
 
@@ -434,10 +435,13 @@ def failed(log, crate):
 
 def senseless(log):
     """What in a prover's log shows that an edit says nothing that could be wrong: an error in the changed definitions or code themselves, a name that nothing has, or an error
-    of a whole file, as a name that it cannot import. A fact that does not hold is an error of one declaration of proofs/, or of what depends on one, or none in a file of it."""
+    of a whole file, as a name that it cannot import. A fact that does not hold is an error of one declaration of proofs/, or of what depends on one, or none in a file of it.
+    A name that the prover makes by the words of a condition may be gone in the proof of a function that fails for a fact, too: an edit may exchange two conditions."""
     errors = re.findall(PLACE + r"(\S+?\.(?:rt|antt):\d+:\d+): error(.*)", log, re.M)
     fact = r": (`[^`]+`: |%s)" % DEPENDS
-    return [place + why for place, why in errors if not place.startswith("proofs/") or re.search(NO_NAME, why) or not re.match(fact, why)]
+    wrong = [(place, why) for place, why in errors if not place.startswith("proofs/") or re.search(NO_NAME, why) or not re.match(fact, why)]
+    by_fact = {os.path.dirname(place) for place, why in errors if (place, why) not in wrong}
+    return [place + why for place, why in wrong if not (re.search(BY_WORDS, why) and os.path.dirname(place) in by_fact)]
 
 
 def proved(crate):
