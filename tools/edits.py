@@ -399,15 +399,30 @@ CALLS = "it calls |which has no proof|its contract rests on "  # a function has 
 OWN_GOALS = "did not prove|expected a measure|expected an invariant|expected answers"  # what of its own is not proved, beside that
 
 
+def declared(lines):
+    """Each declaration of these lines of a file, and of the modules in it, with its text: its signature and its equations, where a block begins at the least indentation."""
+    indent = min((len(line) - len(line.lstrip()) for line in lines if line.strip()), default=0)
+    blocks = []
+    for line in lines:
+        if line.strip() and len(line) - len(line.lstrip()) == indent:
+            blocks.append([])
+        if blocks:
+            blocks[-1].append(line)
+    for block in blocks:
+        head = re.match(r"(?:(?:pub|abbrev|unfoldable|record|data) )*([^\s:=(){}]+)", block[0].lstrip())
+        if head and head[1] == "module":
+            yield from declared(block[1:])
+        elif head and head[1] not in ("use", "mod", "open", "unfolding"):
+            yield head[1], "\n".join(block)
+
+
 def resting(crate, path, name):
     """The declarations of a file of a crate that name this one, and those that name these."""
     with open(os.path.join("crates", crate, path + ".antt"), encoding="utf-8") as file:
-        blocks = re.split(r"^(?=\S)", re.sub(r"--.*", "", file.read()), flags=re.M)
+        lines = re.sub(r"--.*", "", file.read()).split("\n")
     texts, found, reached = {}, set(), {name}
-    for block in blocks:
-        head = re.match(r"(?:(?:pub|abbrev|unfoldable|record|data) )*([^\s:=(){}]+)", block)
-        if head and head[1] not in ("use", "mod", "module", "unfolding"):
-            texts[head[1]] = texts.get(head[1], "") + block
+    for one, text in declared(lines):
+        texts[one] = texts.get(one, "") + text
     while reached:
         reached = {one for one, text in texts.items() if one not in found and reached & set(re.findall(r"[^\s(){},;]+", text)) - {one}}
         found |= reached
@@ -422,7 +437,7 @@ def failed(log, crate):
         every.add(label)
         itself |= set() if "was not admitted" in why else {label}
     for path, name, names in re.findall(PLACE + r"((?:proofs|specs)/\w+)\.antt:\d+:\d+: error: " + DEPENDS, log, re.M):
-        said = {one for one in re.split(", | and ", names) if not re.fullmatch(r"\d+ more", one)}
+        said = {one for one in re.split(", | and ", re.sub(r" \(via \S+\)", "", names)) if not re.fullmatch(r"\d+ more", one)}
         every |= {"%s:%s.%s" % (crate, os.path.basename(path), one) for one in said | (resting(crate, path, name) if names.endswith(" more") else set())}
     for name, why in re.findall(r"^fn %s::(?:\w+::)*(\w+): (not proved.*|no proof.*)$" % crate, log, re.M):
         label = "%s::%s" % (crate, name)
