@@ -5,7 +5,7 @@ import glob
 import re
 from typing import Dict, List, NamedTuple, Tuple
 
-HEAD = re.compile(r"^( *)(pub )?(extern \"C\" )?fn (\w+)(?:<[^>]*>)?\((.*?)\)( ->[^\n{]*)?(?: \{|$(.*?)^\1\{)", re.M | re.S)
+HEAD = re.compile(r"^( *)(pub )?(extern \"C\" )?fn (\w+)(?:<[^>]*>)?\(((?:[^()]|\([^()]*\))*)\)( ->(?:[^\n{;\[]|\[[^\n\]]*\])*)?(?:;| \{|$((?:(?!^\1\{|;$).)*?)(?:^\1\{|;$))", re.M | re.S)
 CLAUSE = re.compile(r"(ensures|requires)(?: \w+)? \{((?:[^{}]|\{(?:[^{}]|\{[^{}]*\})*\})*)\}")  # it has a name if there are several of its kind; records stand in braces, too
 LOGIC = re.compile(r"[∨∧→↔⊤⊥×⊎≡≢λ∀∃]")
 RESULT = "result"
@@ -24,6 +24,12 @@ class Function(NamedTuple):
     strange: str  # what else stands in its contract
     calls: List[str]
     span: Tuple[int, int, int]  # in its file: where it starts, where its body does, where it ends
+
+
+@functools.lru_cache(None)
+def of_traits():
+    """The functions of the project that are a trait's."""
+    return {name for name in functions(sources()) if name.count("::") == 2}
 
 
 def source(path):
@@ -46,19 +52,32 @@ def own_crates():
     return set(re.findall(r"^(\w+)[^#:\n]*:", open("crates.txt", encoding="utf-8").read(), re.M))
 
 
+@functools.lru_cache(None)
+def cited(crate):
+    """The crates that a crate cites, and theirs."""
+    near = re.search(r"^%s(?: [^:\n]*)?:(.*)$" % crate, open("crates.txt", encoding="utf-8").read(), re.M)[1].split()
+    return {*near, *(below for one in near for below in cited(one))}
+
+
 # ---- Functions ---------------------------------------------------------------------------------------------------------------------
 
 
 def parameters(text):
-    """The parameters of a function by name. Those of an array type have no comma in it that would part them."""
-    parts = [part.strip() for part in text.split(",") if part.strip()]
-    return {name.strip().removeprefix("mut "): kind.strip() for name, _, kind in (part.partition(":") for part in parts)}
+    """The parameters of a function by name, each with its type, without the commas that stand within a type; `self` has the type that its signs say."""
+    parts = [part.strip() for part in re.split(r",(?![^<>]*>|[^()]*\))", text) if part.strip()]
+    own = next((part for part in parts if re.fullmatch(r"(&('\w+ )?)?(mut )?self", part)), None)
+    found = {"self": own.replace("self", "Self")} if own else {}
+    found.update((name.strip().removeprefix("mut "), kind.strip()) for name, _, kind in (part.partition(":") for part in parts if part != own))
+    return found
 
 
 def heads(path, text):
     """The heads of the functions of a file, with the place after each one's closing brace."""
     found = []
     for head in HEAD.finditer(text):
+        if head[0].endswith(";"):
+            found.append((head, head.end()))  # a trait's, without a body
+            continue
         end = re.compile(r"^%s\}$" % head[1], re.M).search(text, head.end())
         assert end, "%s: where %s ends is not understood" % (path, head[4])
         found.append((head, end.end()))
@@ -66,19 +85,50 @@ def heads(path, text):
     return found
 
 
+IMPL = re.compile(r"^impl(?:<[^\n]*?>)? ([^\n]*?) for ([^\n{]*?)(?:<[^\n]*>)? \{$(.*?)^\}", re.M | re.S)
+TRAIT = re.compile(r"^pub trait [^\n]*\{$.*?^\}", re.M | re.S)
+GIVES = re.compile(r"^    ghost from_gives = \{ λ (\w+) (\w+)\. (.*) \};$", re.M)  # the contract of `from`
+
+
+def around(form, text, place):
+    """What of this form stands around a place; None if nothing does."""
+    return next((one for one in form.finditer(text) if one.start() <= place < one.end()), None)
+
+
+def impl_around(text, place):
+    """The name that the prover gives the `impl TRAIT for TYPE` around a place, as `ExitCodeFromStatus::`; nothing if there is none."""
+    found = around(IMPL, text, place)
+    return "".join(word[0].upper() + word[1:] for word in re.findall(r"\w+", found[2] + " " + found[1])) + "::" if found else ""
+
+
+def public_by_trait(text, place):
+    """Whether the function at a place is as public as a trait: one of a trait that is `pub`, or of an impl for a type that is, or that is not of this file."""
+    found = around(IMPL, text, place)
+    hidden = found and re.search(r"^(?!pub )[^\n]*\b(?:struct|enum) %s\b" % re.escape(found[2]), text, re.M)
+    return bool(found and not hidden or around(TRAIT, text, place))
+
+
+def given_by_impl(text, place, given):
+    """What an impl of `From` says of the function at a place, as its `ensures`."""
+    found = around(IMPL, text, place)
+    for taken, made, said in GIVES.findall(found[3] if found else ""):
+        yield re.sub(r"(?<![\w.])%s(?![\w'-])" % taken, next(iter(given)), re.sub(r"(?<![\w.])%s(?![\w'-])" % made, RESULT, said))
+
+
 def functions(texts) -> Dict[str, Function]:
-    """Every function of the code by its name, crate::name."""
+    """Every function of the code by its name, crate::name, and that of a trait by crate::impl::name."""
     found = {}
     for path, text in texts.items():
         for head, end in heads(path, text):
-            name, contract = "%s::%s" % (crate_of(path), head[4]), head[7] or ""
+            name, contract = "%s::%s%s" % (crate_of(path), impl_around(text, head.start()), head[4]), head[7] or ""
             assert name not in found, "%s: two functions %s" % (path, head[4])
             marked = re.search(r"#\[(?:unsafe\()?(no_mangle|export_name)[^\n]*\n(\s*#\[[^\n]*\n)*\s*\Z", text[: head.start()])
             ensures = [" ".join(said.split()) for word, said in CLAUSE.findall(contract) if word == "ensures"]
             strange = " ".join(CLAUSE.sub("", contract).split())
             span = (head.start(), head.end(), end)
             given = parameters(head[5])
-            found[name] = Function(path, bool(head[2]), bool(head[3] or marked), "requires" in contract, given, bool(head[6]), ensures, strange, [], span)
+            ensures += given_by_impl(text, head.start(), given)
+            found[name] = Function(path, bool(head[2]) or public_by_trait(text, head.start()), bool(head[3] or marked), "requires" in contract, given, bool(head[6]), ensures, strange, [], span)
     for name, calls in called(texts, found).items():
         found[name].calls.extend(calls)
     return found
@@ -92,10 +142,18 @@ def brought(text):
 
 
 def called(texts, found):
-    """The functions of the project that each function calls: by its crate, a module of its own crate, a type that has it, a name that is imported, or as a method."""
-    types, methods = {}, {name.split("::")[1]: name for name in found if "self" in found[name].given}
+    """The functions of the project that each function calls: by its crate, a module of its own crate, a type that has it, a name that is imported, or as a method of a
+    crate that stands below its own; `into` calls each `from` of an impl for a type that it names, and a macro that writes calls `write`."""
+    types, methods, made = {}, {}, {}
+    for name in found:
+        if "self" in found[name].given:
+            methods.setdefault(name.split("::")[-1], set()).add(name)
     for path, text in texts.items():
-        for kind in re.findall(r"^impl (\w+)", text, re.M):
+        for one in IMPL.finditer(text):
+            inside = {name for name in found if found[name].path == path and one.start() <= found[name].span[0] < one.end()}
+            made.setdefault(re.match(r"\w+", one[2])[0], set()).update(inside)
+    for path, text in texts.items():
+        for kind in re.findall(r"^impl(?:<[^\n]*?>)? (\w+)(?:<[^\n]*>)? \{", text, re.M):
             assert kind not in types, "%s: a second crate has functions of a type %s" % (path, kind)
             types[kind] = crate_of(path)
     crates, calls = {name.split("::")[0] for name in found}, {}
@@ -104,11 +162,15 @@ def called(texts, found):
         uses = brought(text)
         uses.update((other, crate) for crate, other in re.findall(r"^use (\w+) as (\w+);", text, re.M))
         calls[name] = set()
-        for dot, way, last in re.findall(r"(\.?)((?:\b\w+::)*)\b(\w+)\(", text[function.span[1] : function.span[2]]):
+        near = {own, *cited(own)}
+        whole, body = text[function.span[0] : function.span[2]], text[function.span[1] : function.span[2]]
+        for dot, way, last in re.findall(r"(\.?)((?:\b\w+::)*)\b(\w+)(?:::<[^()]*?>)?\(", re.sub(r"\bwrite(ln)?!\(", ".write(", body)):
             of = way[:-2].split("::")[-1] or ("" if "%s::%s" % (own, last) in found else last)
             home = of if of in crates else types.get(of) or uses.get(of, own)
-            other = methods.get(last) if dot else "%s::%s" % (own if home == "crate" else home, last)
-            calls[name] |= {other} & set(found)
+            others = {"%s::%s" % (own if home == "crate" else home, last)} if not dot else {one for one in methods.get(last, ()) if one.split("::")[0] in near}
+            kinds = re.findall(r"\w+", whole) if dot and last == "into" else [of]
+            others |= {one for kind in kinds for one in made.get(kind, ()) if one.endswith("::from" if dot else "::" + last)}
+            calls[name] |= others & set(found)
     return {name: sorted(others) for name, others in calls.items()}
 
 

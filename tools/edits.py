@@ -12,6 +12,8 @@ import subprocess
 import tempfile
 import time
 
+from contracts import of_traits
+
 ROOT = os.path.dirname(os.path.dirname(os.path.abspath(__file__)))
 LOGS = os.path.join("target", "loop")
 SLIP_LOGS = os.path.join("target", "must-fail")  # what the prover said of each slip alone
@@ -439,8 +441,8 @@ def failed(log, crate):
     for path, name, names in re.findall(PLACE + r"((?:proofs|specs)/\w+)\.antt:\d+:\d+: error: " + DEPENDS, log, re.M):
         said = {one for one in re.split(", | and ", re.sub(r" \(via \S+\)", "", names)) if not re.fullmatch(r"\d+ more", one)}
         every |= {"%s:%s.%s" % (crate, os.path.basename(path), one) for one in said | (resting(crate, path, name) if names.endswith(" more") else set())}
-    for name, why in re.findall(r"^fn %s::(?:\w+::)*(\w+): (not proved.*|no proof.*)$" % crate, log, re.M):
-        label = "%s::%s" % (crate, name)
+    for full, name, why in re.findall(r"^fn (%s::(?:\w+::)*(\w+)): (not proved.*|no proof.*)$" % crate, log, re.M):
+        label = full if full in of_traits() else "%s::%s" % (crate, name)
         own = re.findall(PLACE + r"proofs/(?:\w+/)*%s/\w+\.antt:\d+:\d+: error: `\S+`: (.*)" % name, log, re.M)
         every.add(label)
         rests = re.search(CALLS, why) and not re.search(OWN_GOALS, why)

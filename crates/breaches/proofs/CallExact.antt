@@ -12,7 +12,6 @@ use lib.Seq.{take_all}
 use borrow.Author.Tests.{leb-true, leb-false, le-leb, lt-leb, eqb-true}
 use Rattle.meaning.specs.declared.Refusal.{Refusal}
 use Rattle.meaning.specs.declared.Shape.{Shape}
-use Rattle.meaning.specs.declared.Judged.TheVariants.{Refused}
 use Rattle.meaning.specs.Limits.{max_set_bytes}
 use Rattle.meaning.specs.Field.{Field, label_at_line, is_nil}
 use Rattle.meaning.specs.Refusals.{Spot, byte, Fault, at_line, at_byte, ask, Reply, refused, done, refusal, then_to, verdict, with_room}
@@ -48,6 +47,7 @@ use Rattle.breaches.specs.CallBreaches.{IndexRefused, ListRefused, as-the-set, n
 use Rattle.breaches.specs.CallBreaches.{high-byte, CorrectionRefused, used_over, of-change}
 use Rattle.breaches.proofs.FirstHigh.{HighIn, high-in, high-found}
 use Rattle.breaches.proofs.FirstOnly.{refused-exactly-with}
+use Rattle.std.specs.Prelude.{Err}
 
 -- ---- what every call has that is given a set
 
@@ -59,7 +59,7 @@ pub read-refused : (s : List ℕ) (r : Refusal) → (read s ≡ refused r) ↔ F
 unfolding judge
 read-refused s r = (λ e. (refused-exactly-with s r).0 (ap judged e), λ x. go (read s) refl ((refused-exactly-with s r).1 x))
   where
-    go : (y : Reply Parsed) → read s ≡ y → judged y ≡ Refused r → read s ≡ refused r
+    go : (y : Reply Parsed) → read s ≡ y → judged y ≡ Err r → read s ≡ refused r
     go (refused y) q f = q ∙ ap refused (refusal-same f)
     go (done d) q f = refused-accepted (sym f)
 

@@ -10,8 +10,6 @@ use lib.ListN.{length, get_or, get_or-map}
 use borrow.Author.Tests.{eqb-true, eqb-false}
 use Rattle.meaning.specs.declared.Refusal.{Refusal}
 use Rattle.meaning.specs.declared.Shape.{Shape}
-use Rattle.meaning.specs.declared.Judged.{Judged}
-use Rattle.meaning.specs.declared.Judged.TheVariants.{Accepted, Refused}
 use Rattle.meaning.specs.declared.SetType.{SetType}
 use Rattle.meaning.specs.Limits.{type_number}
 use Rattle.meaning.specs.Digits.{digits, number}
@@ -46,6 +44,8 @@ use Rattle.breaches.proofs.FirstLine.{line-none-before, scanned-no-breach, befor
 use Rattle.breaches.proofs.FirstHigh.{FirstHigh, set-high}
 use Rattle.breaches.proofs.FirstRule.{RuleFirst, rule-first, FirstFault, first-fault, fine-line, behind-line}
 use Rattle.breaches.proofs.FirstMissing.{MissingFirst, in-set, in_group, in-name, missing-first}
+use Rattle.meaning.specs.Results.{Judged}
+use Rattle.std.specs.Prelude.{Err, Ok}
 
 -- ---- ranks
 
@@ -475,11 +475,11 @@ read_first s r e = go (scan s) refl e
     go (done d) p q = rules d p (set_faults d.fields) refl q
 
 -- "So the first fault in this order is the answer, and a refusal is given only for it."
-pub refused-first : (s : List ℕ) (r : Refusal) → judge s ≡ Refused r → FirstBreach s r
+pub refused-first : (s : List ℕ) (r : Refusal) → judge s ≡ Err r → FirstBreach s r
 unfolding judge
 refused-first s r e = go (read s) refl e
   where
-    go : (y : Reply Parsed) → read s ≡ y → judged y ≡ Refused r → FirstBreach s r
+    go : (y : Reply Parsed) → read s ≡ y → judged y ≡ Err r → FirstBreach s r
     go (refused y) p q = read_first s r (p ∙ ap refused (refusal-same q))
     go (done d) p q = refused-accepted (sym q)
 
@@ -506,13 +506,13 @@ keeps-no-breach s t fs rest k b =
     no-breach-but s fs rest (keeps-lines s t fs rest k) t k.rules.starts k.rules.second-8100 (faults-none t fs k.rules) k.rules (rank 7 0 0 0)
     (λ q z. q k.sum-is-length) b (inl (stage-most s b))
 
-pub accepted-no-breach : (s : List ℕ) (x : Shape) → judge s ≡ Accepted x → Breach s → ⊥
+pub accepted-no-breach : (s : List ℕ) (x : Shape) → judge s ≡ Ok x → Breach s → ⊥
 accepted-no-breach s x e b = let f = (accepted-exactly s x).0 e in keeps-no-breach s f.set-type f.lines f.rest f.keeps b
 
 -- a set is refused exactly when there is a breach
-pub refused-for-a-breach : (s : List ℕ) → ((r : Refusal) × (judge s ≡ Refused r)) ↔ Breach s
+pub refused-for-a-breach : (s : List ℕ) → ((r : Refusal) × (judge s ≡ Err r)) ↔ Breach s
 refused-for-a-breach s = (λ x. (refused-first s x.0 x.1).breach, go (judge s) refl)
   where
-    go : (j : Judged) → judge s ≡ j → Breach s → (r : Refusal) × (judge s ≡ Refused r)
-    go (Accepted x) e b = absurd (accepted-no-breach s x e b)
-    go (Refused r) e b = (r, e)
+    go : (j : Judged) → judge s ≡ j → Breach s → (r : Refusal) × (judge s ≡ Err r)
+    go (Ok x) e b = absurd (accepted-no-breach s x e b)
+    go (Err r) e b = (r, e)

@@ -10,8 +10,6 @@ use lib.Dec.{eqb}
 use mathlib.Core.Bool.{Bool, true, false}
 use Rattle.meaning.specs.declared.Refusal.{Refusal}
 use Rattle.meaning.specs.declared.SetType.{SetType}
-use Rattle.meaning.specs.declared.Judged.{Judged}
-use Rattle.meaning.specs.declared.Judged.TheVariants.{Accepted, Refused}
 use Rattle.meaning.specs.Field.{Field, label_at_line}
 use Rattle.meaning.specs.Refusals.{refusal, empty, too_many_lines, no_sum, missing, bad_sum, high_byte}
 use Rattle.meaning.specs.Lines.{line_lead, size, offset, render, size_at, field_at}
@@ -25,6 +23,8 @@ use Rattle.breaches.specs.Breaches.{of-group, of-name, missing_refusal, missing_
 use Rattle.breaches.specs.Breaches.{in-high, in_sum, refusal_of, rank_of, Rank, Before, FirstBreach}
 use Rattle.breaches.proofs.FirstLine.{sounds, stage-of, line_of}
 use Rattle.breaches.proofs.FirstBreach.{start-stage, missing-stage, one_list, refused-first, accepted-no-breach}
+use Rattle.meaning.specs.Results.{Judged}
+use Rattle.std.specs.Prelude.{Err, Ok}
 
 -- ---- the refusal by rank and lines
 
@@ -200,9 +200,9 @@ one-first s r q f g =
     f.its-refusal ∙ (same_rank s f.breach g.breach e ∙ sym g.its-refusal)
 
 -- a set is refused with number, place and label r exactly when r is that of the first breach in the paper's order
-pub refused-exactly-with : (s : List ℕ) (r : Refusal) → (judge s ≡ Refused r) ↔ FirstBreach s r
+pub refused-exactly-with : (s : List ℕ) (r : Refusal) → (judge s ≡ Err r) ↔ FirstBreach s r
 refused-exactly-with s r = (refused-first s r, λ f. go f (judge s) refl)
   where
-    go : FirstBreach s r → (j : Judged) → judge s ≡ j → judge s ≡ Refused r
-    go f (Accepted x) e = absurd (accepted-no-breach s x e f.breach)
-    go f (Refused q) e = e ∙ ap Refused (one-first s q r (refused-first s q e) f)
+    go : FirstBreach s r → (j : Judged) → judge s ≡ j → judge s ≡ Err r
+    go f (Ok x) e = absurd (accepted-no-breach s x e f.breach)
+    go f (Err q) e = e ∙ ap Err (one-first s q r (refused-first s q e) f)

@@ -9,12 +9,6 @@ use lib.ListN.{length, take, get_or, replicate}
 use Rattle.meaning.specs.declared.Refusal.{Refusal}
 use Rattle.meaning.specs.declared.Shape.{Shape}
 use Rattle.meaning.specs.declared.Entry.{Entry}
-use Rattle.meaning.specs.declared.Judged.{Judged}
-use Rattle.meaning.specs.declared.Judged.TheVariants.{Accepted, Refused}
-use Rattle.meaning.specs.declared.Made.{Made}
-use Rattle.meaning.specs.declared.Made.TheVariants.{Done, Refused as RefusedCall}
-use Rattle.meaning.specs.declared.Viewed.{Viewed}
-use Rattle.meaning.specs.declared.Viewed.TheVariants.{Set}
 use Rattle.meaning.specs.Field.{Field}
 use Rattle.meaning.specs.Refusals.{Reply, refused, done, refusal}
 use Rattle.meaning.specs.Reading.{judge}
@@ -44,6 +38,9 @@ use Rattle.breaches.specs.CallBreaches.{IndexRefused, ListRefused, CorrectionRef
 use Rattle.breaches.proofs.FirstBreach.{refused-for-a-breach}
 use Rattle.breaches.proofs.FirstOnly.{refused-exactly-with}
 use Rattle.breaches.proofs.CallExact.{refused-same, index-refused-with, list-refused-with, correction-refused-with}
+use Rattle.meaning.specs.Results.{Judged, Made, Viewed, of_set}
+use Rattle.meaning.specs.declared.Shown.TheVariants.{Set}
+use Rattle.std.specs.Prelude.{Err, Ok}
 
 -- ---- the inputs
 
@@ -64,20 +61,20 @@ in_buffer = p ++ replicate 9 7
 abbrev p_shape : Shape
 p_shape = record { length = 51; lines = 4; settype = 6300 }
 
-judge-p : judge p ≡ Accepted p_shape
+judge-p : judge p ≡ Ok p_shape
 unfolding computes p
 judge-p = refl
 
-judge-q : judge q ≡ Accepted (record { length = 55; lines = 4; settype = 6300 })
+judge-q : judge q ≡ Ok (record { length = 55; lines = 4; settype = 6300 })
 unfolding computes q
 judge-q = refl
 
-judge-none : judge [] ≡ Refused (refusal 1 0 0)
+judge-none : judge [] ≡ Err (refusal 1 0 0)
 unfolding computes
 judge-none = refl
 
 -- one byte, under three
-judge-cut : judge (text "x") ≡ Refused (refusal 2 0 0)
+judge-cut : judge (text "x") ≡ Err (refusal 2 0 0)
 unfolding computes
 judge-cut = refl
 
@@ -101,7 +98,7 @@ correct-q : correct in_buffer 51 4 (text "10027") ≡ done q
 unfolding computes p q in_buffer
 correct-q = refl
 
-viewing-p : viewing p [] 4 ≡ done (Set (record { place = 48; length = 1 }))
+viewing-p : viewing p [] 4 ≡ done (of_set (record { place = 48; length = 1 }))
 unfolding computes p
 viewing-p = refl
 
@@ -113,7 +110,7 @@ p-q e = let z : ◌≡◌ {A = ℕ} 51 55 = ap length e in omega arith
 
 -- accepted-exactly: nothing given
 abbrev SaysAcceptedExactly : (List ℕ → Judged) → Type 0
-SaysAcceptedExactly judge = (s : List ℕ) (x : Shape) → (judge s ≡ Accepted x) ↔ SetAtFront s x
+SaysAcceptedExactly judge = (s : List ℕ) (x : Shape) → (judge s ≡ Ok x) ↔ SetAtFront s x
 
 accepted-exactly-says : SaysAcceptedExactly judge
 accepted-exactly-says = accepted-exactly
@@ -124,69 +121,69 @@ front-p = (accepted-exactly p p_shape).0 judge-p
 no_front : (x : Shape) → SetAtFront [] x → ⊥
 no_front x f = refused-accepted (sym judge-none ∙ (accepted-exactly [] x).1 f)
 
-accepted-exactly-not-refusing : (r : List ℕ → Refusal) → SaysAcceptedExactly (λ s. Refused (r s)) → ⊥
+accepted-exactly-not-refusing : (r : List ℕ → Refusal) → SaysAcceptedExactly (λ s. Err (r s)) → ⊥
 accepted-exactly-not-refusing r h = refused-accepted ((h p p_shape).1 front-p)
 
 accepted-exactly-not-same : (a : Judged) → SaysAcceptedExactly (λ s. a) → ⊥
-accepted-exactly-not-same (Refused r) h = accepted-exactly-not-refusing (λ s. r) h
-accepted-exactly-not-same (Accepted x) h = no_front x ((h [] x).0 refl)
+accepted-exactly-not-same (Err r) h = accepted-exactly-not-refusing (λ s. r) h
+accepted-exactly-not-same (Ok x) h = no_front x ((h [] x).0 refl)
 
 -- refused-exactly: nothing given
 abbrev SaysRefusedExactly : (List ℕ → Judged) → Type 0
-SaysRefusedExactly judge = (s : List ℕ) → ((r : Refusal) × (judge s ≡ Refused r)) ↔ ((x : Shape) → SetAtFront s x → ⊥)
+SaysRefusedExactly judge = (s : List ℕ) → ((r : Refusal) × (judge s ≡ Err r)) ↔ ((x : Shape) → SetAtFront s x → ⊥)
 
 refused-exactly-says : SaysRefusedExactly judge
 refused-exactly-says = refused-exactly
 
-refused-exactly-not-refusing : (r : List ℕ → Refusal) → SaysRefusedExactly (λ s. Refused (r s)) → ⊥
+refused-exactly-not-refusing : (r : List ℕ → Refusal) → SaysRefusedExactly (λ s. Err (r s)) → ⊥
 refused-exactly-not-refusing r h = (h p).0 (r p, refl) p_shape front-p
 
 refused-exactly-not-same : (a : Judged) → SaysRefusedExactly (λ s. a) → ⊥
-refused-exactly-not-same (Refused r) h = refused-exactly-not-refusing (λ s. r) h
-refused-exactly-not-same (Accepted x) h = refused-accepted (sym ((h []).1 no_front).1)
+refused-exactly-not-same (Err r) h = refused-exactly-not-refusing (λ s. r) h
+refused-exactly-not-same (Ok x) h = refused-accepted (sym ((h []).1 no_front).1)
 
 -- refused-for-a-breach: nothing given
 abbrev SaysRefusedForABreach : (List ℕ → Judged) → Type 0
-SaysRefusedForABreach judge = (s : List ℕ) → ((r : Refusal) × (judge s ≡ Refused r)) ↔ Breach s
+SaysRefusedForABreach judge = (s : List ℕ) → ((r : Refusal) × (judge s ≡ Err r)) ↔ Breach s
 
 refused-for-a-breach-says : SaysRefusedForABreach judge
 refused-for-a-breach-says = refused-for-a-breach
 
-refused-for-a-breach-not-refusing : (r : List ℕ → Refusal) → SaysRefusedForABreach (λ s. Refused (r s)) → ⊥
+refused-for-a-breach-not-refusing : (r : List ℕ → Refusal) → SaysRefusedForABreach (λ s. Err (r s)) → ⊥
 refused-for-a-breach-not-refusing r h = refused-accepted (sym ((refused-for-a-breach p).1 ((h p).0 (r p, refl))).1 ∙ judge-p)
 
 refused-for-a-breach-not-same : (a : Judged) → SaysRefusedForABreach (λ s. a) → ⊥
-refused-for-a-breach-not-same (Refused r) h = refused-for-a-breach-not-refusing (λ s. r) h
-refused-for-a-breach-not-same (Accepted x) h = refused-accepted (sym ((h []).1 ((refused-for-a-breach []).0 (refusal 1 0 0, judge-none))).1)
+refused-for-a-breach-not-same (Err r) h = refused-for-a-breach-not-refusing (λ s. r) h
+refused-for-a-breach-not-same (Ok x) h = refused-accepted (sym ((h []).1 ((refused-for-a-breach []).0 (refusal 1 0 0, judge-none))).1)
 
 -- refused-exactly-with: nothing given
 abbrev SaysRefusedExactlyWith : (List ℕ → Judged) → Type 0
-SaysRefusedExactlyWith judge = (s : List ℕ) (r : Refusal) → (judge s ≡ Refused r) ↔ FirstBreach s r
+SaysRefusedExactlyWith judge = (s : List ℕ) (r : Refusal) → (judge s ≡ Err r) ↔ FirstBreach s r
 
 refused-exactly-with-says : SaysRefusedExactlyWith judge
 refused-exactly-with-says = refused-exactly-with
 
-refused-exactly-with-not-refusing : (r : List ℕ → Refusal) → SaysRefusedExactlyWith (λ s. Refused (r s)) → ⊥
+refused-exactly-with-not-refusing : (r : List ℕ → Refusal) → SaysRefusedExactlyWith (λ s. Err (r s)) → ⊥
 refused-exactly-with-not-refusing r h = refused-accepted (sym ((refused-exactly-with p (r p)).1 ((h p (r p)).0 refl)) ∙ judge-p)
 
 refused-exactly-with-not-same : (a : Judged) → SaysRefusedExactlyWith (λ s. a) → ⊥
-refused-exactly-with-not-same (Refused r) h = refused-exactly-with-not-refusing (λ s. r) h
-refused-exactly-with-not-same (Accepted x) h = refused-accepted (sym ((h [] (refusal 1 0 0)).1 ((refused-exactly-with [] (refusal 1 0 0)).0 judge-none)))
+refused-exactly-with-not-same (Err r) h = refused-exactly-with-not-refusing (λ s. r) h
+refused-exactly-with-not-same (Ok x) h = refused-accepted (sym ((h [] (refusal 1 0 0)).1 ((refused-exactly-with [] (refusal 1 0 0)).0 judge-none)))
 
 -- ---- what these four leave to each other
 
 -- accepts what is to be accepted, and refuses the rest always by 1
 abbrev by_one : Judged → Judged
-by_one (Accepted x) = Accepted x
-by_one (Refused r) = Refused (refusal 1 0 0)
+by_one (Ok x) = Ok x
+by_one (Err r) = Err (refusal 1 0 0)
 
-by-one-accepted : (j : Judged) (x : Shape) → by_one j ≡ Accepted x → j ≡ Accepted x
-by-one-accepted (Accepted y) x e = e
-by-one-accepted (Refused r) x e = absurd (refused-accepted e)
+by-one-accepted : (j : Judged) (x : Shape) → by_one j ≡ Ok x → j ≡ Ok x
+by-one-accepted (Ok y) x e = e
+by-one-accepted (Err r) x e = absurd (refused-accepted e)
 
-by-one-refused : (j : Judged) → (r : Refusal) × (by_one j ≡ Refused r) → (r : Refusal) × (j ≡ Refused r)
-by-one-refused (Accepted y) e = absurd (refused-accepted (sym e.1))
-by-one-refused (Refused r) e = (r, refl)
+by-one-refused : (j : Judged) → (r : Refusal) × (by_one j ≡ Err r) → (r : Refusal) × (j ≡ Err r)
+by-one-refused (Ok y) e = absurd (refused-accepted (sym e.1))
+by-one-refused (Err r) e = (r, refl)
 
 -- It meets the three that do not say by which number. Shut out by `refused-exactly-with`.
 accepted-exactly-met-by-one-number : SaysAcceptedExactly (λ s. by_one (judge s))
@@ -202,23 +199,23 @@ refused-for-a-breach-met-by-one-number s =
 
 refused-exactly-with-not-one-number : SaysRefusedExactlyWith (λ s. by_one (judge s)) → ⊥
 refused-exactly-with-not-one-number h =
-    let e : by_one (judge (text "x")) ≡ Refused (refusal 2 0 0) = (h (text "x") (refusal 2 0 0)).1 ((refused-exactly-with (text "x") (refusal 2 0 0)).0 judge-cut) in
-    let f : Refused (refusal 1 0 0) ≡ Refused (refusal 2 0 0) = sym (ap by_one judge-cut) ∙ e in
+    let e : by_one (judge (text "x")) ≡ Err (refusal 2 0 0) = (h (text "x") (refusal 2 0 0)).1 ((refused-exactly-with (text "x") (refusal 2 0 0)).0 judge-cut) in
+    let f : Err (refusal 1 0 0) ≡ Err (refusal 2 0 0) = sym (ap by_one judge-cut) ∙ e in
     let z : ◌≡◌ {A = ℕ} 1 2 = ap number f in
     omega arith
   where
     number : Judged → ℕ
-    number (Accepted x) = 0
-    number (Refused r) = r.no
+    number (Ok x) = 0
+    number (Err r) = r.no
 
 -- It accepts what is to be accepted, always with the shape of P: it meets the three that do not say of which shape a set is. Shut out by `accepted-exactly`.
 abbrev one_shape : Judged → Judged
-one_shape (Accepted x) = Accepted p_shape
-one_shape (Refused r) = Refused r
+one_shape (Ok x) = Ok p_shape
+one_shape (Err r) = Err r
 
-one-shape-refused : (j : Judged) (r : Refusal) → (one_shape j ≡ Refused r) ↔ (j ≡ Refused r)
-one-shape-refused (Accepted y) r = (λ e. absurd (refused-accepted (sym e)), λ e. absurd (refused-accepted (sym e)))
-one-shape-refused (Refused q) r = (λ e. e, λ e. e)
+one-shape-refused : (j : Judged) (r : Refusal) → (one_shape j ≡ Err r) ↔ (j ≡ Err r)
+one-shape-refused (Ok y) r = (λ e. absurd (refused-accepted (sym e)), λ e. absurd (refused-accepted (sym e)))
+one-shape-refused (Err q) r = (λ e. e, λ e. e)
 
 refused-exactly-with-met-by-one-shape : SaysRefusedExactlyWith (λ s. one_shape (judge s))
 refused-exactly-with-met-by-one-shape s r =
@@ -229,14 +226,14 @@ refused-exactly-with-met-by-one-shape s r =
 accepted-exactly-not-one-shape : SaysAcceptedExactly (λ s. one_shape (judge s)) → ⊥
 accepted-exactly-not-one-shape h =
     let q_shape : Shape = record { length = 55; lines = 4; settype = 6300 } in
-    let e : one_shape (judge q) ≡ Accepted q_shape = (h q q_shape).1 ((accepted-exactly q q_shape).0 judge-q) in
-    let f : Accepted p_shape ≡ Accepted q_shape = sym (ap one_shape judge-q) ∙ e in
+    let e : one_shape (judge q) ≡ Ok q_shape = (h q q_shape).1 ((accepted-exactly q q_shape).0 judge-q) in
+    let f : Ok p_shape ≡ Ok q_shape = sym (ap one_shape judge-q) ∙ e in
     let z : ◌≡◌ {A = ℕ} 51 55 = ap long f in
     omega arith
   where
     long : Judged → ℕ
-    long (Accepted x) = x.length
-    long (Refused r) = 0
+    long (Ok x) = x.length
+    long (Err r) = 0
 
 -- ---- written, corrected, indexed and viewed exactly
 
@@ -309,7 +306,7 @@ viewed-exactly-says : SaysViewedExactly viewing
 viewed-exactly-says = viewed-exactly
 
 viewed-exactly-not-refusing : (r : List ℕ → List ℕ → ℕ → Refusal) → SaysViewedExactly (λ s h n. refused (r s h n)) → ⊥
-viewed-exactly-not-refusing r h = let v = Set (record { place = 48; length = 1 }) in refused-done ((h p [] 4 v tt).1 ((viewed-exactly p [] 4 v tt).0 viewing-p))
+viewed-exactly-not-refusing r h = let v = of_set (record { place = 48; length = 1 }) in refused-done ((h p [] 4 v tt).1 ((viewed-exactly p [] 4 v tt).0 viewing-p))
 
 viewed-exactly-not-same : (a : Reply Viewed) → SaysViewedExactly (λ s h n. a) → ⊥
 unfolding computes
@@ -368,8 +365,8 @@ listed-exactly-not-same (done l) h = refused-done {r = refusal 1 0 0} ((listed-e
 
 -- makes a list of no bytes of every set that is refused
 abbrev lenient : Judged → Reply (List ℕ) → Reply (List ℕ)
-lenient (Accepted x) r = r
-lenient (Refused q) r = done []
+lenient (Ok x) r = r
+lenient (Err q) r = done []
 
 listed-exactly-not-lenient : SaysListedExactly (λ s room. lenient (judge s) (list s room)) → ⊥
 unfolding computes
@@ -447,20 +444,20 @@ correction-refused-with-not-one-number h =
 
 -- refused-index, refused-list, refused-write and refused-correct in the same words; X is what the call is given beside what is lent to it. Given a call that answers a refusal
 abbrev pub SaysRefusedCall : {X A : Type 0} → (X → List A → Call A) → Type 0
-SaysRefusedCall {X} {A} C = (x : X) (out : List A) (r : Refusal) → (C x out).answer ≡ RefusedCall r → (made_count (C x out).answer ≡ 0) × ((C x out).buffer ≡ out)
+SaysRefusedCall {X} {A} C = (x : X) (out : List A) (r : Refusal) → (C x out).answer ≡ Err r → (made_count (C x out).answer ≡ 0) × ((C x out).buffer ≡ out)
 
 refused-call-says : SaysRefusedCall index_call × SaysRefusedCall list_call × SaysRefusedCall write_call × SaysRefusedCall {X = ℕ × ℕ × List ℕ} (λ (used, n, c) b. correct_call b used n c)
 refused-call-says = (refused-index, refused-list, refused-write, λ (used, n, c) b r. refused-correct b used n c r)
 
 module _ {X : Type 0} (x : X) where
   -- one that refuses all, each with whatever refusal, and clears what is lent
-  pub refused-call-not-clearing : (r : X → List ℕ → Refusal) → SaysRefusedCall (λ (y : X) (out : List ℕ). record { answer = RefusedCall (r y out); buffer = replicate (length out) 0 }) → ⊥
+  pub refused-call-not-clearing : (r : X → List ℕ → Refusal) → SaysRefusedCall (λ (y : X) (out : List ℕ). record { answer = Err (r y out); buffer = replicate (length out) 0 }) → ⊥
   refused-call-not-clearing r h =
       let z : ◌≡◌ {A = ℕ} 0 7 = ap (λ (b : List ℕ). get_or b 0 0) (h x (7 ∷ []) (r x (7 ∷ [])) refl).1 in
       omega arith
 
   -- one that leaves always the same
-  pub refused-call-not-same : {A : Type 0} (a : A) (r : Refusal) (o : List A) → SaysRefusedCall (λ (y : X) (out : List A). record { answer = RefusedCall r; buffer = o }) → ⊥
+  pub refused-call-not-same : {A : Type 0} (a : A) (r : Refusal) (o : List A) → SaysRefusedCall (λ (y : X) (out : List A). record { answer = Err r; buffer = o }) → ⊥
   refused-call-not-same a r o h =
       let z : ◌≡◌ {A = ℕ} 0 1 = ap length (sym (h x [] r refl).1 ∙ (h x (a ∷ []) r refl).1) in
       omega arith
@@ -469,5 +466,5 @@ module _ {X : Type 0} (x : X) where
 pub refused-call-met-by-idle : {X A : Type 0} (a : X → List A → Made) → SaysRefusedCall (λ (x : X) (out : List A). record { answer = a x out; buffer = out })
 refused-call-met-by-idle a x out r e = (ap made_count e, refl)
 
-pub refused-call-met-by-same : {X A : Type 0} (n : ℕ) (o : List A) → SaysRefusedCall (λ (x : X) (out : List A). record { answer = Done n; buffer = o })
+pub refused-call-met-by-same : {X A : Type 0} (n : ℕ) (o : List A) → SaysRefusedCall (λ (x : X) (out : List A). record { answer = Ok n; buffer = o })
 refused-call-met-by-same n o x out r e = refused-made (sym e)

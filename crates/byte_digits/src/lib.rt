@@ -23,25 +23,14 @@ pub fn byte_at(c: &[u8], i: usize) -> u8
 pub fn is_digit(b: u8) -> bool
     ensures { result ≡ digit b }
 {
-    if b < meaning::DIGIT_ZERO {
-        return false;
-    }
-    b <= meaning::DIGIT_NINE
+    b.is_ascii_digit()
 }
 
 // The bytes from `from` on are digits.
 pub fn all_digits(c: &[u8], from: usize) -> bool
     ensures { result ≡ all_digits (drop from c.now) }
 {
-    let mut i = from;
-    while i < c.len() {
-        if is_digit(c[i]) {
-            i += 1;
-        } else {
-            return false;
-        }
-    }
-    true
+    c.iter().skip(from).all(|b| is_digit(*b))
 }
 
 // What two bytes that are not both digits count as: over every bound that is asked of two digits.

@@ -12,7 +12,7 @@ use borrow.Author.Tests.{le-leb, lt-leb}
 use Rattle.meaning.specs.Refusals.{Fault, at_byte, ask}
 use Rattle.meaning.proofs.Bools.{byte-then, Every}
 use Rattle.meaning.proofs.LeftLaws.{one-more, none_left}
-use Rattle.byte_low.specs.Seek.{first_not}
+use Rattle.byte_low.specs.Seek.{first_not, Passed}
 
 module _ (ok : ℕ → Bool) where
   -- ---- the first byte that fails the test, one byte more; no byte left
@@ -81,12 +81,25 @@ module _ (ok : ℕ → Bool) where
         let n : e - i ≡ b + (e - (i + b)) = omega arith in
         rw n (seek-after b (e - (i + b)) i q)
 
+    -- it is taken up after bytes that it passes over
+    pub seek_from : (at i e : ℕ) → Passed ok s at i e → first_not ok s i (e - i) ≡ first_not ok s at (e - at)
+    seek_from at i e p =
+        let n : at + (i - at) ≡ i = omega (arith, p.least) in
+        sym (seek-on (i - at) at e (omega (arith, n, p.most)) (p.none ∙ sym n) ∙ ap (λ (x : ℕ). first_not ok s x (e - x)) n)
+
     -- two stretches, one after the other, that it passes over: it passes over both
     pub seek-join : (at i e : ℕ) → at ≤ i → i ≤ e → first_not ok s at (i - at) ≡ i → first_not ok s i (e - i) ≡ e → first_not ok s at (e - at) ≡ e
     seek-join at i e h g p q =
         let n : e - at ≡ i - at + (e - i) = omega arith in
         let m : at + (i - at) ≡ i = omega arith in
         ap (first_not ok s at) n ∙ (seek-after (i - at) (e - i) at (p ∙ sym m) ∙ (ap (λ (x : ℕ). first_not ok s x (e - i)) m ∙ q))
+
+    pub passed_on : (at i j end more : ℕ) → Passed ok s at i end → Passed ok s i j end → end ≤ more → Passed ok s at j more
+    passed_on at i j end more p q h = record {
+      least = omega (arith, p.least, q.least);
+      most = omega (arith, q.most);
+      none = seek-join at i j p.least q.least p.none q.none;
+    }
 
     -- the last block, which it passes over: it passes over the bytes in it
     pub seek-tail : (b i e : ℕ) → b ≤ e → e ≤ i + b → i ≤ e → first_not ok s (e - b) b ≡ e - b + b → first_not ok s i (e - i) ≡ e

@@ -1,2 +1,1 @@
--- The laws that the proofs of this crate and of later ones cite.
-pub mod MoveLaws
+-- No law of this crate's own is needed: the library's contract says it.

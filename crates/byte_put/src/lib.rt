@@ -16,17 +16,16 @@ pub fn put_digits(s: &mut [u8], at: usize, k: usize, n: usize)
     requires { at + k ≤ length s.old }
     ensures { s.new ≡ over at (digits k n) s.old }
 {
-    let mut i = k;
     let mut left = n;
-    while 0 < i {
-        i -= 1;
+    for i in (0..k).rev() {
         let rest = left / 10;
         s[at + i] = meaning::DIGIT_ZERO + (left - rest * 10) as u8;
         left = rest;
     }
 }
 
-// A word to the front. All its bytes are read before the first is stored, so that they are moved at once.
+// A word to the front. All its bytes are read before the first is stored, so that they are moved at once. One function for both sizes, by `dst[..N].copy_from_slice(&src[..N])`, takes half as
+// many instructions again for 40 bytes.
 fn copy_word(dst: &mut [u8], src: &[u8])
     requires { (word ≤ length src.now) × (word ≤ length dst.old) }
     ensures { dst.new ≡ take word src.now ++ drop word dst.old }
@@ -71,6 +70,7 @@ fn copy_words(dst: &mut [u8], src: &[u8])
 {
     let last = src.len() - WORD;
     copy_word(&mut dst[last..], &src[last..]);
+    // Not by `step_by`, which has one more way out at each turn, for an offset that does not fit any more.
     let mut i = 0;
     while i < last {
         copy_word(&mut dst[i..], &src[i..]);
@@ -93,10 +93,8 @@ fn copy_bytes(dst: &mut [u8], src: &[u8])
     requires { length src.now ≤ length dst.old }
     ensures { dst.new ≡ src.now ++ drop (length src.now) dst.old }
 {
-    let mut i = 0;
-    while i < src.len() {
+    for i in 0..src.len() {
         dst[i] = src[i];
-        i += 1;
     }
 }
 
@@ -120,9 +118,5 @@ pub fn copy_front(dst: &mut [u8], src: &[u8])
 pub fn clear(s: &mut [u8])
     ensures { s.new ≡ replicate (length s.old) 0 }
 {
-    let mut i = 0;
-    while i < s.len() {
-        s[i] = 0;
-        i += 1;
-    }
+    s.fill(0);
 }

@@ -7,8 +7,6 @@ use lib.ListN.{length, replicate}
 use borrow.Author.Tests.{le-leb, lt-leb}
 use Rattle.meaning.specs.declared.Refusal.{Refusal}
 use Rattle.meaning.specs.declared.Shape.{Shape}
-use Rattle.meaning.specs.declared.Judged.TheVariants.{Accepted, Refused}
-use Rattle.meaning.specs.declared.Made.TheVariants.{Done, Refused as NotMade}
 use Rattle.meaning.specs.Field.{Field}
 use Rattle.meaning.specs.Limits.{max_set_bytes}
 use Rattle.meaning.specs.Refusals.{Reply, refused, done, then_to}
@@ -26,20 +24,21 @@ use Rattle.cable_data.proofs.CarriedLaws.{alone, window-is, window-within}
 use Rattle.cable_frame.specs.Framed.{framed}
 use Rattle.cable_block.specs.Cutting.{cut_for, end_for}
 use Rattle.cable_block.proofs.CutLaws.{count-is, Between, between}
+use Rattle.std.specs.Prelude.{Err, Ok}
 
 -- a set that is refused: the buffer stays as it was
-pub answer-refused : (s out : List ℕ) (i count : ℕ) (r : Refusal) → Refused r ≡ alone_judged (set_alone s)
-    → (NotMade r ≡ (block_call s i count out).answer) × (out ≡ (block_call s i count out).buffer)
+pub answer-refused : (s out : List ℕ) (i count : ℕ) (r : Refusal) → Err r ≡ alone_judged (set_alone s)
+    → (Err r ≡ (block_call s i count out).answer) × (out ≡ (block_call s i count out).buffer)
 unfolding block
 answer-refused s out i count r e = go (set_alone s) e
   where
-    go : (x : Reply (List Field)) → Refused r ≡ alone_judged x
-        → (NotMade r ≡ made (then_to x (λ fs. done (block_of (stream fs) i count)))) × (out ≡ bytes_left (then_to x (λ fs. done (block_of (stream fs) i count))) out)
-    go (refused y) q = let z : r ≡ y = cc in (ap NotMade z, refl)
+    go : (x : Reply (List Field)) → Err r ≡ alone_judged x
+        → (Err r ≡ made (then_to x (λ fs. done (block_of (stream fs) i count)))) × (out ≡ bytes_left (then_to x (λ fs. done (block_of (stream fs) i count))) out)
+    go (refused y) q = let z : r ≡ y = cc in (ap Err z, refl)
     go (done fs) q = let z : ◌≡◌ {A = ℕ} 0 1 = cc in absurd (omega arith)
 
 -- an accepted set, of n bytes of data
-module _ (s : List ℕ) (x : Shape) (e : Accepted x ≡ alone_judged (set_alone s)) (n : ℕ) (l : n ≡ data_length x) where
+module _ (s : List ℕ) (x : Shape) (e : Ok x ≡ alone_judged (set_alone s)) (n : ℕ) (l : n ≡ data_length x) where
   abbrev fields : List Field
   fields = (alone-is s x e).0
 
@@ -60,7 +59,7 @@ module _ (s : List ℕ) (x : Shape) (e : Accepted x ≡ alone_judged (set_alone 
 
   -- there is no such block, or the count is over 9
   pub answer-none : (i count : ℕ) (out : List ℕ) → block_of (stream fields) i count ≡ []
-      → (Done 0 ≡ (block_call s i count out).answer) × (replicate (length out) 0 ≡ (block_call s i count out).buffer)
+      → (Ok 0 ≡ (block_call s i count out).answer) × (replicate (length out) 0 ≡ (block_call s i count out).buffer)
   answer-none i count out q =
       let z : done [] ≡ block s i count = sym (block-is i count ∙ ap done q) in
       let k : length out ≡ length out - 0 = omega arith in
@@ -104,7 +103,7 @@ module _ (s : List ℕ) (x : Shape) (e : Accepted x ≡ alone_judged (set_alone 
 
         pub answer-made : (blocks count label r : ℕ) (out out' : List ℕ) → blocks ≡ count_for n → count ≤ max_count → label ≡ block_label i blocks
             → r ≡ length (framed count label s from (end - start)) → out' ≡ bytes_left (done (framed count label s from (end - start))) out
-            → (Done r ≡ (block_call s i count out).answer) × (out' ≡ (block_call s i count out).buffer)
+            → (Ok r ≡ (block_call s i count out).answer) × (out' ≡ (block_call s i count out).buffer)
         unfolding block_of
         answer-made blocks count label r out out' m g d p q =
             let k : block_count (stream fields) ≡ blocks = count-is (stream fields) ∙ (ap count_for data-length ∙ sym m) in
@@ -112,4 +111,4 @@ module _ (s : List ℕ) (x : Shape) (e : Accepted x ≡ alone_judged (set_alone 
             ap₂ (block_bytes count) (d ∙ ap (block_label i) (sym k)) data_is
             ∙ sym (rw (lt-leb (block_count (stream fields)) i (omega (arith, k, m)), le-leb count max_count g) refl) in
             let z : done (framed count label s from (end - start)) ≡ block s i count = ap done made-is ∙ sym (block-is i count) in
-            (ap Done p ∙ ap made z, q ∙ ap (λ (u : Reply (List ℕ)). bytes_left u out) z)
+            (ap Ok p ∙ ap made z, q ∙ ap (λ (u : Reply (List ℕ)). bytes_left u out) z)

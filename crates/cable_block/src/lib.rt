@@ -2,18 +2,16 @@
 // It has no `requires`. The other functions are its parts.
 #![tactic(auto)]
 
-ghost use Rattle.std.specs.Prelude.{◌≡◌, ◌≤◌, ◌<◌, length, replicate};
-ghost use Rattle.meaning.specs.declared.Judged.TheVariants.{Accepted};
-ghost use Rattle.meaning.specs.declared.Made.TheVariants.{Done};
+ghost use Rattle.std.specs.Prelude.{◌≡◌, ◌≤◌, ◌<◌, length, replicate, Ok};
 ghost use Rattle.meaning.specs.Limits.{max_set_bytes};
-ghost use Rattle.meaning_cable.specs.Blocks.{b02, block_label, set_alone};
+ghost use Rattle.meaning_cable.specs.Blocks.{label_digit, block_label, set_alone};
 ghost use Rattle.meaning_cable.specs.Receiving.{max_block};
 ghost use Rattle.meaning_cable.specs.CableCalls.{block_call};
 ghost use Rattle.cable_set.specs.BlockCounts.{alone_judged, count_for};
 ghost use Rattle.cable_block.specs.Cutting.{cut_for, end_for};
 
-use meaning::{Judged, Made, Shape};
-use meaning_cable::{BLOCK, DATA};
+use meaning::{Refusal, Shape};
+use meaning_cable::{BLOCK, BlockLabel, DATA};
 
 // Line 1 of an accepted set is this many bytes of data: `01380006300` or another type's, and the 1Ch after it.
 const FIRST_DATA: usize = meaning::TYPE_DIGITS + meaning::LINE_FRAME - 1;
@@ -42,40 +40,42 @@ fn end_for(n: usize, i: usize) -> usize
     requires { (n ≤ max_set_bytes) × (i < count_for n) }
     ensures { result ≡ end_for n i }
 {
-    let end = cut_for(n, i + 1);
-    if n < end {
-        return n;
-    }
-    end
+    cut_for(n, i + 1).min(n)
 }
 
-// The label of block i, by its last digit.
-fn label_for(i: usize, blocks: usize) -> usize
+// The label of block i.
+fn label_for(i: usize, blocks: usize) -> BlockLabel
     requires { i < blocks }
-    ensures { (result ≡ block_label i blocks) × (result ≤ b02) }
+    ensures { label_digit result ≡ block_label i blocks }
 {
     if i == 0 {
-        return meaning_cable::B00;
+        return BlockLabel::B00;
     }
     if i + 1 < blocks {
-        return meaning_cable::B01;
+        return BlockLabel::B01;
     }
-    meaning_cable::B02
+    BlockLabel::B02
 }
 
 // No block: length 0, and every byte zero (E3h, E3i).
-fn no_block(out: &mut [u8]) -> Made
-    ensures { (result ≡ Done 0) × (out.new ≡ replicate (length out.old) 0) }
+fn no_block(out: &mut [u8]) -> Result<usize, Refusal>
+    ensures { (result ≡ Ok 0) × (out.new ≡ replicate (length out.old) 0) }
 {
     byte_put::clear(out);
-    Made::Done(0)
+    Ok(0)
 }
 
 // ---- the block of a set
 
 // Block i of an accepted set.
-fn block_accepted(set: &[u8], shape: Shape, i: usize, count: usize, out: &mut [u8]) -> Made
-    requires { (Accepted shape ≡ alone_judged (set_alone set.now)) × (max_block ≤ length out.old) }
+fn block_accepted(
+    set: &[u8],
+    shape: Shape,
+    i: usize,
+    count: usize,
+    out: &mut [u8],
+) -> Result<usize, Refusal>
+    requires { (Ok shape ≡ alone_judged (set_alone set.now)) × (max_block ≤ length out.old) }
     ensures { (result ≡ (block_call set.now i count out.old).answer) × (out.new ≡ (block_call set.now i count out.old).buffer) }
 {
     let length = cable_set::data_length(shape);
@@ -92,22 +92,20 @@ fn block_accepted(set: &[u8], shape: Shape, i: usize, count: usize, out: &mut [u
     let n = end_for(length, i) - start;
     let from = cable_data::place_of(set, start);
     let label = label_for(i, blocks);
-    Made::Done(cable_frame::put_block(count, label, set, from, n, out))
+    Ok(cable_frame::put_block(count, label, set, from, n, out))
 }
 
 // "The sender refuses as the set does, and 18 for a second set".
-fn block_in(set: &[u8], i: usize, count: usize, out: &mut [u8]) -> Made
+fn block_in(set: &[u8], i: usize, count: usize, out: &mut [u8]) -> Result<usize, Refusal>
     requires { max_block ≤ length out.old }
     ensures { (result ≡ (block_call set.now i count out.old).answer) × (out.new ≡ (block_call set.now i count out.old).buffer) }
 {
-    match cable_set::alone_of(judge::judge(set), set.len()) {
-        Judged::Refused(r) => Made::Refused(r),
-        Judged::Accepted(shape) => block_accepted(set, shape, i, count, out),
-    }
+    let shape = cable_set::alone_of(judge::judge(set), set.len())?;
+    block_accepted(set, shape, i, count, out)
 }
 
 // Block i, from 0, of the one set in these bytes, with this sequence count, at the front of `out`; zeros after it. So much room is enough for any block.
-pub fn block(set: &[u8], i: usize, count: usize, out: &mut [u8; BLOCK]) -> Made
+pub fn block(set: &[u8], i: usize, count: usize, out: &mut [u8; BLOCK]) -> Result<usize, Refusal>
     ensures { (result ≡ (block_call set.now i count out.old).answer) × (out.new ≡ (block_call set.now i count out.old).buffer) }
 {
     block_in(set, i, count, out)

@@ -1,16 +1,13 @@
 -- A byte at once: a turn of the register goes over xor, so the eight turns of a byte are a closed form of one byte, which is computed for all 256.
 use mathlib.Core.Path.{◌≡◌, refl, sym, ap, ◌∙◌, subst}
-use mathlib.Core.Bool.{Bool, true, false, cond, ◌&&◌}
-use mathlib.Core.List.{List, [], ◌∷◌}
+use mathlib.Core.Bool.{Bool, true, false, ◌&&◌}
 use Prim.Native.Nat.{ℕ, zero, suc, ◌+◌, ◌*◌, ◌/◌, ◌%◌, ◌^◌, ◌≤◌, ◌<◌}
 use native.Mathlib.Omega.{arith}
-use native.Mathlib.Numerals.{add-one}
-use lib.ListN.{length, drop, get_or, drop_of_length-le}
 use lib.Dec.{leb, eqb}
 use lib.Bits.{bit_xor, xor_zero_r, xor_lt, xor_block, xor_shifted}
 use borrow.Author.Tests.{leb-true, leb-false, eqb-true}
 use Rattle.meaning.proofs.Bools.{and_left, and_right}
-use Rattle.meaning_cable.specs.Crc.{bit_turn, byte_all, crc_from}
+use Rattle.meaning_cable.specs.Crc.{bit_turn, byte_all}
 use Rattle.meaning_cable.proofs.CrcLaws.{turns, turn-lt, turn-over, byte-turns}
 
 -- ---- k turns go over xor with what loses no bit
@@ -82,18 +79,3 @@ byte-is c b h l =
     byte-turns c b h l
     ∙ (ap (turns 8) joined ∙ (turns-over 8 (x * 256) (c % 256) (omega (arith, high-byte c b h l)) (omega (arith, eight-doubled (c % 256)))
     ∙ (ap (λ (y : ℕ). bit_xor y (doubled 8 (c % 256))) (turns-closed x (high-byte c b h l)) ∙ ap (λ (y : ℕ). bit_xor (closed x) y) (eight-doubled (c % 256)))))
-
--- ---- byte after byte
-
-step : (s : List ℕ) (i : ℕ) → i < length s → (c : ℕ) → crc_from c (drop i s) ≡ crc_from (byte_all c (get_or s i 0)) (drop (suc i) s)
-unfolding crc_from
-step [] i h c = absurd (omega arith)
-step (b ∷ bs) zero h c = refl
-step (b ∷ bs) (suc i) h c = step bs i (omega arith) c
-
-pub crc-more : (s : List ℕ) (i : ℕ) → i < length s → (c : ℕ) → crc_from c (drop i s) ≡ crc_from (byte_all c (get_or s i 0)) (drop (i + 1) s)
-crc-more s i h c = rw (add-one i) (step s i h c)
-
-pub crc-end : (s : List ℕ) (i : ℕ) → length s ≤ i → (c : ℕ) → crc_from c (drop i s) ≡ c
-unfolding crc_from
-crc-end s i h c = ap (crc_from c) (drop_of_length-le s h)

@@ -26,11 +26,5 @@ pub fn crc_byte(crc: u16, b: u8) -> u16
 pub fn crc_of(s: &[u8]) -> u16
     ensures { result ≡ crc s.now }
 {
-    let mut crc: u16 = 0;
-    let mut i: usize = 0;
-    while i < s.len() {
-        crc = crc_byte(crc, s[i]);
-        i += 1;
-    }
-    crc
+    s.iter().fold(0, |crc, b| crc_byte(crc, *b))
 }

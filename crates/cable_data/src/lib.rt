@@ -29,7 +29,7 @@ fn width(b: u8) -> usize
     1
 }
 
-// The offset at which byte n of a set's data stands. The lines before it are passed over by the lengths that they say.
+// The offset at which byte n of a set's data stands. The lines before it are passed over by the lengths that they say: so how far a turn goes is known only at the line, and no iterator has these steps.
 pub fn place_of(set: &[u8], n: usize) -> usize
     requires { HasData set.now n }
     ensures { result ≡ place_after set.now 0 n }
@@ -52,11 +52,9 @@ pub fn put_data(set: &[u8], from: usize, n: usize, out: &mut [u8], to: usize)
     ensures { out.new ≡ over to (data_from set.now from n) out.old }
 {
     let mut at = from;
-    let mut i = 0;
-    while i < n {
+    for i in 0..n {
         let b = set[at];
         out[to + i] = carried(b);
         at += width(b);
-        i += 1;
     }
 }

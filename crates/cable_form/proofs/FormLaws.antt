@@ -111,6 +111,7 @@ pub record Formed (b : List ℕ) : Type 0 where
   pub most : length b ≤ max_block
   pub count-least : 48 ≤ get_or b 0 0
   pub label-least : 48 ≤ get_or b 3 0
+  pub label-most : get_or b 3 0 ≤ 50
   pub hex-digits : all_hex (crc_digits b) ≡ true
 
 pub formed : (b : List ℕ) → form_ok b ≡ true → Formed b
@@ -132,6 +133,7 @@ formed b e =
       most = leb-true (length b) max_block (and_right (leb min_block (length b)) (leb (length b) max_block) sizes);
       count-least = leb-true 48 (get_or b 0 0) (and_left (leb 48 (get_or b 0 0)) (leb (get_or b 0 0) 57) digit-is);
       label-least = leb-true 48 (get_or b 3 0) (and_left (leb 48 (get_or b 3 0)) (leb (get_or b 3 0) 50) label-is);
+      label-most = leb-true (get_or b 3 0) 50 (and_right (leb 48 (get_or b 3 0)) (leb (get_or b 3 0) 50) label-is);
       hex-digits = and_left (all_hex (crc_digits b)) (eqb (get_or b (length b - 1) 0) 13) end;
     }
 

@@ -1,13 +1,14 @@
 // The form of a block, its CRC, and its parts: "25 for the form, 26".
-// `form_ok` asks nothing of its caller; the other public functions ask for a block of good form, and their caller proves that.
+// No public function asks anything of its caller: a `Block` can only be of good form.
 #![tactic(auto)]
 
-ghost use Rattle.std.specs.Prelude.{◌≡◌, true, [], ◌∷◌, ◌≤◌, length};
+ghost use Rattle.std.specs.Prelude.{◌≡◌, true, false, [], ◌∷◌, ◌≤◌, length, eqb, IfSome, IfNone};
 ghost use Rattle.meaning_cable.specs.Stream.{data_byte, all_data};
-ghost use Rattle.meaning_cable.specs.Receiving.{min_block, count_of, label_of, is_hex, hex_value, all_hex, hex_from, head_ok, end_ok, form_ok, crc_ok};
+ghost use Rattle.meaning_cable.specs.Blocks.{b00, label_digit};
+ghost use Rattle.meaning_cable.specs.Receiving.{min_block, count_of, label_of, data_of, is_hex, hex_value, all_hex, hex_from, head_ok, end_ok, form_ok, crc_ok};
 
 use meaning::{DIGIT_NINE, DIGIT_ZERO};
-use meaning_cable::{BLOCK_LEAD, BLOCK_TAIL};
+use meaning_cable::{BLOCK_LEAD, BLOCK_TAIL, BlockLabel};
 
 // The least length of a block: of data "there may be none".
 const MIN_BLOCK: usize = BLOCK_LEAD + BLOCK_TAIL;
@@ -17,15 +18,8 @@ const COUNT_PLACE: usize = 0;
 
 const LABEL_PLACE: usize = 3;
 
-// A label is `B`, `0` and one of three digits.
-const LETTER_B: u8 = b'B';
-
-const LAST_LABEL: u8 = b'2';
-
-// The letters among the hex digits.
+// The first of the letters among the hex digits.
 const LETTER_A: u8 = b'A';
-
-const LETTER_F: u8 = b'F';
 
 // ---- bytes
 
@@ -40,43 +34,23 @@ fn is_data(b: u8) -> bool
 fn all_data(bytes: &[u8]) -> bool
     ensures { result ≡ all_data bytes.now }
 {
-    let mut i: usize = 0;
-    let mut fit = true;
-    while i < bytes.len() {
-        fit &= is_data(bytes[i]);
-        i += 1;
-    }
-    fit
+    bytes.iter().fold(true, |fit, b| fit & is_data(*b))
 }
 
 // "four upper-case hex digits": `0` to `9`, `A` to `F`.
 fn is_hex(b: u8) -> bool
     ensures { result ≡ is_hex b }
 {
-    if byte_digits::is_digit(b) {
-        return true;
-    }
-    if b < LETTER_A {
-        return false;
-    }
-    b <= LETTER_F
+    matches!(b, b'0'..=b'9' | b'A'..=b'F')
 }
 
 fn all_hex(digits: &[u8]) -> bool
     ensures { result ≡ all_hex digits.now }
 {
-    let mut i: usize = 0;
-    while i < digits.len() {
-        if is_hex(digits[i]) {
-            i += 1;
-        } else {
-            return false;
-        }
-    }
-    true
+    digits.iter().all(|b| is_hex(*b))
 }
 
-// What a hex digit stands for.
+// What a hex digit stands for. A byte has no method for it, and that of `char` takes lower case too.
 fn hex_value(b: u8) -> u16
     requires { is_hex b ≡ true }
     ensures { (result ≡ hex_value b) × (result ≤ 15) }
@@ -102,19 +76,7 @@ fn head_ok(block: &[u8]) -> bool
     requires { min_block ≤ length block.now }
     ensures { result ≡ head_ok block.now }
 {
-    if !byte_digits::is_digit(block[COUNT_PLACE]) {
-        return false;
-    }
-    if block[1] != LETTER_B {
-        return false;
-    }
-    if block[2] != DIGIT_ZERO {
-        return false;
-    }
-    if block[LABEL_PLACE] < DIGIT_ZERO {
-        return false;
-    }
-    block[LABEL_PLACE] <= LAST_LABEL
+    matches!(block, [b'0'..=b'9', b'B', b'0', b'0'..=b'2', ..])
 }
 
 // "four upper-case hex digits; 0Dh".
@@ -151,30 +113,66 @@ pub fn form_ok(block: &[u8]) -> bool
     end_ok(block)
 }
 
-// ---- the parts of a block of good form
+// ---- a block of good form, and its parts
 
-// Not 26, BadCrc: the four digits write the CRC of count, label and data.
-pub fn crc_ok(block: &[u8]) -> bool
-    requires { form_ok block.now ≡ true }
-    ensures { result ≡ crc_ok block.now }
-{
-    let end = block.len() - BLOCK_TAIL;
-    let written = hex_number(block[end], block[end + 1], block[end + 2], block[end + 3]);
-    written == cable_crc::crc_of(&block[COUNT_PLACE..end])
+// The bytes of a block of good form.
+#[derive(Clone, Copy)]
+pub struct Block<'a> {
+    pub bytes: &'a [u8],
+    ghost good_form: { form_ok bytes.now ≡ true },
 }
 
-// The sequence count.
-pub fn count_of(block: &[u8]) -> usize
-    requires { form_ok block.now ≡ true }
-    ensures { result ≡ count_of block.now }
-{
-    (block[COUNT_PLACE] - DIGIT_ZERO) as usize
-}
+impl<'a> Block<'a> {
+    // None is 25, BadBlock, "for the form".
+    pub fn read(bytes: &'a [u8]) -> Option<Block<'a>>
+        ensures some { IfSome result (λ block. block.bytes.now ≡ bytes.now) }
+        ensures none { IfNone result (form_ok bytes.now ≡ false) }
+    {
+        if !form_ok(bytes) {
+            return None;
+        }
+        Some(Block { bytes })
+    }
 
-// The label by its last digit.
-pub fn label_of(block: &[u8]) -> usize
-    requires { form_ok block.now ≡ true }
-    ensures { result ≡ label_of block.now }
-{
-    (block[LABEL_PLACE] - DIGIT_ZERO) as usize
+    // Not 26, BadCrc: the four digits write the CRC of count, label and data.
+    pub fn crc_ok(&self) -> bool
+        ensures { result ≡ crc_ok self.now.bytes.now }
+    {
+        let block = self.bytes;
+        let end = block.len() - BLOCK_TAIL;
+        let written = hex_number(block[end], block[end + 1], block[end + 2], block[end + 3]);
+        written == cable_crc::crc_of(&block[COUNT_PLACE..end])
+    }
+
+    // The sequence count.
+    pub fn count(&self) -> usize
+        ensures { result ≡ count_of self.now.bytes.now }
+    {
+        usize::from(self.bytes[COUNT_PLACE] - DIGIT_ZERO)
+    }
+
+    pub fn label(&self) -> BlockLabel
+        ensures { label_digit result ≡ label_of self.now.bytes.now }
+    {
+        match self.bytes[LABEL_PLACE] {
+            b'0' => BlockLabel::B00,
+            b'2' => BlockLabel::B02,
+            _ => BlockLabel::B01,
+        }
+    }
+
+    // Whether it is the first block of a set.
+    pub fn starts_set(&self) -> bool
+        ensures { result ≡ eqb (label_of self.now.bytes.now) b00 }
+    {
+        self.label() == BlockLabel::B00
+    }
+
+    // The data bytes, "there may be none".
+    pub fn data_bytes(&self) -> &'a [u8]
+        ensures { result.now ≡ data_of self.now.bytes.now }
+    {
+        let end = self.bytes.len() - BLOCK_TAIL;
+        &self.bytes[BLOCK_LEAD..end]
+    }
 }

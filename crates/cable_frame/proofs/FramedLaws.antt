@@ -5,8 +5,8 @@ use Prim.Native.Nat.{ℕ, suc, ◌+◌, ◌-◌, ◌/◌, ◌%◌, ◌≤◌}
 use native.Mathlib.Omega.{arith}
 use native.Mathlib.Nat.{zero-add}
 use lib.ListN.{length, set, take, drop, replicate, length-append}
-use lib.Seq.{sets-eq, take_at}
-use borrow.Rule.Slice.PartMut.{mid_of, put_mid}
+use lib.Seq.{take_at, drop-drop}
+use borrow.Rule.Slice.PartMut.{mid_of, post_of, put_mid}
 use Rattle.meaning.specs.Refusals.{done}
 use Rattle.meaning.specs.Lines.{cr}
 use Rattle.meaning.specs.Answers.{bytes_left}
@@ -17,28 +17,18 @@ use Rattle.byte_put.proofs.OverLaws.{over-then, front-then-zeros}
 
 -- ---- the parts
 
--- count and label, byte by byte
-pub lead-put : (b : List ℕ) (x y : ℕ) → 4 ≤ length b → set (set (set (set b 0 x) 1 66) 2 48) 3 y ≡ over 0 (x ∷ 66 ∷ 48 ∷ y ∷ []) b
+-- bytes that are lent at an offset, and come back as others
+pub lent-put : (b x y : List ℕ) (n k : ℕ) → length x ≡ k → y ≡ x → take n b ++ (y ++ post_of n k b) ≡ over n x b
 unfolding over
-lead-put b x y h = sets-eq (x ∷ 66 ∷ 48 ∷ y ∷ []) b 0 h
+lent-put b x y n k l e = rw (e, l) (ap (λ (u : List ℕ). take n b ++ (x ++ u)) (drop-drop k n b))
 
--- CRC and 0Dh, byte by byte
-tail-put : (b : List ℕ) (n c d e f g : ℕ) → n + 5 ≤ length b
-    → set (set (set (set (set b n c) (n + 1) d) (n + 2) e) (n + 3) f) (n + 4) g ≡ over n (c ∷ d ∷ e ∷ f ∷ g ∷ []) b
-unfolding over
-tail-put b n c d e f g h =
-    let n₁ : n + 1 ≡ suc n = omega arith in
-    let n₂ : n + 2 ≡ suc (suc n) = omega arith in
-    let n₃ : n + 3 ≡ suc (suc (suc n)) = omega arith in
-    let n₄ : n + 4 ≡ suc (suc (suc (suc n))) = omega arith in
-    rw (n₁, n₂, n₃, n₄) (sets-eq (c ∷ d ∷ e ∷ f ∷ g ∷ []) b n h ∙ append_assoc (take n b) (c ∷ d ∷ e ∷ f ∷ g ∷ []) (drop (n + 5) b))
-
-pub crc-put : (b : List ℕ) (n k c d e f : ℕ) → n + 5 ≤ length b → k ≡ crc (take n b)
-    → c ≡ hex_digit (k / 4096 % 16) → d ≡ hex_digit (k / 256 % 16) → e ≡ hex_digit (k / 16 % 16) → f ≡ hex_digit (k % 16)
-    → set (set (set (set (set b n c) (n + 1) d) (n + 2) e) (n + 3) f) (n + 4) cr ≡ over n (hex_digits (crc (take n b)) ++ (cr ∷ [])) b
-crc-put b n k c d e f h q p₁ p₂ p₃ p₄ =
-    tail-put b n c d e f cr h
-    ∙ ((λ i. over n (p₁ i ∷ p₂ i ∷ p₃ i ∷ p₄ i ∷ cr ∷ []) b) ∙ ap (λ (m : ℕ). over n (hex_digits m ++ (cr ∷ [])) b) q)
+-- CRC and 0Dh
+pub crc-put : (b y : List ℕ) (n k m c d e f : ℕ) → k ≡ 5 → m ≡ crc (take n b)
+    → c ≡ hex_digit (m / 4096 % 16) → d ≡ hex_digit (m / 256 % 16) → e ≡ hex_digit (m / 16 % 16) → f ≡ hex_digit (m % 16) → y ≡ c ∷ d ∷ e ∷ f ∷ cr ∷ []
+    → take n b ++ (y ++ post_of n k b) ≡ over n (hex_digits (crc (take n b)) ++ (cr ∷ [])) b
+crc-put b y n k m c d e f z q p₁ p₂ p₃ p₄ h =
+    lent-put b (c ∷ d ∷ e ∷ f ∷ cr ∷ []) y n k (sym z) h
+    ∙ ((λ i. over n (p₁ i ∷ p₂ i ∷ p₃ i ∷ p₄ i ∷ cr ∷ []) b) ∙ ap (λ (j : ℕ). over n (hex_digits j ++ (cr ∷ [])) b) q)
 
 -- ---- a block
 

@@ -13,6 +13,8 @@ use Rattle.meaning.specs.Lines.{cr, lf, line_end}
 use Rattle.meaning.proofs.Bools.{byte-then}
 use Rattle.byte_put.specs.Places.{over}
 use Rattle.byte_put.proofs.OverLaws.{Turned, here-fits, turned, over_none}
+use Rattle.std.specs.List.{count_by}
+use Rattle.std.proofs.lemmas.List.Recursion.{is_count_by}
 use Rattle.meaning_cable.specs.Stream.{separator, restore_then, restored}
 
 -- ---- one byte
@@ -78,3 +80,21 @@ module _ (x : List ℕ) (i : ℕ) where
   -- all are put
   pub put-end : (to : ℕ) (out : List ℕ) → length x ≤ i → out ≡ over to (restored (drop i x)) out
   put-end to out h = over_none out to ∙ ap (λ (u : List ℕ). over to u out) (rw (left-none h))
+
+abbrev seps : List ℕ → ℕ
+seps [] = 0
+seps (b ∷ x) = cond (eqb b separator) (1 + seps x) (seps x)
+
+with-seps : (x : List ℕ) → length (restored x) ≡ length x + seps x
+unfolding restored
+with-seps [] = refl
+with-seps (b ∷ x) = go (eqb b separator) (with-seps x)
+  where
+    go : (t : Bool) → length (restored x) ≡ length x + seps x
+        → length (cond t (cr ∷ lf ∷ restored x) (b ∷ restored x)) ≡ suc (length x) + cond t (1 + seps x) (seps x)
+    go true e = omega (arith, e)
+    go false e = omega (arith, e)
+
+-- how many bytes the data stand for: as many as they are, and one more for each separator
+pub restored-length : (x : List ℕ) → length (restored x) ≡ length x + count_by (λ b. eqb b separator) x
+restored-length x = with-seps x ∙ ap (λ (n : ℕ). length x + n) (is_count_by seps (λ b. eqb b separator) refl (λ b y. refl) x)

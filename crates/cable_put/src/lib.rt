@@ -3,49 +3,43 @@
 // afterwards.
 #![tactic(auto)]
 
-ghost use Rattle.std.specs.Prelude.{◌≡◌, [], ◌∷◌, ◌+◌, ◌≤◌, length};
+ghost use Rattle.std.specs.Prelude.{◌≡◌, ◌==◌, [], ◌∷◌, ◌+◌, ◌≤◌, length, count_by};
 ghost use Rattle.meaning.specs.Lines.{cr, lf, line_end};
 ghost use Rattle.byte_put.specs.Places.{over};
-ghost use Rattle.meaning_cable.specs.Stream.{restore_then, restored};
-ghost use Rattle.meaning_cable.specs.Blocks.{max_data};
+ghost use Rattle.meaning_cable.specs.Stream.{separator, restore_then, restored};
+ghost use Rattle.meaning_cable.specs.Blocks.{max_data, label_digit};
 ghost use Rattle.meaning_cable.specs.Receiving.{put_by, written};
 
 use meaning::LINE_END;
-use meaning_cable::B02;
+use meaning_cable::BlockLabel;
 
 // ---- how many bytes
 
-// How many bytes one byte of the data stands for.
-fn byte_size(b: u8) -> usize
-    ensures { (result ≡ length (restore_then b [])) × (result ≤ 2) }
+// How many of the data bytes stand between two lines.
+fn separators(bytes: &[u8]) -> usize
+    ensures { result ≡ count_by (λ b. b == separator) bytes.now }
 {
-    if b == meaning_cable::SEPARATOR {
-        return LINE_END;
-    }
-    1
+    bytes
+        .iter()
+        .filter(|b| **b == meaning_cable::SEPARATOR)
+        .count()
 }
 
-// How many bytes the data stand for.
+// How many bytes the data stand for: each separator for one more.
 fn restored_size(bytes: &[u8]) -> usize
     requires { length bytes.now ≤ max_data }
     ensures { (result ≡ length (restored bytes.now)) × (result ≤ max_data + max_data) }
 {
-    let mut i: usize = 0;
-    let mut size: usize = 0;
-    while i < bytes.len() {
-        size += byte_size(bytes[i]);
-        i += 1;
-    }
-    size
+    bytes.len() + separators(bytes) * (LINE_END - 1)
 }
 
 // How many bytes a block with this label and these data puts into the buffer.
-pub fn put_size(label: usize, bytes: &[u8]) -> usize
+pub fn put_size(label: BlockLabel, bytes: &[u8]) -> usize
     requires { length bytes.now ≤ max_data }
-    ensures { result ≡ length (put_by label bytes.now) }
+    ensures { result ≡ length (put_by (label_digit label) bytes.now) }
 {
     let size = restored_size(bytes);
-    if label == B02 {
+    if label == BlockLabel::B02 {
         return size + LINE_END;
     }
     size
@@ -80,22 +74,20 @@ fn put_restored(bytes: &[u8], out: &mut [u8], at: usize) -> usize
     requires { at + length (restored bytes.now) ≤ length out.old }
     ensures { (result ≡ at + length (restored bytes.now)) × (out.new ≡ over at (restored bytes.now) out.old) }
 {
-    let mut i: usize = 0;
     let mut to = at;
-    while i < bytes.len() {
-        to = put_byte(bytes[i], out, to);
-        i += 1;
+    for b in bytes {
+        to = put_byte(*b, out, to);
     }
     to
 }
 
 // The data of a block with this label, and 0Dh 0Ah "once more after the data of a B02". The offset after them.
-fn put_by(label: usize, bytes: &[u8], out: &mut [u8], at: usize) -> usize
-    requires { at + length (put_by label bytes.now) ≤ length out.old }
-    ensures { (result ≡ at + length (put_by label bytes.now)) × (out.new ≡ over at (put_by label bytes.now) out.old) }
+fn put_by(label: BlockLabel, bytes: &[u8], out: &mut [u8], at: usize) -> usize
+    requires { at + length (put_by (label_digit label) bytes.now) ≤ length out.old }
+    ensures { (result ≡ at + length (put_by (label_digit label) bytes.now)) × (out.new ≡ over at (put_by (label_digit label) bytes.now) out.old) }
 {
     let end = put_restored(bytes, out, at);
-    if label != B02 {
+    if label != BlockLabel::B02 {
         return end;
     }
     put_end(out, end);
@@ -103,11 +95,10 @@ fn put_by(label: usize, bytes: &[u8], out: &mut [u8], at: usize) -> usize
 }
 
 // The same, and zeros after it: "after each block that is taken".
-pub fn put_block(label: usize, bytes: &[u8], out: &mut [u8], at: usize)
-    requires { at + length (put_by label bytes.now) ≤ length out.old }
-    ensures { out.new ≡ written out.old at (put_by label bytes.now) }
+pub fn put_block(label: BlockLabel, bytes: &[u8], out: &mut [u8], at: usize)
+    requires { at + length (put_by (label_digit label) bytes.now) ≤ length out.old }
+    ensures { out.new ≡ written out.old at (put_by (label_digit label) bytes.now) }
 {
     let used = put_by(label, bytes, out, at);
-    let room = out.len();
-    byte_put::clear(&mut out[used..room]);
+    byte_put::clear(&mut out[used..]);
 }

@@ -1,20 +1,21 @@
 -- The rows of the receiver's table as the code comes to them, and what a `return` has to show in each.
-use mathlib.Core.Path.{◌≡◌, refl, sym, ap, ◌∙◌, subst}
+use mathlib.Core.Path.{◌≡◌, refl, sym, ap, ap₂, subst}
 use mathlib.Core.Bool.{true, false}
-use mathlib.Core.List.{List, []}
+use mathlib.Core.List.{List}
 use mathlib.Core.Logic.{◌≢◌}
 use Prim.Native.Nat.{ℕ}
 use borrow.Author.Tests.{eq-eqb, ne_eqb}
 use Rattle.meaning.specs.declared.Refusal.{Refusal}
 use Rattle.meaning.specs.Refusals.{done, refusal, bad_block, bad_crc}
 use Rattle.meaning_cable.specs.declared.Receiver.{Receiver}
-use Rattle.meaning_cable.specs.declared.Received.{Received}
-use Rattle.meaning_cable.specs.declared.Received.TheVariants.{Refused}
 use Rattle.meaning_cable.specs.Blocks.{b00}
 use Rattle.meaning_cable.specs.Sending.{next_count}
-use Rattle.meaning_cable.specs.Receiving.{count_of, label_of, data_of, form_ok, crc_ok, ReceiveCall, is_again, keeping, refusing, put_at, in_turn, turned, receive, bad-form, bad-crc}
+use Rattle.meaning_cable.specs.Receiving.{form_ok, crc_ok, ReceiveCall, is_again, keeping, refusing, put_at, in_turn, turned, receive, bad-form, bad-crc}
 use Rattle.meaning_cable.specs.CableCalls.{received_call}
+use Rattle.cable_receive.specs.Turns.{block_turn}
 use Rattle.meaning_cable.proofs.ReceivingLaws.{takes-receive, faultless}
+use Rattle.meaning_cable.specs.CableResults.{Received}
+use Rattle.std.specs.Prelude.{Err}
 
 -- ---- what a `return` shows
 
@@ -24,8 +25,8 @@ shown r b x y e h = subst (λ (z : ReceiveCall). (r ≡ received_call z) × (b �
 
 -- of a refusal at place 0
 pub told : (st : Receiver) (buf : List ℕ) (x : ReceiveCall) (n : ℕ) (r : Refusal) → x ≡ refusing st buf n → r ≡ refusal n 0 0
-    → (Refused r ≡ received_call x) × (buf ≡ x.buffer)
-told st buf x n r e h = shown (Refused r) buf x (refusing st buf n) e (ap Refused h, refl)
+    → (Err r ≡ received_call x) × (buf ≡ x.buffer)
+told st buf x n r e h = shown (Err r) buf x (refusing st buf n) e (ap Err h, refl)
 
 -- ---- a block with the next count
 
@@ -34,9 +35,9 @@ module _ (st : Receiver) (buf : List ℕ) (count label : ℕ) (x : List ℕ) whe
   unfolding in_turn
   turn-no-set p h = rw (eq-eqb st.partial 0 p, ne_eqb label b00 h)
 
-  pub turn-next-set : st.partial ≡ 0 → label ≡ b00 → in_turn st buf count label x ≡ put_at st buf 0 count b00 x
+  pub turn-next-set : st.partial ≡ 0 → label ≡ b00 → in_turn st buf count label x ≡ put_at st buf 0 count label x
   unfolding in_turn
-  turn-next-set p h = rw (eq-eqb st.partial 0 p, eq-eqb label b00 h)
+  turn-next-set p h = rw (eq-eqb st.partial 0 p, eq-eqb label b00 h) (ap (λ (l : ℕ). put_at st buf 0 count l x) (sym h))
 
   pub turn-in-set : st.partial ≢ 0 → label ≡ b00 → in_turn st buf count label x ≡ refusing st buf bad_block
   unfolding in_turn
@@ -53,9 +54,9 @@ module _ (st : Receiver) (buf : List ℕ) (count label : ℕ) (x : List ℕ) whe
   unfolding turned
   zero-other z h = rw (eq-eqb count 0 z, ne_eqb label b00 h)
 
-  pub zero-afresh : count ≡ 0 → label ≡ b00 → turned st buf count label x ≡ put_at st buf 0 0 b00 x
+  pub zero-afresh : count ≡ 0 → label ≡ b00 → turned st buf count label x ≡ put_at st buf 0 count label x
   unfolding turned
-  zero-afresh z h = rw (eq-eqb count 0 z, eq-eqb label b00 h)
+  zero-afresh z h = rw (eq-eqb count 0 z, eq-eqb label b00 h) (ap₂ (λ (n l : ℕ). put_at st buf 0 n l x) (sym z) (sym h))
 
   module _ (z : count ≢ 0) where
     pub fresh-other : st.started ≡ 0 → turned st buf count label x ≡ refusing st buf bad_block
@@ -85,8 +86,6 @@ module _ (st : Receiver) (buf b : List ℕ) where
   pub no-crc : form_ok b ≡ true → crc_ok b ≡ false → receive st buf b ≡ refusing st buf bad_crc
   no-crc f k = takes-receive (bad-crc f k)
 
-  -- with the parts as the code has them
-  pub has-turn : form_ok b ≡ true → crc_ok b ≡ true → (count label : ℕ) (x : List ℕ) → count ≡ count_of b → label ≡ label_of b → x ≡ data_of b
-      → receive st buf b ≡ turned st buf count label x
+  pub has-turn : form_ok b ≡ true → crc_ok b ≡ true → receive st buf b ≡ block_turn st buf b
   unfolding receive
-  has-turn f k count label x p q r = rw (faultless b f k, p, q, r)
+  has-turn f k = rw (faultless b f k)

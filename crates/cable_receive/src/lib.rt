@@ -2,143 +2,123 @@
 // It has no `requires`: any record, any buffer, any bytes. The other functions are its parts, in the order of the rule table; nothing is written before every refusal is excluded.
 #![tactic(auto)]
 
-ghost use Rattle.std.specs.Prelude.{◌≡◌, ◌≤◌, length};
-ghost use Rattle.meaning_cable.specs.Blocks.{max_data};
-ghost use Rattle.meaning_cable.specs.Receiving.{took_one, open_by, answer_by, put_at, in_turn, turned, receive};
-ghost use Rattle.meaning_cable.specs.CableCalls.{received_call};
+ghost use Rattle.std.specs.Prelude.{◌≡◌};
+ghost use Rattle.meaning_cable.specs.Blocks.{label_digit};
+ghost use Rattle.meaning_cable.specs.Receiving.{took_one, open_by, answer_by, receive};
+ghost use Rattle.meaning_cable.specs.CableCalls.{outcome_of, received_call};
+ghost use Rattle.cable_receive.specs.Turns.{block_put, block_next, block_turn};
 
+use cable_form::Block;
 use meaning::Refusal;
-use meaning_cable::{B00, B02, BLOCK_LEAD, BLOCK_TAIL, Received, Receiver, Taken};
+use meaning_cable::{BlockLabel, BlockOutcome, Receiver, Taken};
 
 // What is answered for a block that was put: after B02 the set is whole and no longer open.
-fn took(count: usize, label: usize, used: usize) -> Taken
-    ensures { result ≡ record { what = answer_by label; receiver = took_one count (open_by label) used } }
+fn took(count: usize, label: BlockLabel, used: usize) -> Taken
+    ensures { result ≡ record { what = outcome_of (answer_by (label_digit label)); receiver = took_one count (open_by (label_digit label)) used } }
 {
-    if label == B02 {
-        return Taken {
-            what: Taken::WHOLE,
-            receiver: Receiver {
-                started: 1,
-                last: count,
-                partial: 0,
-                used,
-            },
-        };
-    }
+    let (what, partial) = match label {
+        BlockLabel::B02 => (BlockOutcome::Whole, 0),
+        BlockLabel::B00 | BlockLabel::B01 => (BlockOutcome::Taken, 1),
+    };
     Taken {
-        what: Taken::TAKEN,
+        what,
         receiver: Receiver {
             started: 1,
             last: count,
-            partial: 1,
+            partial,
             used,
         },
     }
 }
 
-// A block of this count, label and data is put at an offset. 22, NoRoom, "only if the new used length does not fit, and its need is that length, or 2^64 - 1 if it would be more".
+// A block is put at an offset. 22, NoRoom, "only if the new used length does not fit, and its need is that length, or 2^64 - 1 if it would be more".
 fn put_at(
     receiver: Receiver,
     buffer: &mut [u8],
     at: usize,
-    count: usize,
-    label: usize,
-    bytes: &[u8],
-) -> Received
-    requires { length bytes.now ≤ max_data }
-    ensures { (result ≡ received_call (put_at receiver buffer.old at count label bytes.now))
-        × (buffer.new ≡ (put_at receiver buffer.old at count label bytes.now).buffer) }
+    block: &Block<'_>,
+) -> Result<Taken, Refusal>
+    ensures { (result ≡ received_call (block_put receiver buffer.old at block.now.bytes.now))
+        × (buffer.new ≡ (block_put receiver buffer.old at block.now.bytes.now).buffer) }
 {
+    let label = block.label();
+    let bytes = block.data_bytes();
     let size = cable_put::put_size(label, bytes);
-    if usize::MAX - at < size {
-        return Received::Refused(Refusal::at(Refusal::NO_ROOM, usize::MAX));
-    }
-    let used = at + size;
+    let Some(used) = at.checked_add(size) else {
+        return Err(Refusal::at(Refusal::NO_ROOM, usize::MAX));
+    };
     if buffer.len() < used {
-        return Received::Refused(Refusal::at(Refusal::NO_ROOM, used));
+        return Err(Refusal::at(Refusal::NO_ROOM, used));
     }
     cable_put::put_block(label, bytes, buffer, at);
-    Received::Done(took(count, label, used))
+    Ok(took(block.count(), label, used))
 }
 
 // A block with the next count: B00 of the next set if none is open, B01 or B02 if one is. 25, BadBlock, for "a label out of turn".
-fn in_turn(
-    receiver: Receiver,
-    buffer: &mut [u8],
-    count: usize,
-    label: usize,
-    bytes: &[u8],
-) -> Received
-    requires { length bytes.now ≤ max_data }
-    ensures { (result ≡ received_call (in_turn receiver buffer.old count label bytes.now))
-        × (buffer.new ≡ (in_turn receiver buffer.old count label bytes.now).buffer) }
+fn in_turn(receiver: Receiver, buffer: &mut [u8], block: &Block<'_>) -> Result<Taken, Refusal>
+    ensures { (result ≡ received_call (block_next receiver buffer.old block.now.bytes.now))
+        × (buffer.new ≡ (block_next receiver buffer.old block.now.bytes.now).buffer) }
 {
+    let is_first = block.starts_set();
     if receiver.partial == 0 {
-        if label != B00 {
-            return Received::Refused(Refusal::at(Refusal::BAD_BLOCK, 0));
+        if !is_first {
+            return Err(Refusal::at(Refusal::BAD_BLOCK, 0));
         }
-        return put_at(receiver, buffer, 0, count, B00, bytes);
+        return put_at(receiver, buffer, 0, block);
     }
-    if label == B00 {
-        return Received::Refused(Refusal::at(Refusal::BAD_BLOCK, 0));
+    if is_first {
+        return Err(Refusal::at(Refusal::BAD_BLOCK, 0));
     }
-    put_at(receiver, buffer, receiver.used, count, label, bytes)
+    put_at(receiver, buffer, receiver.used, block)
 }
 
 // A block without fault: "The receiver takes the next count, acknowledges the last one again without taking it, and starts afresh on 0 with B00."
-fn take_turn(
-    receiver: Receiver,
-    buffer: &mut [u8],
-    count: usize,
-    label: usize,
-    bytes: &[u8],
-) -> Received
-    requires { length bytes.now ≤ max_data }
-    ensures { (result ≡ received_call (turned receiver buffer.old count label bytes.now))
-        × (buffer.new ≡ (turned receiver buffer.old count label bytes.now).buffer) }
+fn take_turn(receiver: Receiver, buffer: &mut [u8], block: &Block<'_>) -> Result<Taken, Refusal>
+    ensures { (result ≡ received_call (block_turn receiver buffer.old block.now.bytes.now))
+        × (buffer.new ≡ (block_turn receiver buffer.old block.now.bytes.now).buffer) }
 {
+    let count = block.count();
     // "starts afresh on 0 with B00"
     if count == 0 {
-        if label != B00 {
-            return Received::Refused(Refusal::at(Refusal::BAD_BLOCK, 0));
+        if !block.starts_set() {
+            return Err(Refusal::at(Refusal::BAD_BLOCK, 0));
         }
-        return put_at(receiver, buffer, 0, 0, B00, bytes);
+        return put_at(receiver, buffer, 0, block);
     }
     // "Which count does a fresh receiver take? 0 alone; another count is 25."
     if receiver.started == 0 {
-        return Received::Refused(Refusal::at(Refusal::BAD_BLOCK, 0));
+        return Err(Refusal::at(Refusal::BAD_BLOCK, 0));
     }
     let last = receiver.last;
     let next = cable_count::next_count(last);
     // "acknowledges the last one again without taking it"
-    if count == last {
-        return Received::Done(Taken {
-            what: Taken::AGAIN,
+    let repeated = count == last;
+    if repeated {
+        return Ok(Taken {
+            what: BlockOutcome::Again,
             receiver,
         });
     }
     // 25, BadBlock, "for another count"
-    if count != next {
-        return Received::Refused(Refusal::at(Refusal::BAD_BLOCK, 0));
+    let follows = count == next;
+    if !follows {
+        return Err(Refusal::at(Refusal::BAD_BLOCK, 0));
     }
-    in_turn(receiver, buffer, count, label, bytes)
+    in_turn(receiver, buffer, block)
 }
 
 // "The order is 25 for the form, 26, 25 for count and label, 22."
-pub fn receive(receiver: Receiver, buffer: &mut [u8], block: &[u8]) -> Received
+pub fn receive(receiver: Receiver, buffer: &mut [u8], block: &[u8]) -> Result<Taken, Refusal>
     ensures { (result ≡ received_call (receive receiver buffer.old block.now))
         × (buffer.new ≡ (receive receiver buffer.old block.now).buffer) }
 {
     // 25, BadBlock, "for the form"
-    if !cable_form::form_ok(block) {
-        return Received::Refused(Refusal::at(Refusal::BAD_BLOCK, 0));
-    }
+    let Some(block) = Block::read(block) else {
+        return Err(Refusal::at(Refusal::BAD_BLOCK, 0));
+    };
     // 26, BadCrc
-    if !cable_form::crc_ok(block) {
-        return Received::Refused(Refusal::at(Refusal::BAD_CRC, 0));
+    if !block.crc_ok() {
+        return Err(Refusal::at(Refusal::BAD_CRC, 0));
     }
-    let count = cable_form::count_of(block);
-    let label = cable_form::label_of(block);
-    let end = block.len() - BLOCK_TAIL;
-    take_turn(receiver, buffer, count, label, &block[BLOCK_LEAD..end])
+    take_turn(receiver, buffer, &block)
 }

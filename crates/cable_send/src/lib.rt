@@ -3,18 +3,15 @@
 #![tactic(auto)]
 
 ghost use Rattle.std.specs.Prelude.{◌≡◌, ◌+◌, leb};
-ghost use Rattle.meaning_cable.specs.Sending.{is_ack, action, end_of, once_more, second_attempt, goes, stops, first_count, begun, acked, failed, turn_of, send};
+ghost use Rattle.meaning_cable.specs.Sending.{is_ack, end_of, once_more, second_attempt, goes, stops, first_count, begun, acked, failed, turn_of, send};
 ghost use Rattle.meaning_cable.specs.CableCalls.{sent};
 
 use cable_set::blocks_of;
-use meaning_cable::{Action, BlockCount, Link, Sent, Turned};
+use meaning::Refusal;
+use meaning_cable::{Action, Link, Turned};
 
 // ACK 1 is 06h 31h.
-const ACK_BYTES: usize = 2;
-
-const ACK: u8 = 0x06;
-
-const ACK_ONE: u8 = b'1';
+const ACK_1: [u8; 2] = [0x06, b'1'];
 
 // "0 at the start", and at the start of a second attempt.
 const START_COUNT: usize = 0;
@@ -28,49 +25,27 @@ const SECOND_ATTEMPT: usize = 2;
 fn is_ack(reply: &[u8]) -> bool
     ensures { result ≡ is_ack reply.now }
 {
-    if reply.len() != ACK_BYTES {
-        return false;
-    }
-    if reply[0] != ACK {
-        return false;
-    }
-    reply[1] == ACK_ONE
+    reply == ACK_1.as_slice()
 }
 
 // Whether the block that was sent last is the last one: block + 1 >= blocks, for any numbers of the record.
 fn is_last(link: Link) -> bool
     ensures { result ≡ leb link.blocks (link.block + 1) }
 {
-    if link.blocks == 0 {
-        return true;
-    }
-    link.blocks - 1 <= link.block
+    link.blocks.saturating_sub(1) <= link.block
 }
 
 // ---- what has to be done next
-
-// No block has to be sent.
-fn no_block(what: usize) -> Action
-    ensures { result ≡ action what 0 0 }
-{
-    Action {
-        what,
-        block: 0,
-        count: 0,
-    }
-}
 
 // "Calls after the end answer so"; else nothing is under way.
 fn end_of(link: Link) -> Action
     ensures { result ≡ end_of link }
 {
-    if link.phase == Link::DELIVERED {
-        return no_block(Link::DELIVERED);
+    match link.phase {
+        Link::DELIVERED => Action::Delivered,
+        Link::GIVEN_UP => Action::GivenUp,
+        _ => Action::Nothing,
     }
-    if link.phase == Link::GIVEN_UP {
-        return no_block(Link::GIVEN_UP);
-    }
-    no_block(Link::IDLE)
 }
 
 // The block that this link names has to be sent, with the link's count.
@@ -79,29 +54,20 @@ fn goes(link: Link) -> Turned
 {
     Turned {
         link,
-        action: Action {
-            what: Link::UNDER_WAY,
+        action: Action::Send {
             block: link.block,
             count: link.count,
         },
     }
 }
 
-// The set is delivered or given up: only the phase changes.
-fn stops(phase: usize, link: Link) -> Turned
-    ensures { result ≡ stops phase link }
+// The set is delivered or given up, and that is told: of the link only the phase changes.
+fn stops(phase: usize, action: Action, link: Link) -> Turned
+    ensures { result ≡ stops phase action link }
 {
-    let ended = Link {
-        phase,
-        blocks: link.blocks,
-        attempt: link.attempt,
-        block: link.block,
-        errors: link.errors,
-        count: link.count,
-    };
     Turned {
-        link: ended,
-        action: no_block(phase),
+        link: Link { phase, ..link },
+        action,
     }
 }
 
@@ -139,16 +105,15 @@ fn acked(link: Link) -> Turned
     ensures { result ≡ acked link }
 {
     if is_last(link) {
-        return stops(Link::DELIVERED, link);
+        return stops(Link::DELIVERED, Action::Delivered, link);
     }
     let count = cable_count::next_count(link.count);
     goes(Link {
         phase: Link::UNDER_WAY,
-        blocks: link.blocks,
-        attempt: link.attempt,
         block: link.block + 1,
         errors: 0,
         count,
+        ..link
     })
 }
 
@@ -158,11 +123,8 @@ fn once_more(link: Link) -> Turned
 {
     goes(Link {
         phase: Link::UNDER_WAY,
-        blocks: link.blocks,
-        attempt: link.attempt,
-        block: link.block,
         errors: 1,
-        count: link.count,
+        ..link
     })
 }
 
@@ -172,11 +134,11 @@ fn second_attempt(link: Link) -> Turned
 {
     goes(Link {
         phase: Link::UNDER_WAY,
-        blocks: link.blocks,
         attempt: SECOND_ATTEMPT,
         block: 0,
         errors: 0,
         count: START_COUNT,
+        ..link
     })
 }
 
@@ -190,7 +152,7 @@ fn failed(link: Link) -> Turned
     if link.attempt <= FIRST_ATTEMPT {
         return second_attempt(link);
     }
-    stops(Link::GIVEN_UP, link)
+    stops(Link::GIVEN_UP, Action::GivenUp, link)
 }
 
 // A reply to the block that was sent last, none for a timeout. If nothing is under way it is not looked at.
@@ -212,14 +174,12 @@ fn turn_of(link: Link, reply: &[u8]) -> Turned
 // ---- the call
 
 // To begin, the bytes are the set; else they are the reply. Only a set is refused.
-pub fn send(link: Link, begin: bool, bytes: &[u8]) -> Sent
+pub fn send(link: Link, begin: bool, bytes: &[u8]) -> Result<Turned, Refusal>
     ensures { result ≡ sent (send link begin bytes.now) }
 {
     if begin {
-        return match blocks_of(bytes) {
-            BlockCount::Refused(refusal) => Sent::Refused(refusal),
-            BlockCount::Of(blocks) => Sent::Next(begun(link, blocks)),
-        };
+        let blocks = blocks_of(bytes)?;
+        return Ok(begun(link, blocks));
     }
-    Sent::Next(turn_of(link, bytes))
+    Ok(turn_of(link, bytes))
 }

@@ -6,34 +6,35 @@ ghost use Rattle.std.specs.Prelude.{◌≡◌};
 ghost use Rattle.meaning.specs.Answers.{correct_call};
 ghost use Rattle.correct_plan.specs.Planned.{planned};
 
-use correct_plan::Plan;
-use meaning::{Judged, Made, Refusal};
+use correct_offer::AcceptedSet;
+use correct_plan::Change;
+use meaning::Refusal;
 
 // All refusals but that of the used length: "the set's own refusals", then those of the correction.
-fn plan_change(set: &[u8], room: usize, line: usize, content: &[u8]) -> Plan
+fn plan_change(set: &[u8], room: usize, line: usize, content: &[u8]) -> Result<Change, Refusal>
     ensures { result ≡ planned set.now room line content.now }
 {
-    match judge::judge(set) {
-        Judged::Refused(r) => Plan::Refused(r),
-        Judged::Accepted(shape) => correct_plan::plan_judged(set, shape, room, line, content),
-    }
+    let shape = judge::judge(set)?;
+    let accepted = AcceptedSet { bytes: set, shape };
+    correct_plan::plan_judged(accepted, room, line, content)
 }
 
 // "A correction names a line and gives a new content": of the set in the first `used` bytes of the buffer.
-pub fn correct(buffer: &mut [u8], used: usize, line: usize, content: &[u8]) -> Made
+pub fn correct(
+    buffer: &mut [u8],
+    used: usize,
+    line: usize,
+    content: &[u8],
+) -> Result<usize, Refusal>
     ensures { (result ≡ (correct_call buffer.old used line content.now).answer)
         × (buffer.new ≡ (correct_call buffer.old used line content.now).buffer) }
 {
     let room = buffer.len();
     // 18, BadUse: "used length over the buffer (place: buffer length)"
     if room < used {
-        return Made::Refused(Refusal::at(Refusal::BAD_USE, room));
+        return Err(Refusal::at(Refusal::BAD_USE, room));
     }
-    match plan_change(&buffer[..used], room, line, content) {
-        Plan::Refused(r) => Made::Refused(r),
-        Plan::Make { place, old, total } => {
-            correct_put::put_content(buffer, used, place, old, content, total);
-            Made::Done(total)
-        }
-    }
+    let Change { place, old, total } = plan_change(&buffer[..used], room, line, content)?;
+    correct_put::put_content(buffer, used, place, old, content, total);
+    Ok(total)
 }

@@ -1,11 +1,11 @@
 -- What the walks of specs/ mean for an accepted set: where a line stands, and which fault speaks first against a new content for it.
-use mathlib.Core.Path.{◌≡◌, refl, sym, ap, ◌∙◌, subst}
+use mathlib.Core.Path.{◌≡◌, refl, sym, ap, ◌∙◌}
 use mathlib.Core.Bool.{Bool, true, false, cond, not, ◌&&◌}
 use mathlib.Core.List.{List, [], ◌∷◌, ◌++◌, cons≢nil, append_assoc}
 use Prim.Native.Nat.{ℕ, zero, suc, pred, ◌+◌, ◌-◌, ◌≤◌, ◌<◌}
 use native.Mathlib.Omega.{arith}
 use native.Mathlib.Nat.{add-zero, zero-add}
-use borrow.Author.Tests.{le-leb, ne_eqb, eqb-true, leb-true, leb-false}
+use borrow.Author.Tests.{le-leb, ne_eqb, eqb-true, leb-true}
 use lib.Dec.{leb, eqb}
 use lib.ListN.{length, take, drop, get_or}
 use lib.Seq.{drop-drop, take_all}
@@ -31,8 +31,7 @@ use Rattle.line_read.proofs.LineMeaning.{read-line}
 use Rattle.line_read.proofs.ToldLaws.{read_told}
 use Rattle.correct_offer.specs.declared.OneLine.{OneLine}
 use Rattle.correct_offer.specs.declared.Terms.{Terms}
-use Rattle.correct_offer.specs.declared.Offer.{Offer}
-use Rattle.correct_offer.specs.Offered.{one_line, line_from, line_after, against, after_all, offered_to, offered_at, offered_high, offered, objected, offer_line, offer_spot, offer_faults}
+use Rattle.correct_offer.specs.Offered.{one_line, line_from, line_after, against, after_all, offered_to, offered_at, offered_high, offered, Offer, offer_line, offer_spot, offer_faults}
 use Rattle.correct_offer.proofs.TermsLaws.{highs-first, Serves, terms-ask}
 
 -- ---- where a line stands
@@ -186,7 +185,7 @@ then-high o xs c seven lines n = go (eqb o.no 0) refl xs
     high = first_high c 0 (length c)
 
     told : Offer
-    told = against high_byte high 0 (one_line 0 o.at o.size)
+    told = against high_byte high 0 o.line
 
     asked : (a b : Bool) → eqb o.no 0 ≡ true → take 1 (high_bytes (pred n) 0 c) ≡ cond b [] (at_byte high_byte (pred n) high ∷ [])
         → take 1 (cond a (high_bytes (pred n) 0 c) []) ≡ offer_faults (cond a (cond b o told) o) lines n
@@ -237,8 +236,7 @@ offer-verdict {A} s d t n c e v pl a = first-verdict pl (change_faults d.fields 
 
 -- whatever speaks against a content, the line is the same, and it is not 19
 record SameLine (x : OneLine) (o : Offer) : Type 0 where
-  same_at : o.at ≡ x.at
-  same_size : o.size ≡ x.size
+  same_line : o.line ≡ x
   there : eqb o.no no_such_line ≡ false
 
 to_same : (x : OneLine) (c : List ℕ) → SameLine x (offered_to x c)
@@ -248,26 +246,26 @@ to_same x c = go (fixed x.label) (leb (length c) (first_low c 0 (length c))) (fi
     go : (a b f : Bool)
         → SameLine x (cond a (against fixed_line 0 x.label x)
         (cond b (cond f (against 0 0 0 x) (against bad_content 0 x.label x)) (against bad_byte (first_low c 0 (length c)) 0 x)))
-    go true b f = record { same_at = refl; same_size = refl; there = refl }
-    go false false f = record { same_at = refl; same_size = refl; there = refl }
-    go false true true = record { same_at = refl; same_size = refl; there = refl }
-    go false true false = record { same_at = refl; same_size = refl; there = refl }
+    go true b f = record { same_line = refl; there = refl }
+    go false false f = record { same_line = refl; there = refl }
+    go false true true = record { same_line = refl; there = refl }
+    go false true false = record { same_line = refl; there = refl }
 
 -- 24 too speaks of the line that was found
 high_same : (o : Offer) (c : List ℕ) (seven : Bool) (lines n : ℕ) → let p = offered_high o c seven in
-    (p.at ≡ o.at) × (p.size ≡ o.size) × (offer_line p lines n ≡ offer_line o lines n)
+    (p.line ≡ o.line) × (offer_line p lines n ≡ offer_line o lines n)
 unfolding offered_high
 high_same o c seven lines n = go (eqb o.no 0) seven (leb (length c) high) (λ z. eqb-true o.no 0 z)
   where
     high : ℕ
     high = first_high c 0 (length c)
 
-    go : (a s b : Bool) → (a ≡ true → o.no ≡ 0) → let p = cond a (cond s (cond b o (against high_byte high 0 (one_line 0 o.at o.size))) o) o in
-        (p.at ≡ o.at) × (p.size ≡ o.size) × (offer_line p lines n ≡ offer_line o lines n)
-    go false s b z = (refl, refl, refl)
-    go true false b z = (refl, refl, refl)
-    go true true true z = (refl, refl, refl)
-    go true true false z = (refl, refl, rw (z refl))
+    go : (a s b : Bool) → (a ≡ true → o.no ≡ 0) → let p = cond a (cond s (cond b o (against high_byte high 0 o.line)) o) o in
+        (p.line ≡ o.line) × (offer_line p lines n ≡ offer_line o lines n)
+    go false s b z = (refl, refl)
+    go true false b z = (refl, refl)
+    go true true true z = (refl, refl)
+    go true true false z = (refl, rw (z refl))
 
 no-faults : (o : Offer) (lines n : ℕ) → o.no ≡ 0 → offer_faults o lines n ≡ []
 unfolding offer_faults
@@ -277,33 +275,9 @@ to-line : (s : List ℕ) (bytes lines n : ℕ) (c : List ℕ) → 1 ≤ n → n 
 unfolding offered_at
 to-line s bytes lines n c lo hi = rw (le-leb 1 n lo, le-leb n lines hi)
 
--- the byte that is objected to stands in the content
-pub objected-byte : (l : ℕ) (c : List ℕ) (seven : Bool) → (objected l c seven).byte ≤ length c
-unfolding objected offered_to offered_high
-objected-byte l c seven = go (fixed l) (leb (length c) low) refl (fits_label l c) seven (leb (length c) high) refl
-  where
-    low : ℕ
-    low = first_low c 0 (length c)
-
-    high : ℕ
-    high = first_high c 0 (length c)
-
-    x : OneLine
-    x = one_line l 0 0
-
-    go : (a b : Bool) → leb (length c) low ≡ b → (f s h : Bool) → leb (length c) high ≡ h
-        → let o = cond a (against fixed_line 0 l x) (cond b (cond f (against 0 0 0 x) (against bad_content 0 l x)) (against bad_byte low 0 x)) in
-        (cond (eqb o.no 0) (cond s (cond h o (against high_byte high 0 (one_line 0 o.at o.size))) o) o).byte ≤ length c
-    go true b e f s h q = omega arith
-    go false false e f s h q = omega (arith, leb-false (length c) low e)
-    go false true e false s h q = omega arith
-    go false true e true false h q = omega arith
-    go false true e true true true q = omega arith
-    go false true e true true false q = omega (arith, leb-false (length c) high q)
-
--- if nothing speaks against the content, the change is right, and the offer has the place and the size of the line
+-- if nothing speaks against the content, the change is right, and the offer has the line
 pub offer-good : (s : List ℕ) (d : Parsed) (t : Terms) (n : ℕ) (c : List ℕ) → read s ≡ done d → Serves d.fields t c → let o = offered s t n c in
-    o.no ≡ 0 → Change d.fields n c × Stands s d.fields (pred n) (label_at_line d.fields (pred n)) o.at o.size
+    o.no ≡ 0 → Change d.fields n c × Stands s d.fields (pred n) o.line.label o.line.at o.line.size
 unfolding offered
 offer-good s d t n c e v q =
     let fs : List Field = d.fields in
@@ -311,15 +285,11 @@ offer-good s d t n c e v q =
     let ch : Change fs n c = change fs n c (one-back (change_faults fs n c) (offer-is s d t n c e v ∙ no-faults (offered s t n c) (length fs) n q)) in
     let st = line-stands s d (pred n) e (omega (arith, ch.least, ch.most)) in
     let kept = high_same (offered_at s t.length t.lines n c) c t.seven (length fs) n in
-    let same = to_same x c in (
-      ch,
-      rw (kept.0, kept.1, to-line s t.length t.lines n c ch.least (omega (arith, ch.most, v.lines-so)), same.same_at, same.same_size)
-          (subst (λ (l : ℕ). Stands s fs (pred n) l x.at x.size) st.label-so st),
-    )
+    (ch, rw (kept.0, to-line s t.length t.lines n c ch.least (omega (arith, ch.most, v.lines-so)), (to_same x c).same_line) st)
 
 -- for 19 the place is the set's length, else where the line stands
 at_place : (s : List ℕ) (d : Parsed) (n : ℕ) (c : List ℕ) → read s ≡ done d → let o = offered_at s (size d.fields) (length d.fields) n c in
-    o.at ≡ offset d.fields (offer_line o (length d.fields) n)
+    o.line.at ≡ offset d.fields (offer_line o (length d.fields) n)
 unfolding offered_at
 at_place s d n c e = go (leb 1 n && leb n (length fs)) refl
   where
@@ -330,18 +300,18 @@ at_place s d n c e = go (leb 1 n && leb n (length fs)) refl
     x = line_after s (pred n)
 
     go : (b : Bool) → leb 1 n && leb n (length fs) ≡ b
-        → let o = cond b (offered_to x c) (against no_such_line 0 0 (after_all (size fs))) in o.at ≡ offset fs (offer_line o (length fs) n)
+        → let o = cond b (offered_to x c) (against no_such_line 0 0 (after_all (size fs))) in o.line.at ≡ offset fs (offer_line o (length fs) n)
     go true q =
         let lo : 1 ≤ n = leb-true 1 n (and_left (leb 1 n) _ q) in
         let hi : n ≤ length fs = leb-true n (length fs) (and_right (leb 1 n) _ q) in
         let same = to_same x c in
-        rw (same.same_at, same.there) (line-stands s d (pred n) e (omega arith)).at-so
+        rw (same.same_line, same.there) (line-stands s d (pred n) e (omega arith)).at-so
     go false q = ap size (sym (take_all (length fs) fs (omega arith)))
 
 pub offer-at : (s : List ℕ) (d : Parsed) (t : Terms) (n : ℕ) (c : List ℕ) → read s ≡ done d → Serves d.fields t c → let o = offered s t n c in
-    o.at ≡ offset d.fields (offer_line o (length d.fields) n)
+    o.line.at ≡ offset d.fields (offer_line o (length d.fields) n)
 unfolding offered
 offer-at s d t n c e v =
     let fs : List Field = d.fields in
     let kept = high_same (offered_at s (size fs) (length fs) n c) c t.seven (length fs) n in
-    rw (v.length-so, v.lines-so, kept.0, kept.2) (at_place s d n c e)
+    rw (v.length-so, v.lines-so, kept.0, kept.1) (at_place s d n c e)

@@ -1,13 +1,15 @@
 -- The walks of specs/ step by step: one law for each way that the code takes.
-use mathlib.Core.Path.{◌≡◌, refl, ◌∙◌}
+use mathlib.Core.Path.{◌≡◌, refl}
 use mathlib.Core.Bool.{Bool, true, false, cond, not}
 use mathlib.Core.List.{List}
 use Prim.Native.Nat.{ℕ, zero, suc, pred, ◌+◌, ◌-◌, ◌≤◌, ◌<◌}
 use native.Mathlib.Omega.{arith}
+use native.Mathlib.Nat.{add-zero, zero-add}
+use Rattle.std.specs.Prelude.{Option, None, Some, Ok, Err}
 use borrow.Author.Tests.{le-leb, lt-leb, ne_eqb}
 use lib.Dec.{leb, eqb}
 use lib.ListN.{length}
-use Rattle.meaning.specs.Refusals.{bad_byte, bad_content, no_such_line, fixed_line, high_byte}
+use Rattle.meaning.specs.Refusals.{tells_byte, behind, refusal, bad_byte, bad_content, no_such_line, fixed_line, high_byte}
 use Rattle.meaning.specs.FieldTable.{fits_label}
 use Rattle.meaning.specs.Corrections.{fixed}
 use Rattle.byte_low.specs.Low.{first_low}
@@ -17,9 +19,9 @@ use Rattle.line_seven.specs.Seven.{says_seven, high_for}
 use Rattle.correct_offer.specs.declared.OneLine.{OneLine}
 use Rattle.correct_offer.specs.declared.Terms.{Terms}
 use Rattle.correct_offer.specs.declared.Objection.{Objection}
-use Rattle.correct_offer.specs.declared.Offer.{Offer}
-use Rattle.correct_offer.specs.Offered.{one_line, no_line, line_from, line_after, asks_seven, against, after_all, offered_to, offered_at, offered_high, offered}
-use Rattle.correct_offer.specs.Offered.{objection, objection_of, objected_high, objected, objection_by_number}
+use Rattle.correct_offer.specs.declared.Objection.TheVariants.{FixedLine, BadByte, BadContent, HighByte}
+use Rattle.correct_offer.specs.Offered.{one_line, no_line, line_from, line_after, asks_seven, Offer, against, after_all, offered_to, offered_at, offered_high, offered}
+use Rattle.correct_offer.specs.Offered.{objected_high, objected, refusal_by, offer_by, offer_spot, beyond, answered}
 
 -- ---- a line, with k lines to skip before it: the line at the offset gives the length n
 
@@ -70,98 +72,44 @@ plain-unasked s b e = rw e (go (says_seven s))
 -- ---- 24, with nothing else against the content
 
 module _ (c : List ℕ) (high : ℕ) (e : high ≡ first_high c 0 (length c)) where
-  pub high-found : high < length c → high_byte ≡ (objected_high c true).no
-  unfolding objected_high offered_high
+  pub high-found : high < length c → Some HighByte ≡ objected_high c true
+  unfolding objected_high
   high-found h = rw (← e, lt-leb (length c) high h)
 
-  pub high-none : length c ≤ high → 0 ≡ (objected_high c true).no
-  unfolding objected_high offered_high
+  pub high-none : length c ≤ high → None ≡ objected_high c true
+  unfolding objected_high
   high-none h = rw (← e, le-leb (length c) high h)
 
 -- ---- a content for a line with label l
 
 module _ (l : ℕ) (c : List ℕ) (seven : Bool) where
-  pub to-fixed : fixed l ≡ true → fixed_line ≡ (objected l c seven).no
-  unfolding objected offered_to offered_high
+  pub to-fixed : fixed l ≡ true → Some FixedLine ≡ objected l c seven
+  unfolding objected
   to-fixed f = rw f
 
   module _ (f : fixed l ≡ false) (low : ℕ) (e : low ≡ first_low c 0 (length c)) where
-    pub to_low : low < length c → bad_byte ≡ (objected l c seven).no
-    unfolding objected offered_to offered_high
+    pub to_low : low < length c → Some BadByte ≡ objected l c seven
+    unfolding objected
     to_low h = rw (f, ← e, lt-leb (length c) low h)
 
     module _ (h : length c ≤ low) where
-      pub to-bad : fits_label l c ≡ false → bad_content ≡ (objected l c seven).no
-      unfolding objected offered_to offered_high
+      pub to-bad : fits_label l c ≡ false → Some BadContent ≡ objected l c seven
+      unfolding objected
       to-bad g = rw (f, ← e, le-leb (length c) low h, g)
 
-      pub to_high : fits_label l c ≡ true → seven ≡ true → (objected_high c true).no ≡ (objected l c seven).no
-      unfolding objected objected_high offered_to
+      pub to_high : fits_label l c ≡ true → seven ≡ true → objected_high c true ≡ objected l c seven
+      unfolding objected
       to_high g q = rw (q, f, ← e, le-leb (length c) low h, g)
 
-      pub to-good : fits_label l c ≡ true → seven ≡ false → 0 ≡ (objected l c seven).no
-      unfolding objected offered_to offered_high
+      pub to-good : fits_label l c ≡ true → seven ≡ false → None ≡ objected l c seven
+      unfolding objected objected_high
       to-good g q = rw (q, f, ← e, le-leb (length c) low h, g)
 
--- ---- by its number
-
-module _ (n l : ℕ) (c : List ℕ) where
-  pub number-good : n ≡ 0 → objection 0 0 0 ≡ objection_by_number n l c
-  unfolding objection_by_number
-  number-good z = rw z
-
-  pub number-low : n ≡ bad_byte → (low : ℕ) → low ≡ first_low c 0 (length c) → objection bad_byte low 0 ≡ objection_by_number n l c
-  unfolding objection_by_number
-  number-low z low e = rw (z, ← e)
-
-  pub number-high : n ≡ high_byte → (high : ℕ) → high ≡ first_high c 0 (length c) → objection high_byte high 0 ≡ objection_by_number n l c
-  unfolding objection_by_number
-  number-high z high e = rw (z, ← e)
-
-  pub number-label : (n ≡ 0 → ⊥) → (n ≡ bad_byte → ⊥) → (n ≡ high_byte → ⊥) → objection n 0 l ≡ objection_by_number n l c
-  unfolding objection_by_number
-  number-label z y x = rw (ne_eqb n 0 z, ne_eqb n bad_byte y, ne_eqb n high_byte x)
-
--- the number says the rest
-objection-is : (l : ℕ) (c : List ℕ) (seven : Bool) → objection_by_number (objected l c seven).no l c ≡ objected l c seven
-unfolding objected objection_by_number offered_to offered_high
-objection-is l c seven = go (fixed l) (leb (length c) low) (fits_label l c) seven (leb (length c) high)
-  where
-    low : ℕ
-    low = first_low c 0 (length c)
-
-    high : ℕ
-    high = first_high c 0 (length c)
-
-    -- by the five tests
-    found : Bool → Bool → Bool → Bool → Bool → Objection
-    found a b f s h =
-        let x = one_line l 0 0 in
-        let o = cond a (against fixed_line 0 l x) (cond b (cond f (against 0 0 0 x) (against bad_content 0 l x)) (against bad_byte low 0 x)) in
-        objection_of (cond (eqb o.no 0) (cond s (cond h o (against high_byte high 0 (one_line 0 o.at o.size))) o) o)
-
-    told : Objection → Objection
-    told o =
-        cond (eqb o.no 0) (objection 0 0 0)
-        (cond (eqb o.no bad_byte) (objection bad_byte low 0) (cond (eqb o.no high_byte) (objection high_byte high 0) (objection o.no 0 l)))
-
-    go : (a b f s h : Bool) → told (found a b f s h) ≡ found a b f s h
-    go true b f s h = refl
-    go false false f s h = refl
-    go false true false s h = refl
-    go false true true false h = refl
-    go false true true true true = refl
-    go false true true true false = refl
-
--- what is found by the number that was found
-pub objection-by : (l : ℕ) (c : List ℕ) (seven : Bool) (n : ℕ) → n ≡ (objected l c seven).no → (o : Objection) → o ≡ objection_by_number n l c → o ≡ objected l c seven
-objection-by l c seven n e o p = p ∙ (rw e (objection-is l c seven))
-
--- ---- a content for a line by its number
+-- ---- the offer to a line
 
 -- what is offered to a line is what speaks against a content for its label, and the line
-against-line : (x : OneLine) (c : List ℕ) (seven : Bool) → let o = objected x.label c seven in against o.no o.byte o.label x ≡ offered_high (offered_to x c) c seven
-unfolding objected offered_to offered_high
+pub against-line : (x : OneLine) (c : List ℕ) (seven : Bool) → offer_by (objected x.label c seven) c x ≡ offered_high (offered_to x c) c seven
+unfolding objected objected_high offered_to offered_high
 against-line x c seven = go (fixed x.label) (leb (length c) low) (fits_label x.label c) seven (leb (length c) high)
   where
     low : ℕ
@@ -171,19 +119,52 @@ against-line x c seven = go (fixed x.label) (leb (length c) low) (fits_label x.l
     high = first_high c 0 (length c)
 
     -- by the five tests
-    to : Bool → Bool → Bool → OneLine → Offer
-    to a b f y = cond a (against fixed_line 0 y.label y) (cond b (cond f (against 0 0 0 y) (against bad_content 0 y.label y)) (against bad_byte low 0 y))
+    found : Bool → Bool → Bool → Bool → Bool → Option Objection
+    found a b f s h = cond a (Some FixedLine) (cond b (cond f (cond s (cond h None (Some HighByte)) None) (Some BadContent)) (Some BadByte))
+
+    to : Bool → Bool → Bool → Offer
+    to a b f = cond a (against fixed_line 0 x.label x) (cond b (cond f (against 0 0 0 x) (against bad_content 0 x.label x)) (against bad_byte low 0 x))
 
     then : Bool → Bool → Offer → Offer
-    then s b o = cond (eqb o.no 0) (cond s (cond b o (against high_byte high 0 (one_line 0 o.at o.size))) o) o
+    then s b o = cond (eqb o.no 0) (cond s (cond b o (against high_byte high 0 o.line)) o) o
 
-    go : (a b f s h : Bool) → let o = objection_of (then s h (to a b f (one_line x.label 0 0))) in against o.no o.byte o.label x ≡ then s h (to a b f x)
+    go : (a b f s h : Bool) → offer_by (found a b f s h) c x ≡ then s h (to a b f)
     go true b f s h = refl
     go false false f s h = refl
     go false true false s h = refl
     go false true true false h = refl
     go false true true true true = refl
     go false true true true false = refl
+
+-- the answer of an offer that is told by what speaks against the content
+pub answer-none : (c : List ℕ) (x : OneLine) → Ok x ≡ answered (offer_by None c x)
+answer-none c x = refl
+
+pub answer-some : (o : Objection) (c : List ℕ) (x : OneLine) → Err (record { refusal = refusal_by o x.label c x.at 0; line = x }) ≡ answered (offer_by (Some o) c x)
+unfolding tells_byte
+answer-some FixedLine c x = refl
+answer-some BadByte c x = rw (zero-add (first_low c 0 (length c))) refl
+answer-some BadContent c x = refl
+answer-some HighByte c x = rw (zero-add (first_high c 0 (length c))) refl
+
+-- an objection is a refusal, and its refusal is placed as an offer's is, `lead` bytes before the content
+pub refused-so : (o : Objection) (c : List ℕ) (x : OneLine) → eqb (offer_by (Some o) c x).no 0 ≡ false
+refused-so FixedLine c x = refl
+refused-so BadByte c x = refl
+refused-so BadContent c x = refl
+refused-so HighByte c x = refl
+
+pub placed-so : (o : Objection) (l : ℕ) (c : List ℕ) (at from lead : ℕ) → from ≡ at + lead
+    → refusal_by o l c at from ≡ (let p = offer_by (Some o) c (one_line l 0 0) in refusal p.no (at + behind lead (offer_spot p)) p.label)
+unfolding tells_byte
+placed-so FixedLine l c at from lead e = rw (add-zero at) refl
+placed-so BadByte l c at from lead e =
+    let p : from + first_low c 0 (length c) ≡ at + (lead + first_low c 0 (length c)) = omega arith in
+    rw p refl
+placed-so BadContent l c at from lead e = rw (add-zero at) refl
+placed-so HighByte l c at from lead e =
+    let p : from + first_high c 0 (length c) ≡ at + (lead + first_high c 0 (length c)) = omega arith in
+    rw p refl
 
 module _ (s : List ℕ) (t : Terms) (n : ℕ) (c : List ℕ) where
   pub number-none : n < 1 → against no_such_line 0 0 (after_all t.length) ≡ offered s t n c
@@ -194,9 +175,22 @@ module _ (s : List ℕ) (t : Terms) (n : ℕ) (c : List ℕ) where
   unfolding offered offered_at offered_high
   number-beyond h = rw (le-leb 1 n (omega arith), lt-leb n t.lines h)
 
-  pub number-there : 1 ≤ n → n ≤ t.lines → (x : OneLine) → x ≡ line_after s (n - 1) → (seven : Bool) → seven ≡ t.seven → (o : Objection) → o ≡ objected x.label c seven
-      → against o.no o.byte o.label x ≡ offered s t n c
+  pub number-there : 1 ≤ n → n ≤ t.lines → let x = line_after s (n - 1) in offer_by (objected x.label c t.seven) c x ≡ offered s t n c
   unfolding offered offered_at
-  number-there g h x p seven q o r =
+  number-there g h =
       let e : n - 1 ≡ pred n = omega arith in
-      rw (r, q, le-leb 1 n g, le-leb n t.lines h, ← e, ← p) (against-line x c t.seven)
+      rw (le-leb 1 n g, le-leb n t.lines h, e) (against-line (line_after s (pred n)) c t.seven)
+
+  -- ---- the answer of a change
+
+  pub change-none : n < 1 → Err (beyond t.length) ≡ answered (offered s t n c)
+  unfolding tells_byte
+  change-none h = rw (← number-none h) refl
+
+  pub change-beyond : t.lines < n → Err (beyond t.length) ≡ answered (offered s t n c)
+  unfolding tells_byte
+  change-beyond h = rw (← number-beyond h) refl
+
+  pub change-there : 1 ≤ n → n ≤ t.lines → (x : OneLine) → x ≡ line_after s (n - 1) → (seven : Bool) → seven ≡ t.seven → (o : Option Objection) → o ≡ objected x.label c seven
+      → answered (offer_by o c x) ≡ answered (offered s t n c)
+  change-there g h x p seven q o r = rw (r, q, p, ← number-there g h) refl

@@ -1,9 +1,10 @@
--- The walks of `line_after`, `terms_of`, `judge_content`, `objection_by_number` and `judge_change`: the lines of a set by offsets, whether seven bits have to be asked for, and the tests
+-- The walks of `line_after`, `terms_of`, `judge_content`, `Objection::refusal` and `judge_change`: the lines of a set by offsets, whether seven bits have to be asked for, and the tests
 -- 19, 20, 6, 14, 24 in the code's order. What they mean for an accepted set is `line-stands` and `offer-is` in proofs/OfferLaws, and `content-served` and `part-served` in
 -- proofs/TermsLaws.
-use Rattle.std.specs.Prelude.{Bool, cond, not, ◌&&◌, List, [], ◌∷◌, ℕ, zero, suc, pred, ◌+◌, length, leb, eqb}
+use Rattle.std.specs.Prelude.{Bool, cond, not, ◌&&◌, List, [], ◌∷◌, ℕ, zero, suc, pred, ◌+◌, length, leb, eqb, Option, None, Some, Result, Ok, Err}
+use Rattle.meaning.specs.declared.Refusal.{Refusal}
 use Rattle.meaning.specs.declared.Shape.{Shape}
-use Rattle.meaning.specs.Refusals.{Spot, start, byte, Fault, tells_byte, bad_byte, bad_content, no_such_line, fixed_line, high_byte}
+use Rattle.meaning.specs.Refusals.{Spot, start, byte, Fault, tells_byte, refusal, bad_byte, bad_content, no_such_line, fixed_line, high_byte}
 use Rattle.meaning.specs.Lines.{line_lead, line_end}
 use Rattle.meaning.specs.FieldTable.{fits_label}
 use Rattle.meaning.specs.Corrections.{fixed}
@@ -12,9 +13,10 @@ use Rattle.byte_high.specs.High.{first_high}
 use Rattle.line_read.specs.Told.{told_length, told_label}
 use Rattle.line_seven.specs.Seven.{high_for}
 use Rattle.correct_offer.specs.declared.OneLine.{OneLine}
+use Rattle.correct_offer.specs.declared.Declined.{Declined}
 use Rattle.correct_offer.specs.declared.Terms.{Terms}
 use Rattle.correct_offer.specs.declared.Objection.{Objection}
-use Rattle.correct_offer.specs.declared.Offer.{Offer}
+use Rattle.correct_offer.specs.declared.Objection.TheVariants.{FixedLine, BadByte, BadContent, HighByte}
 
 -- ---- one line
 
@@ -43,10 +45,17 @@ asks_seven s b = not (leb (length b) (high_for s b))
 abbrev pub terms_of : List ℕ → Shape → List ℕ → Terms
 terms_of s x b = record { length = x.length; lines = x.lines; seven = asks_seven s b }
 
--- ---- what speaks against a content
+-- ---- what speaks against a content, and a line that would take it: the number of the refusal (0: nothing), for 6 and 24 which byte of the content, for 20 and 14 the line's label,
+-- and the line; for 19 none, after all lines
+
+pub record Offer : Type 0 where
+  pub no : ℕ
+  pub byte : ℕ
+  pub label : ℕ
+  pub line : OneLine
 
 abbrev pub against : ℕ → ℕ → ℕ → OneLine → Offer
-against n i l x = record { no = n; byte = i; label = l; at = x.at; size = x.size }
+against n i l x = record { no = n; byte = i; label = l; line = x }
 
 -- after all lines of a set of n bytes
 abbrev pub after_all : ℕ → OneLine
@@ -67,7 +76,7 @@ offered_at s bytes lines n c = cond (leb 1 n && leb n lines) (offered_to (line_a
 unfoldable pub offered_high : Offer → List ℕ → Bool → Offer
 offered_high o c seven =
     let high = first_high c 0 (length c) in
-    cond (eqb o.no 0) (cond seven (cond (leb (length c) high) o (against high_byte high 0 (one_line 0 o.at o.size))) o) o
+    cond (eqb o.no 0) (cond seven (cond (leb (length c) high) o (against high_byte high 0 o.line)) o) o
 
 -- a content for line number n of a set with these terms
 unfoldable pub offered : List ℕ → Terms → ℕ → List ℕ → Offer
@@ -75,27 +84,48 @@ offered s t n c = offered_high (offered_at s t.length t.lines n c) c t.seven
 
 -- ---- a content for a line with label l, whichever line it is
 
-abbrev pub objection : ℕ → ℕ → ℕ → Objection
-objection n i l = record { no = n; byte = i; label = l }
-
--- what an offer says of the content, without its line
-abbrev pub objection_of : Offer → Objection
-objection_of o = objection o.no o.byte o.label
-
 -- 24, if nothing else speaks against the content
-unfoldable pub objected_high : List ℕ → Bool → Objection
-objected_high c seven = objection_of (offered_high (against 0 0 0 no_line) c seven)
+unfoldable pub objected_high : List ℕ → Bool → Option Objection
+objected_high c seven = cond seven (cond (leb (length c) (first_high c 0 (length c))) None (Some HighByte)) None
 
 -- 20, 6, 14, 24
-unfoldable pub objected : ℕ → List ℕ → Bool → Objection
-objected l c seven = objection_of (offered_high (offered_to (one_line l 0 0) c) c seven)
+unfoldable pub objected : ℕ → List ℕ → Bool → Option Objection
+objected l c seven =
+    cond (fixed l) (Some FixedLine)
+    (cond (leb (length c) (first_low c 0 (length c))) (cond (fits_label l c) (objected_high c seven) (Some BadContent)) (Some BadByte))
 
--- the same by its number alone: for 6 and 24 which byte, for 20 and 14 the label
-unfoldable pub objection_by_number : ℕ → ℕ → List ℕ → Objection
-objection_by_number n l c =
-    cond (eqb n 0) (objection 0 0 0)
-    (cond (eqb n bad_byte) (objection bad_byte (first_low c 0 (length c)) 0)
-    (cond (eqb n high_byte) (objection high_byte (first_high c 0 (length c)) 0) (objection n 0 l)))
+-- the refusal: for 6 and 24 which byte, if the content's first one is at `from`, for 20 and 14 the place and the label
+abbrev pub refusal_by : Objection → ℕ → List ℕ → ℕ → ℕ → Refusal
+refusal_by FixedLine l c at from = refusal fixed_line at l
+refusal_by BadByte l c at from = refusal bad_byte (from + first_low c 0 (length c)) 0
+refusal_by BadContent l c at from = refusal bad_content at l
+refusal_by HighByte l c at from = refusal high_byte (from + first_high c 0 (length c)) 0
+
+-- the same as an offer to a line
+abbrev pub offer_by : Option Objection → List ℕ → OneLine → Offer
+offer_by None c x = against 0 0 0 x
+offer_by (Some FixedLine) c x = against fixed_line 0 x.label x
+offer_by (Some BadByte) c x = against bad_byte (first_low c 0 (length c)) 0 x
+offer_by (Some BadContent) c x = against bad_content 0 x.label x
+offer_by (Some HighByte) c x = against high_byte (first_high c 0 (length c)) 0 x
+
+-- ---- the answer
+
+-- for 6 and 24 the byte of the content, else where the line stands
+abbrev pub offer_place : Offer → ℕ
+offer_place o = cond (tells_byte o.no) o.byte o.line.at
+
+-- why it is declined, and the line concerned
+abbrev pub declined : Offer → Declined
+declined o = record { refusal = refusal o.no (offer_place o) o.label; line = o.line }
+
+-- 19, of a set of n bytes
+abbrev pub beyond : ℕ → Declined
+beyond n = record { refusal = refusal no_such_line n 0; line = after_all n }
+
+-- the line, if nothing speaks against the content
+abbrev pub answered : Offer → Result OneLine Declined
+answered o = cond (eqb o.no 0) (Ok o.line) (Err (declined o))
 
 -- ---- the fault that an offer stands for
 

@@ -1,13 +1,21 @@
 // Whether a line of an accepted set may take a new content: "19, 20, 6, 14", then 24, for a correction and for each entry of a sheet.
-// Assumes nothing of the bytes: each contract cites a walk of specs/, and proofs/OfferLaws and TermsLaws say what the walks of an accepted set mean.
+// Assumes nothing of the bytes; `Objection::refusal`, which only other crates here call, assumes that the places of its content are numbers. Each contract cites a walk of specs/, and proofs/OfferLaws and TermsLaws say what the walks of an accepted set mean.
 #![tactic(auto)]
 
-ghost use Rattle.std.specs.Prelude.{◌≡◌, true};
-ghost use Rattle.meaning.specs.Refusals.{no_such_line};
+ghost use Rattle.std.specs.Prelude.{◌≡◌, true, ◌+◌, ◌^◌, ◌<◌, length, Ok};
+ghost use Rattle.meaning.specs.Reading.{judge};
 ghost use Rattle.meaning.specs.Corrections.{fixed};
-ghost use Rattle.correct_offer.specs.Offered.{no_line, line_after, asks_seven, terms_of, after_all, against, objection, objected_high, objected, objection_by_number, offered};
+ghost use Rattle.correct_offer.specs.Offered.{no_line, line_after, asks_seven, terms_of, refusal_by, objected_high, objected, offered, beyond, answered};
 
 use meaning::{Refusal, Shape};
+
+// A set that was accepted, and its shape.
+#[derive(Clone, Copy)]
+pub struct AcceptedSet<'a> {
+    pub bytes: &'a [u8],
+    pub shape: Shape,
+    ghost accepted: { judge bytes.now ≡ Ok shape },
+}
 
 // A line of a set: its label, the offset of its first byte, and its whole length.
 #[derive(Drop)]
@@ -15,6 +23,21 @@ pub struct OneLine {
     pub label: usize,
     pub at: usize,
     pub size: usize,
+}
+
+// Why a new content is declined, and the line that would have taken it; for 19 none, after all lines.
+#[derive(Drop)]
+pub struct Declined {
+    pub refusal: Refusal,
+    pub line: OneLine,
+}
+
+impl From<Declined> for Refusal {
+    ghost from_gives = { λ declined refusal. refusal ≡ declined.refusal };
+
+    fn from(declined: Declined) -> Self {
+        declined.refusal
+    }
 }
 
 // What an accepted set asks of every new content: how many bytes and lines the set has, and whether the content may have no byte over 7Fh.
@@ -25,33 +48,46 @@ pub struct Terms {
     pub seven: bool,
 }
 
-// What speaks against a new content for a line with a label, whichever line it is: the number of the refusal (0: nothing), for 6 and 24 which byte of the content, for 20 and 14
-// the label.
-#[derive(Drop)]
-pub struct Objection {
-    pub no: usize,
-    pub byte: usize,
-    pub label: usize,
+// What speaks against a new content for a line, whichever line it is.
+#[derive(Clone, Copy, PartialEq, Eq)]
+pub enum Objection {
+    // 20: the line keeps its content.
+    FixedLine,
+    // 6: a byte of the content is under 20h.
+    BadByte,
+    // 14: the label takes no such content.
+    BadContent,
+    // 24: a byte of the content is over 7Fh, in a set that asks for seven bits.
+    HighByte,
 }
 
 impl Objection {
-    // An objection, or none, by its three parts.
-    fn by(no: usize, byte: usize, label: usize) -> Objection
-        ensures { result ≡ objection no byte label }
+    // The refusal of a content for a line with this label: 6 and 24 tell the byte, if the content's first one is at place `from`; the others tell `at`, and the label.
+    pub fn refusal(self, label: usize, content: &[u8], at: usize, from: usize) -> Refusal
+        requires { from + length content.now < 2 ^ 64 }
+        ensures { result ≡ refusal_by self label content.now at from }
     {
-        Objection { no, byte, label }
+        match self {
+            Objection::FixedLine => Refusal {
+                no: Refusal::FIXED_LINE,
+                place: at,
+                label,
+            },
+            Objection::BadByte => {
+                let low = byte_low::find_low(content, 0, content.len());
+                Refusal::at(Refusal::BAD_BYTE, from + low)
+            }
+            Objection::BadContent => Refusal {
+                no: Refusal::BAD_CONTENT,
+                place: at,
+                label,
+            },
+            Objection::HighByte => {
+                let high = byte_high::first_high(content, 0, content.len());
+                Refusal::at(Refusal::HIGH_BYTE, from + high)
+            }
+        }
     }
-}
-
-// What speaks against a new content for a line: the number of the refusal (0: nothing), for 6 and 24 which byte of the content, for 20 and 14 the line's label.
-// And the line that would take it: its offset and its whole length; for 19 the set's length and 0.
-#[derive(Clone, Copy)]
-pub struct Offer {
-    pub no: usize,
-    pub byte: usize,
-    pub label: usize,
-    pub at: usize,
-    pub size: usize,
 }
 
 // No line.
@@ -70,14 +106,12 @@ pub fn line_after(set: &[u8], before: usize) -> OneLine
     ensures { result ≡ line_after set.now before }
 {
     let mut at = 0;
-    let mut left = before;
-    while 0 < left {
+    for _ in 0..before {
         let length = line_read::told_length(set, at);
         if length == 0 {
             return no_line();
         }
         at += length + meaning::LINE_FRAME;
-        left -= 1;
     }
     let label = line_read::told_label(set, at);
     let size = line_read::told_length(set, at) + meaning::LINE_FRAME;
@@ -124,108 +158,83 @@ fn is_fixed(label: usize) -> bool
     if label < meaning::LABEL_8000 {
         return false;
     }
-    match label {
-        meaning::LABEL_8000 => true,
-        meaning::LABEL_8100 => true,
-        meaning::LABEL_9206 => true,
-        meaning::LABEL_9218 => true,
-        _ => false,
-    }
-}
-
-// What speaks against the content, and the line.
-fn against(no: usize, byte: usize, label: usize, line: OneLine) -> Offer
-    ensures { result ≡ against no byte label line }
-{
-    Offer {
-        no,
-        byte,
+    matches!(
         label,
-        at: line.at,
-        size: line.size,
-    }
+        meaning::LABEL_8000 | meaning::LABEL_8100 | meaning::LABEL_9206 | meaning::LABEL_9218
+    )
 }
 
-// 24, HighByte, of a content that may have no byte over 7Fh, or 0.
-fn judge_high(content: &[u8]) -> usize
-    ensures { result ≡ (objected_high content.now true).no }
+// 24, HighByte, of a content that may have no byte over 7Fh.
+fn judge_high(content: &[u8]) -> Option<Objection>
+    ensures { result ≡ objected_high content.now true }
 {
     if byte_high::first_high(content, 0, content.len()) < content.len() {
-        return Refusal::HIGH_BYTE;
+        return Some(Objection::HighByte);
     }
-    0
+    None
 }
 
-// A new content for a line with this label, of a correction or of an entry of a sheet: 20, 6, 14, and 24 if seven bits have to be asked for. The answer is the number alone (0:
-// nothing speaks against it), since most contents are good: `objection_by_number` tells the rest.
-pub fn judge_content(label: usize, content: &[u8], seven: bool) -> usize
-    ensures { result ≡ (objected label content.now seven).no }
+// What speaks against a new content for a line with this label, of a correction or of an entry of a sheet: 20, 6, 14, and 24 if seven bits have to be asked for. Most contents are good:
+// which byte is bad is looked for only if a refusal is made of it.
+pub fn judge_content(label: usize, content: &[u8], seven: bool) -> Option<Objection>
+    ensures { result ≡ objected label content.now seven }
 {
     if is_fixed(label) {
-        return Refusal::FIXED_LINE;
+        return Some(Objection::FixedLine);
     }
     if byte_low::first_low(content, 0, content.len()) < content.len() {
-        return Refusal::BAD_BYTE;
+        return Some(Objection::BadByte);
     }
     // 14, BadContent: "empty included"
     if !table_kinds::fits_label(label, content) {
-        return Refusal::BAD_CONTENT;
+        return Some(Objection::BadContent);
     }
     // 24, HighByte: "for a correction or sheet entry after BadContent", so only if nothing else speaks against the content.
     if seven {
         return judge_high(content);
     }
-    0
-}
-
-// What speaks against a content for a line with this label, by the number of the refusal.
-pub fn objection_by_number(no: usize, label: usize, content: &[u8]) -> Objection
-    ensures { result ≡ objection_by_number no label content.now }
-{
-    if no == 0 {
-        return Objection::by(0, 0, 0);
-    }
-    // 6, BadByte: "place in the new content"
-    if no == Refusal::BAD_BYTE {
-        let low = byte_low::find_low(content, 0, content.len());
-        return Objection::by(Refusal::BAD_BYTE, low, 0);
-    }
-    if no == Refusal::HIGH_BYTE {
-        let high = byte_high::first_high(content, 0, content.len());
-        return Objection::by(Refusal::HIGH_BYTE, high, 0);
-    }
-    Objection::by(no, 0, label)
+    None
 }
 
 // 19, NoSuchLine: "line number 0 or beyond the set; place: set length".
-fn no_such_line(length: usize) -> Offer
-    ensures { result ≡ against no_such_line 0 0 (after_all length) }
+fn no_such_line(length: usize) -> Declined
+    ensures { result ≡ beyond length }
 {
-    against(
-        Refusal::NO_SUCH_LINE,
-        0,
-        0,
-        OneLine {
+    Declined {
+        refusal: Refusal::at(Refusal::NO_SUCH_LINE, length),
+        line: OneLine {
             label: 0,
             at: length,
             size: 0,
         },
-    )
+    }
 }
 
-// A correction, a new content for a line of an accepted set of this shape: 19, 20, 6, 14, 24.
-pub fn judge_change(set: &[u8], shape: Shape, line: usize, content: &[u8]) -> Offer
-    ensures { result ≡ offered set.now (terms_of set.now shape content.now) line content.now }
+// A correction, a new content for a line of an accepted set of this shape: 19, 20, 6, 14, 24, or the line that takes it.
+pub fn judge_change(
+    set: &[u8],
+    shape: Shape,
+    line: usize,
+    content: &[u8],
+) -> Result<OneLine, Declined>
+    ensures { result ≡ answered (offered set.now (terms_of set.now shape content.now) line content.now) }
 {
     if line < 1 {
-        return no_such_line(shape.length);
+        return Err(no_such_line(shape.length));
     }
     if shape.lines < line {
-        return no_such_line(shape.length);
+        return Err(no_such_line(shape.length));
     }
-    let x = line_after(set, line - 1);
+    let found = line_after(set, line - 1);
     let seven = asks_seven(set, content);
-    let no = judge_content(x.label, content, seven);
-    let found = objection_by_number(no, x.label, content);
-    against(found.no, found.byte, found.label, x)
+    match judge_content(found.label, content, seven) {
+        Some(objection) => {
+            let refusal = objection.refusal(found.label, content, found.at, 0);
+            Err(Declined {
+                refusal,
+                line: found,
+            })
+        }
+        None => Ok(found),
+    }
 }

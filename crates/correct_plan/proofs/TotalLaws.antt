@@ -7,7 +7,6 @@ use native.Mathlib.Omega.{arith}
 use lib.Dec.{eqb}
 use lib.ListN.{length, drop, get_or, set}
 use borrow.Author.Tests.{eqb-true}
-use Rattle.meaning.specs.declared.Known.TheVariants.{Nothing}
 use Rattle.meaning.specs.Limits.{type_of}
 use Rattle.meaning.specs.Digits.{all_digits, number}
 use Rattle.meaning.specs.Field.{Field, field, no_field, label_at_line, content_at_line}
@@ -18,6 +17,7 @@ use Rattle.meaning.specs.Corrections.{fixed, recontent, resum}
 use Rattle.meaning.proofs.Bools.{and_left}
 use Rattle.meaning.proofs.RuleLaws.{ruled, begins-of}
 use Rattle.meaning.proofs.SetLaws.{Standing, sum_back}
+use Rattle.std.specs.Prelude.{None}
 
 -- ---- lines 1 and 2
 
@@ -31,7 +31,7 @@ known-four : (c : List ℕ) → is_known (type_named c) ≡ true → length c �
 unfolding type_named
 known-four c e = go (eqb (length c) type_digits && all_digits c) refl e
   where
-    go : (t : Bool) → eqb (length c) type_digits && all_digits c ≡ t → is_known (cond t (type_of (number c)) Nothing) ≡ true → length c ≡ 4
+    go : (t : Bool) → eqb (length c) type_digits && all_digits c ≡ t → is_known (cond t (type_of (number c)) None) ≡ true → length c ≡ 4
     go true q h = eqb-true (length c) 4 (and_left (eqb (length c) type_digits) (all_digits c) q)
     go false q h = absurd (true≢false (sym h))
 

@@ -1,72 +1,46 @@
 // What the correction of one line of an accepted set comes to, before any byte is written: 18 (second set), 19, 20, 6, 14, 24, 22, or where the line stands and how many bytes count then.
-// Assumes of `plan_judged` that the set was accepted with this shape: only another crate here calls it, and proves that. Its contract cites a definition of specs/.
+// Assumes nothing: that the set was accepted, an `AcceptedSet` holds. The contract of `plan_judged` cites a definition of specs/.
 #![tactic(auto)]
 
-ghost use Rattle.std.specs.Prelude.{◌≡◌, cond};
-ghost use Rattle.meaning.specs.Refusals.{refusal, tells_byte};
-ghost use Rattle.meaning.specs.Reading.{judge};
+ghost use Rattle.std.specs.Prelude.{◌≡◌};
 ghost use Rattle.correct_plan.specs.Planned.{within_room, planned};
 
-use correct_offer::Offer;
-use meaning::{Judged, Refusal, SetType, Shape};
+use correct_offer::AcceptedSet;
+use meaning::{Refusal, SetType};
 
-// What a correction comes to.
+// What a correction that is not refused comes to: the line stands at this place, its content has `old` bytes, and the corrected set has `total` bytes.
 #[derive(Drop)]
-pub enum Plan {
-    // The first refusal in the paper's order.
-    Refused(Refusal),
-    // The line stands at this place, its content has `old` bytes, and the corrected set has `total` bytes.
-    Make {
-        place: usize,
-        old: usize,
-        total: usize,
-    },
-}
-
-// A refusal by its three parts.
-fn refused_plan(no: usize, place: usize, label: usize) -> Plan
-    ensures { result ≡ Plan.Refused (refusal no place label) }
-{
-    Plan::Refused(Refusal { no, place, label })
-}
-
-// "6 (place in the new content)", and so for 24; of the others the place is the line's, and for 19 the set's length.
-fn place_of(offer: Offer) -> usize
-    ensures { result ≡ cond (tells_byte offer.no) offer.byte offer.at }
-{
-    if Refusal::tells_byte(offer.no) {
-        return offer.byte;
-    }
-    offer.at
+pub struct Change {
+    pub place: usize,
+    pub old: usize,
+    pub total: usize,
 }
 
 // 22, NoRoom: "the new total is over the buffer or over 99,999"; "place: the need".
-fn plan_total(room: usize, place: usize, old: usize, total: usize) -> Plan
+fn plan_total(room: usize, place: usize, old: usize, total: usize) -> Result<Change, Refusal>
     ensures { result ≡ within_room room place old total }
 {
-    if room < total {
-        return refused_plan(Refusal::NO_ROOM, total, 0);
+    if room < total || SetType::SET_BYTES < total {
+        return Err(Refusal::at(Refusal::NO_ROOM, total));
     }
-    if SetType::SET_BYTES < total {
-        return refused_plan(Refusal::NO_ROOM, total, 0);
-    }
-    Plan::Make { place, old, total }
+    Ok(Change { place, old, total })
 }
 
 // "18 (second set), 19, 20, 6 (place in the new content), 14 (empty included), 22", with 24 after 14: for a set that was accepted.
-pub fn plan_judged(set: &[u8], shape: Shape, room: usize, line: usize, content: &[u8]) -> Plan
-    requires { judge set.now ≡ Judged.Accepted shape }
-    ensures { result ≡ planned set.now room line content.now }
+pub fn plan_judged(
+    set: AcceptedSet<'_>,
+    room: usize,
+    line: usize,
+    content: &[u8],
+) -> Result<Change, Refusal>
+    ensures { result ≡ planned set.entry.bytes.now room line content.now }
 {
     // 18, BadUse: "another set follows (place: first set's length)"
-    if shape.length < set.len() {
-        return refused_plan(Refusal::BAD_USE, shape.length, 0);
+    if set.shape.length < set.bytes.len() {
+        return Err(Refusal::at(Refusal::BAD_USE, set.shape.length));
     }
-    let offer = correct_offer::judge_change(set, shape, line, content);
-    if offer.no != 0 {
-        return refused_plan(offer.no, place_of(offer), offer.label);
-    }
-    let old = offer.size - meaning::LINE_FRAME;
-    let total = set.len() - old + content.len();
-    plan_total(room, offer.at, old, total)
+    let found = correct_offer::judge_change(set.bytes, set.shape, line, content)?;
+    let old = found.size - meaning::LINE_FRAME;
+    let total = set.bytes.len() - old + content.len();
+    plan_total(room, found.at, old, total)
 }

@@ -26,8 +26,7 @@ use Rattle.meaning.proofs.FieldLaws.{sum_fits}
 use Rattle.meaning.proofs.TypeLaws.{known-type, type-digits}
 use Rattle.meaning.proofs.RuleLaws.{ruled, begins-of}
 use Rattle.meaning.proofs.SetLaws.{Standing, Accepted, accepted, second_fits}
-use Rattle.line_read.specs.declared.Number.{Number}
-use Rattle.line_read.specs.Number.{number_at}
+use Rattle.line_read.specs.Number.{number_at, Number}
 use Rattle.line_find.specs.FirstPlace.{first_place}
 use Rattle.line_find.proofs.FirstPlaceLaws.{FirstLine, first-here, first-later, place_is}
 use Rattle.line_read.proofs.LineMeaning.{number_is}

@@ -1,18 +1,16 @@
 -- The walks of this crate: what the bytes of a set that was judged before say. What they are for an accepted set is `entry-told` in proofs/ToldEntryLaws.
-use Rattle.std.specs.Prelude.{List, ℕ, ◌+◌, drop}
+use Rattle.std.specs.Prelude.{List, ℕ, ◌+◌, drop, None, Some}
 use Rattle.meaning.specs.Lines.{line_lead}
 use Rattle.meaning.specs.Rules.{type_digits}
 use Rattle.meaning.specs.Lists.{sum_digits, sum_place}
-use Rattle.line_read.specs.declared.Number.{Number}
-use Rattle.line_read.specs.declared.Number.TheVariants.{Is, None}
-use Rattle.line_read.specs.Number.{number_at}
+use Rattle.line_read.specs.Number.{number_at, Number}
 use Rattle.line_find.specs.FirstPlace.{first_place}
 use Rattle.meaning_day.specs.declared.DayEntry.{DayEntry}
 use Rattle.meaning_day.specs.Days.{patient_label}
 
 -- a number, 0 if there is none
 abbrev pub or_zero : Number → ℕ
-or_zero (Is n) = n
+or_zero (Some n) = n
 or_zero None = 0
 
 -- what k bytes at an offset write

@@ -6,7 +6,6 @@
 ghost use Rattle.std.specs.Prelude.{◌≡◌, ◌≤◌, length};
 ghost use Rattle.day_entry.specs.ToldEntry.{number_in, told_entry};
 
-use line_read::Number;
 use meaning_day::DayEntry;
 
 // The number that k bytes at an offset write; 0 if they write none.
@@ -14,12 +13,13 @@ fn number_in(set: &[u8], at: usize, k: usize) -> usize
     ensures { result ≡ number_in set.now at k }
 {
     match line_read::number_at(set, at, k) {
-        Number::Is(number) => number,
-        Number::None => 0,
+        Some(number) => number,
+        None => 0,
     }
 }
 
 // "For each set its offset, length, type and place of the 3000 content": the length is what 8100 writes, the type what 8000 writes; the place is that of the first 3000 line, which the lengths of the lines before it lead to.
+#[inline(always)]
 pub fn entry_at(file: &[u8], at: usize) -> DayEntry
     requires { at ≤ length file.now }
     ensures { result ≡ told_entry file.now at }

@@ -9,9 +9,6 @@ use lib.Seq.{take_all, drop-drop}
 use borrow.Author.Tests.{le-leb, lt-leb}
 use Rattle.meaning.specs.declared.Refusal.{Refusal}
 use Rattle.meaning.specs.declared.Shape.{Shape}
-use Rattle.meaning.specs.declared.Judged.{Judged}
-use Rattle.meaning.specs.declared.Judged.TheVariants.{Accepted, Refused}
-use Rattle.meaning.specs.declared.Made.TheVariants.{Done, Refused as NotMade}
 use Rattle.meaning.specs.Field.{Field, is_nil}
 use Rattle.meaning.specs.Refusals.{Reply, refused, done, then_to, refusal, too_many_sets}
 use Rattle.meaning.specs.Pieces.{Parsed}
@@ -29,6 +26,8 @@ use Rattle.meaning_day.specs.Days.{max_sets, day_entry, placed, sets_from}
 use Rattle.meaning_day.proofs.DayLaws.{drop-lines, read_length}
 use Rattle.meaning.proofs.WithinLaws.{refused-within}
 use Rattle.day_index.specs.Counting.{counted_after}
+use Rattle.meaning.specs.Results.{Judged}
+use Rattle.std.specs.Prelude.{Err, Ok}
 
 -- ---- one set, judged at an offset
 
@@ -41,22 +40,22 @@ module _ (f : List ℕ) (at : ℕ) where
   unfolding judge
   at-judge j e = e ∙ ap (λ (s : List ℕ). judged (read s)) (part-is f at)
 
-  pub judged-accepted : (x : Shape) → Accepted x ≡ judge (take (length f - at) (drop at f)) → Accepted x ≡ judged (placed at (read (drop at f)))
-  judged-accepted x e = go (read (drop at f)) (at-judge (Accepted x) e)
+  pub judged-accepted : (x : Shape) → Ok x ≡ judge (take (length f - at) (drop at f)) → Ok x ≡ judged (placed at (read (drop at f)))
+  judged-accepted x e = go (read (drop at f)) (at-judge (Ok x) e)
     where
-      go : (r : Reply Parsed) → Accepted x ≡ judged r → Accepted x ≡ judged (placed at r)
+      go : (r : Reply Parsed) → Ok x ≡ judged r → Ok x ≡ judged (placed at r)
       go (refused r) q = refused-accepted (sym q)
       go (done d) q = q
 
   -- the place of a refusal, in the file
-  pub judged-refused : (r : Refusal) → Refused r ≡ judge (take (length f - at) (drop at f))
-      → (Refused (refusal r.no (at + r.place) r.label) ≡ judged (placed at (read (drop at f)))) × (r.place ≤ length (drop at f))
-  judged-refused r e = go (read (drop at f)) refl (at-judge (Refused r) e)
+  pub judged-refused : (r : Refusal) → Err r ≡ judge (take (length f - at) (drop at f))
+      → (Err (refusal r.no (at + r.place) r.label) ≡ judged (placed at (read (drop at f)))) × (r.place ≤ length (drop at f))
+  judged-refused r e = go (read (drop at f)) refl (at-judge (Err r) e)
     where
-      go : (q : Reply Parsed) → read (drop at f) ≡ q → Refused r ≡ judged q → (Refused (refusal r.no (at + r.place) r.label) ≡ judged (placed at q)) × (r.place ≤ length (drop at f))
+      go : (q : Reply Parsed) → read (drop at f) ≡ q → Err r ≡ judged q → (Err (refusal r.no (at + r.place) r.label) ≡ judged (placed at q)) × (r.place ≤ length (drop at f))
       go (refused q) p h =
           let s : r ≡ q = refusal-same h in
-          (ap (λ (y : Refusal). Refused (refusal y.no (at + y.place) y.label)) s, subst (λ (y : Refusal). y.place ≤ length (drop at f)) (sym s) (refused-within (drop at f) q p))
+          (ap (λ (y : Refusal). Err (refusal y.no (at + y.place) y.label)) s, subst (λ (y : Refusal). y.place ≤ length (drop at f)) (sym s) (refused-within (drop at f) q p))
       go (done d) p h = refused-accepted h
 
 -- ---- the sets from an offset on, of which n may come; `count` stand before it
@@ -76,10 +75,10 @@ pub record SetHere (f : List ℕ) (at : ℕ) (x : Shape) : Type 0 where
   pub next-there : drop (at + x.length) f ≡ what.rest
 
 module _ (f : List ℕ) (at : ℕ) where
-  pub set_here : at ≤ length f → (x : Shape) → judged (placed at (read (drop at f))) ≡ Accepted x → SetHere f at x
+  pub set_here : at ≤ length f → (x : Shape) → judged (placed at (read (drop at f))) ≡ Ok x → SetHere f at x
   set_here g x e = go (read (drop at f)) refl e
     where
-      go : (q : Reply Parsed) → read (drop at f) ≡ q → judged (placed at q) ≡ Accepted x → SetHere f at x
+      go : (q : Reply Parsed) → read (drop at f) ≡ q → judged (placed at q) ≡ Ok x → SetHere f at x
       go (refused r) p h = refused-accepted h
       go (done d) p h =
           let s : x ≡ shape d.fields = sym (accepted-same h) in
@@ -101,25 +100,25 @@ module _ (f : List ℕ) (at : ℕ) where
   not-at-end h = sym (end_is f at) ∙ lt-leb (length f) at h
 
   -- no byte is left
-  pub count-end : (n count : ℕ) → length f ≤ at → counted_after count (sets_from n at (drop at f)) ≡ Done count
+  pub count-end : (n count : ℕ) → length f ≤ at → counted_after count (sets_from n at (drop at f)) ≡ Ok count
   unfolding sets_from
-  count-end zero count h = rw (at-end h) (ap Done (omega arith))
-  count-end (suc n) count h = rw (at-end h) (ap Done (omega arith))
+  count-end zero count h = rw (at-end h) (ap Ok (omega arith))
+  count-end (suc n) count h = rw (at-end h) (ap Ok (omega arith))
 
   -- a set's own refusal
-  pub count-refused : (n count : ℕ) (r : Refusal) → at < length f → judged (placed at (read (drop at f))) ≡ Refused r
-      → counted_after count (sets_from n at (drop at f)) ≡ NotMade r
+  pub count-refused : (n count : ℕ) (r : Refusal) → at < length f → judged (placed at (read (drop at f))) ≡ Err r
+      → counted_after count (sets_from n at (drop at f)) ≡ Err r
   unfolding sets_from
   count-refused zero count r h e = rw (not-at-end h) (go (placed at (read (drop at f))) e)
     where
-      go : (q : Reply Parsed) → judged q ≡ Refused r → counted_after count (then_to q (λ d. refused (refusal too_many_sets at 0))) ≡ NotMade r
-      go (refused q) p = ap NotMade (refusal-same p)
+      go : (q : Reply Parsed) → judged q ≡ Err r → counted_after count (then_to q (λ d. refused (refusal too_many_sets at 0))) ≡ Err r
+      go (refused q) p = ap Err (refusal-same p)
       go (done d) p = refused-accepted (sym p)
   count-refused (suc n) count r h e = rw (not-at-end h) (go (placed at (read (drop at f))) e)
     where
-      go : (q : Reply Parsed) → judged q ≡ Refused r
-          → counted_after count (then_to q (λ d. then_to (sets_from n (at + size d.fields) d.rest) (λ es. done (day_entry at d.fields ∷ es)))) ≡ NotMade r
-      go (refused q) p = ap NotMade (refusal-same p)
+      go : (q : Reply Parsed) → judged q ≡ Err r
+          → counted_after count (then_to q (λ d. then_to (sets_from n (at + size d.fields) d.rest) (λ es. done (day_entry at d.fields ∷ es)))) ≡ Err r
+      go (refused q) p = ap Err (refusal-same p)
       go (done d) p = refused-accepted (sym p)
 
   module _ (x : Shape) (s : SetHere f at x) where
@@ -127,7 +126,7 @@ module _ (f : List ℕ) (at : ℕ) where
     here-starts = omega (arith, s.some_bytes, s.within)
 
     -- one more than may come
-    pub count-full : (n count : ℕ) → n ≡ 0 → counted_after count (sets_from n at (drop at f)) ≡ NotMade (refusal too_many_sets at 0)
+    pub count-full : (n count : ℕ) → n ≡ 0 → counted_after count (sets_from n at (drop at f)) ≡ Err (refusal too_many_sets at 0)
     unfolding sets_from
     count-full n count z = rw (z, not-at-end here-starts, s.reads)
 
@@ -138,7 +137,7 @@ module _ (f : List ℕ) (at : ℕ) where
       where
         go : (r : Reply (List DayEntry)) → counted_after count (then_to r (λ es. done (day_entry at s.what.fields ∷ es))) ≡ counted_after (count + 1) r
         go (refused q) = refl
-        go (done es) = ap Done (omega arith)
+        go (done es) = ap Ok (omega arith)
 
     pub count_turn : (count : ℕ) → count < max_sets
         → counted_after (count + 1) (sets_from (max_sets - (count + 1)) (at + x.length) (drop (at + x.length) f)) ≡ counted_after count (sets_from (max_sets - count) at (drop at f))
@@ -147,4 +146,4 @@ module _ (f : List ℕ) (at : ℕ) where
 -- all sets of the file
 pub counted-all : (r : Reply (List DayEntry)) → counted_after 0 r ≡ made r
 counted-all (refused q) = refl
-counted-all (done es) = ap Done (omega arith)
+counted-all (done es) = ap Ok (omega arith)

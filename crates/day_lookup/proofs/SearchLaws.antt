@@ -2,14 +2,14 @@
 use mathlib.Core.Path.{◌≡◌, refl, sym, ap, ap₂, ◌∙◌, subst}
 use mathlib.Core.Bool.{Bool, true, false, cond, ◌&&◌, true≢false}
 use mathlib.Core.List.{List, [], ◌∷◌, ◌++◌}
-use Prim.Native.Nat.{ℕ, zero, suc, ◌+◌, ◌*◌, ◌≤◌, ◌<◌}
+use Prim.Native.Nat.{ℕ, zero, suc, ◌+◌, ◌≤◌, ◌<◌}
 use native.Mathlib.Nat.{zero-add}
 use native.Mathlib.Omega.{arith}
 use lib.Dec.{leb}
-use lib.ListN.{length, drop, get_or, set, length-append, length-drop, drop_of_length-le}
+use lib.ListN.{length, drop, get_or, set, length-append, drop_of_length-le}
 use lib.Seq.{set_split}
 use borrow.Author.Tests.{le-leb, lt-leb}
-use Rattle.meaning.specs.declared.Made.TheVariants.{Done, Refused}
+use mir.Val.{bool_byte}
 use Rattle.meaning.specs.Refusals.{refusal, no_room}
 use Rattle.meaning.specs.Lines.{least_byte}
 use Rattle.meaning.proofs.Bools.{and_left, and_right, none-of-length, byte-then}
@@ -20,8 +20,8 @@ use Rattle.byte_put.proofs.OverLaws.{Turned, here-fits, turned, over_none}
 use Rattle.meaning_day.specs.declared.DayEntry.{DayEntry}
 use Rattle.meaning_day.specs.Days.{no_low, matches, found, lookup}
 use Rattle.meaning_day.specs.DayCalls.{entries_in, lookup_call}
-use Rattle.meaning_day.proofs.ColumnLaws.{entries-within}
 use Rattle.day_lookup.specs.Searching.{stands_at, number_if, standing}
+use Rattle.std.specs.Prelude.{Err, Ok}
 
 -- ---- one number
 
@@ -38,70 +38,43 @@ put-number so n to b e h =
 pub put-none : (so : Bool) (n to : ℕ) (b : List ℕ) → so ≡ false → (to ≡ to + length (number_if so n)) × (b ≡ over to (number_if so n) b)
 put-none so n to b e = rw e (omega arith, over_none b to)
 
--- ---- the entries of the numbers from an offset on
+-- ---- the entries of the numbers that are left
 
--- four numbers are left: the first entry's place is the last of them
-pub record EntryThere (ns : List ℕ) (at : ℕ) : Type 0 where
+-- four numbers x stand before the others: the entry's place is the last of them
+pub record EntryThere (x ns : List ℕ) : Type 0 where
   pub entry : DayEntry
-  pub place_is : entry.place ≡ get_or ns (at + 3) 0
-  pub then-others : entries_in (drop at ns) ≡ entry ∷ entries_in (drop (at + 4) ns)
+  pub place_is : entry.place ≡ get_or x 3 0
+  pub then-others : entries_in (x ++ ns) ≡ entry ∷ entries_in ns
 
-pub entry-there : (ns : List ℕ) (at : ℕ) → at + 4 ≤ length ns → EntryThere ns at
+pub entry-there : (x ns : List ℕ) → length x ≡ 4 → EntryThere x ns
 unfolding entries_in
-entry-there ns at h =
-    let two : at + 1 + 1 ≡ at + 2 = omega arith in
-    let three : at + 2 + 1 ≡ at + 3 = omega arith in
-    let four : at + 3 + 1 ≡ at + 4 = omega arith in
-    record {
-      entry = record { offset = get_or ns at 0; length = get_or ns (at + 1) 0; settype = get_or ns (at + 2) 0; place = get_or ns (at + 3) 0 };
-      place_is = refl;
-      then-others =
-          rw (byte-then ns at (omega arith), byte-then ns (at + 1) (omega arith), two, byte-then ns (at + 2) (omega arith), three, byte-then ns (at + 3) (omega arith), four);
-    }
+entry-there [] ns h = absurd (omega arith)
+entry-there (a ∷ []) ns h = absurd (omega arith)
+entry-there (a ∷ b ∷ []) ns h = absurd (omega arith)
+entry-there (a ∷ b ∷ c ∷ []) ns h = absurd (omega arith)
+entry-there (a ∷ b ∷ c ∷ d ∷ []) ns h = record { entry = record { offset = a; length = b; settype = c; place = d }; place_is = refl; then-others = refl }
+entry-there (a ∷ b ∷ c ∷ d ∷ e ∷ xs) ns h = absurd (omega arith)
 
 -- fewer are none
-few : (xs : List ℕ) → length xs < 4 → entries_in xs ≡ []
+pub no-entry : (xs : List ℕ) → length xs < 4 → entries_in xs ≡ []
 unfolding entries_in
-few [] g = refl
-few (a ∷ []) g = refl
-few (a ∷ b ∷ []) g = refl
-few (a ∷ b ∷ c ∷ []) g = refl
-few (a ∷ b ∷ c ∷ d ∷ xs) g = absurd (omega arith)
+no-entry [] g = refl
+no-entry (a ∷ []) g = refl
+no-entry (a ∷ b ∷ []) g = refl
+no-entry (a ∷ b ∷ c ∷ []) g = refl
+no-entry (a ∷ b ∷ c ∷ d ∷ xs) g = absurd (omega arith)
 
-pub no-entry : (ns : List ℕ) (at : ℕ) → length ns < at + 4 → entries_in (drop at ns) ≡ []
-no-entry ns at h = few (drop at ns) (omega (arith, length-drop at ns))
+-- ---- the search over the entries that are left
 
--- ---- the search over the entries from an offset on
-
--- at most as many are found as there are entries
-few-found : (f c : List ℕ) (k : ℕ) (es : List DayEntry) → length (standing f c k es) ≤ length es
+-- one entry, and then those after it
+first-left : (f c x ns : List ℕ) → length x ≡ 4 → (k : ℕ)
+    → standing f c k (entries_in (x ++ ns)) ≡ number_if (stands_at f (get_or x 3 0) c) k ++ standing f c (suc k) (entries_in ns)
 unfolding standing
-few-found f c k [] = omega arith
-few-found f c k (e ∷ es) = go (stands_at f e.place c) (few-found f c (suc k) es)
-  where
-    go : (b : Bool) → length (standing f c (suc k) es) ≤ length es → length (number_if b k ++ standing f c (suc k) es) ≤ length (e ∷ es)
-    go true h = omega arith
-    go false h = omega arith
+first-left f c x ns h k = let e = entry-there x ns h in rw (e.then-others, e.place_is)
 
-module _ (f c ns : List ℕ) (at : ℕ) where
-  -- the numbers found there; the first entry has number k
-  abbrev left : ℕ → List ℕ
-  left k = standing f c k (entries_in (drop at ns))
-
-  -- one entry, and then those after it
-  first-left : at + 4 ≤ length ns → (k : ℕ) → left k ≡ number_if (stands_at f (get_or ns (at + 3) 0) c) k ++ standing f c (suc k) (entries_in (drop (at + 4) ns))
-  unfolding standing
-  first-left h k =
-      let e = entry-there ns at h in
-      rw (e.then-others, e.place_is)
-
-  none_left : length ns < at + 4 → (k : ℕ) → left k ≡ []
-  unfolding standing
-  none_left h k = rw (no-entry ns at h)
-
-  -- the four numbers of each that is found there stand there
-  pub left-within : at ≤ length ns → (k : ℕ) → at + length (left k) * 4 ≤ length ns
-  left-within h k = omega (arith, few-found f c k (entries_in (drop at ns)), entries-within (drop at ns), length-drop at ns)
+none_left : (f c ns : List ℕ) → length ns < 4 → (k : ℕ) → standing f c k (entries_in ns) ≡ []
+unfolding standing
+none_left f c ns h k = rw (no-entry ns h)
 
 -- how many are found does not depend on the first number
 any-number : (f c : List ℕ) (j k : ℕ) (es : List DayEntry) → length (standing f c j es) ≡ length (standing f c k es)
@@ -120,48 +93,60 @@ length-if : (so : Bool) (k : ℕ) → length (number_if so k) ≡ cond so 1 0
 length-if true k = refl
 length-if false k = refl
 
-module _ (f c ns : List ℕ) (at : ℕ) where
+-- how much an entry adds to the count
+pub one-if : (m : ℕ) (so : Bool) → m ≡ bool_byte so → (m ≡ cond so 1 0) × (m ≤ 1)
+one-if m true e = (e, omega arith)
+one-if m false e = (e, omega arith)
+
+-- the four numbers x, and ns after them, are all that are left
+module _ (f c all x ns : List ℕ) (w : all ≡ x ++ ns) (h : length x ≡ 4) where
   -- a turn of `count_matches`
-  pub count_turn : (count m : ℕ) (so : Bool) → at + 4 ≤ length ns → so ≡ stands_at f (get_or ns (at + 3) 0) c → m ≡ cond so 1 0
-      → (count + m) + length (standing f c 1 (entries_in (drop (at + 4) ns))) ≡ count + length (standing f c 1 (entries_in (drop at ns)))
-  count_turn count m so h q e =
-      let so' : Bool = stands_at f (get_or ns (at + 3) 0) c in
-      let later : List ℕ = standing f c 2 (entries_in (drop (at + 4) ns)) in
+  pub count_turn : (count m : ℕ) (so : Bool) → so ≡ stands_at f (get_or x 3 0) c → m ≡ cond so 1 0
+      → (count + m) + length (standing f c 1 (entries_in ns)) ≡ count + length (standing f c 1 (entries_in all))
+  count_turn count m so q e =
+      let so' : Bool = stands_at f (get_or x 3 0) c in
+      let later : List ℕ = standing f c 2 (entries_in ns) in
       omega (
         arith,
-        ap length (first-left f c ns at h 1),
+        ap (λ (xs : List ℕ). length (standing f c 1 (entries_in xs))) w,
+        ap length (first-left f c x ns h 1),
         length-append (number_if so' 1) later,
         length-if so' 1,
         e ∙ ap (λ (b : Bool). cond b 1 0) q,
-        any-number f c 1 2 (entries_in (drop (at + 4) ns)),
+        any-number f c 1 2 (entries_in ns),
       )
 
-  pub count-end : (count : ℕ) → length ns < at + 4 → count ≡ count + length (standing f c 1 (entries_in (drop at ns)))
-  count-end count h = omega (arith, ap length (none_left f c ns at h 1))
-
   -- a turn of `put_matches`
-  module _ (number to : ℕ) (b : List ℕ) (h : at + 4 ≤ length ns) (so : Bool) (q : so ≡ stands_at f (get_or ns (at + 3) 0) c)
-      (g : to + length (standing f c number (entries_in (drop at ns))) ≤ length b) where
-    both : standing f c number (entries_in (drop at ns)) ≡ number_if so number ++ standing f c (number + 1) (entries_in (drop (at + 4) ns))
+  module _ (number to : ℕ) (b : List ℕ) (so : Bool) (q : so ≡ stands_at f (get_or x 3 0) c)
+      (g : to + length (standing f c number (entries_in all)) ≤ length b) where
+    both : standing f c number (entries_in all) ≡ number_if so number ++ standing f c (number + 1) (entries_in ns)
     both =
         let n : suc number ≡ number + 1 = omega arith in
-        first-left f c ns at h number
-        ∙ ap₂ (λ (x : Bool) (k : ℕ). number_if x number ++ standing f c k (entries_in (drop (at + 4) ns))) (sym q) n
+        ap (λ (xs : List ℕ). standing f c number (entries_in xs)) w
+        ∙ first-left f c x ns h number
+        ∙ ap₂ (λ (y : Bool) (k : ℕ). number_if y number ++ standing f c k (entries_in ns)) (sym q) n
 
     pub match-fits : to + length (number_if so number) ≤ length b
     match-fits = here-fits b to _ (number_if so number) _ both g
 
     pub match-turned : (to' : ℕ) (b' : List ℕ) → to' ≡ to + length (number_if so number) → b' ≡ over to (number_if so number) b
-        → Turned b b' (standing f c number (entries_in (drop at ns))) (standing f c (number + 1) (entries_in (drop (at + 4) ns))) to to'
-    match-turned to' b' x y = turned b to _ (number_if so number) _ both g to' b' x y
+        → Turned b b' (standing f c number (entries_in all)) (standing f c (number + 1) (entries_in ns)) to to'
+    match-turned to' b' y z = turned b to _ (number_if so number) _ both g to' b' y z
 
     pub match-counted : (to' : ℕ) → to' ≡ to + length (number_if so number)
-        → to' + length (standing f c (number + 1) (entries_in (drop (at + 4) ns))) ≡ to + length (standing f c number (entries_in (drop at ns)))
-    match-counted to' x = omega (arith, x, ap length both, length-append (number_if so number) (standing f c (number + 1) (entries_in (drop (at + 4) ns))))
+        → to' + length (standing f c (number + 1) (entries_in ns)) ≡ to + length (standing f c number (entries_in all))
+    match-counted to' y = omega (arith, y, ap length both, length-append (number_if so number) (standing f c (number + 1) (entries_in ns)))
+
+module _ (f c ns : List ℕ) where
+  pub count-end : (count : ℕ) → length ns < 4 → count ≡ count + length (standing f c 1 (entries_in ns))
+  count-end count h = omega (arith, ap length (none_left f c ns h 1))
 
   -- all are put
-  pub put-end : (number to : ℕ) (b : List ℕ) → length (standing f c number (entries_in (drop at ns))) ≡ 0 → b ≡ over to (standing f c number (entries_in (drop at ns))) b
-  put-end number to b e = over_none b to ∙ ap (λ (xs : List ℕ). over to xs b) (sym (none-of-length (standing f c number (entries_in (drop at ns))) e))
+  pub put-end : (number to : ℕ) (b : List ℕ) → length (standing f c number (entries_in ns)) ≡ 0 → b ≡ over to (standing f c number (entries_in ns)) b
+  put-end number to b e = over_none b to ∙ ap (λ (xs : List ℕ). over to xs b) (sym (none-of-length (standing f c number (entries_in ns)) e))
+
+  pub left-none : (number : ℕ) → length ns < 4 → length (standing f c number (entries_in ns)) ≡ 0
+  left-none number h = ap length (none_left f c ns h number)
 
 -- ---- no asked byte under 20h
 
@@ -202,7 +187,7 @@ found_none f c k (e ∷ es) h = rw (h, found_none f c (suc k) es h)
 -- ---- the answer
 
 module _ (f ns c out : List ℕ) where
-  pub lookup-low : first_low c 0 (length c) < length c → (Done 0 ≡ (lookup_call f ns c out).answer) × (out ≡ (lookup_call f ns c out).buffer)
+  pub lookup-low : first_low c 0 (length c) < length c → (Ok 0 ≡ (lookup_call f ns c out).answer) × (out ≡ (lookup_call f ns c out).buffer)
   unfolding lookup
   lookup-low h = rw (found_none f c 1 (entries_in ns) (go (no_low c) refl), le-leb 0 (length out) (omega arith)) (refl, refl)
     where
@@ -218,13 +203,13 @@ module _ (f ns c out : List ℕ) where
         go true x = refl
         go false x = absurd (omega (arith, low-some c 0 (length c) (omega arith) x))
 
-    pub lookup-full : length out < n → (Refused (refusal no_room n 0) ≡ (lookup_call f ns c out).answer) × (out ≡ (lookup_call f ns c out).buffer)
+    pub lookup-full : length out < n → (Err (refusal no_room n 0) ≡ (lookup_call f ns c out).answer) × (out ≡ (lookup_call f ns c out).buffer)
     unfolding lookup
     lookup-full h = rw (found-standing f c 1 (entries_in ns) no-low, ← e, lt-leb n (length out) h) (refl, refl)
 
     pub lookup-made : n ≤ length out → (b : List ℕ) → b ≡ over 0 (standing f c 1 (entries_in ns)) out
-        → (Done n ≡ (lookup_call f ns c out).answer) × (b ≡ (lookup_call f ns c out).buffer)
+        → (Ok n ≡ (lookup_call f ns c out).answer) × (b ≡ (lookup_call f ns c out).buffer)
     unfolding lookup over
     lookup-made h b q =
         rw (found-standing f c 1 (entries_in ns) no-low, ← e, le-leb n (length out) h)
-        (ap Done e, q ∙ ap (λ (m : ℕ). standing f c 1 (entries_in ns) ++ drop m out) (zero-add (length (standing f c 1 (entries_in ns)))))
+        (ap Ok e, q ∙ ap (λ (m : ℕ). standing f c 1 (entries_in ns) ++ drop m out) (zero-add (length (standing f c 1 (entries_in ns)))))

@@ -1,12 +1,13 @@
--- Whether the asked bytes and 0Dh 0Ah stand at a place of the file: what each `return`, and each turn of the loop from the last byte on, has to show.
+-- Whether the asked bytes and 0Dh 0Ah stand at a place of the file: what each `return` has to show.
 use mathlib.Core.Path.{◌≡◌, refl, sym, ap, ◌∙◌}
-use mathlib.Core.Bool.{Bool, true, false}
+use mathlib.Core.Bool.{Bool, true, false, true≢false}
 use mathlib.Core.List.{List, [], ◌∷◌, ◌++◌}
-use Prim.Native.Nat.{ℕ, suc, ◌+◌, ◌-◌, ◌≤◌, ◌<◌}
+use Prim.Native.Nat.{ℕ, ◌+◌, ◌≤◌, ◌<◌}
 use native.Mathlib.Omega.{arith}
-use native.Mathlib.Nat.{add-zero}
-use lib.ListN.{length, take, drop, get_or, length-append, length-take, length-drop, get_or-append}
-use lib.Seq.{drop-length, get_or-take, get_or-drop, get_or-append_seam, get_or-append-add}
+use lib.ListN.{length, take, drop, get_or, length-append, length-take, length-drop}
+use lib.Seq.{take_all, drop-drop, take-take, get_or-take, get_or-drop, get_or-append_seam, get_or-append-add}
+use Rattle.std.specs.Prelude.{Decides}
+use Rattle.std.proofs.Math.Seq.{take-add, take-append_seam}
 use Rattle.meaning.specs.Lines.{line_end, cr, lf}
 use Rattle.meaning.proofs.Bools.{byte-then}
 use Rattle.meaning.proofs.SameLaws.{same-bytes, bytes_same}
@@ -48,28 +49,26 @@ module _ (f : List ℕ) (place : ℕ) (c : List ℕ) where
       let m : place + length c + 1 ≡ place + (length c + 1) = omega arith in
       refuted (λ e. n (ap (λ (k : ℕ). get_or f k 0) m ∙ byte-stood (length c + 1) (omega arith) e ∙ get_or-append-add c (cr ∷ lf ∷ []) 1 0))
 
-  pub stands-other : (i : ℕ) → i < length c → (get_or f (place + i) 0 ≡ get_or c i 0 → ⊥) → false ≡ stands_at f place c
-  stands-other i h n = refuted (λ e. n (byte-stood i (omega arith) e ∙ get_or-append c (cr ∷ lf ∷ []) 0 i h))
+  -- all of the asked bytes, as a part of them
+  pub asked-whole : (m j : ℕ) → m ≡ length c → j ≡ 0 → take m (drop j c) ≡ c
+  asked-whole m j p q = rw (p, q) (take_all (length c) c (omega arith))
 
-  -- ---- from the last byte on: the bytes from byte i on are the asked ones
+  -- ---- the end is there: the asked bytes decide
 
-  abbrev pub Tail : ℕ → Type 0
-  Tail i = take (length c - i + line_end) (drop (place + i) f) ≡ drop i c ++ (cr ∷ lf ∷ [])
-
-  pub tail-end : place + (length c + line_end) ≤ length f → get_or f (place + length c) 0 ≡ cr → get_or f (place + length c + 1) 0 ≡ lf → Tail (length c)
-  tail-end h a b =
-      let z : length c - length c + line_end ≡ 2 = omega arith in
-      rw (z, drop-length c, byte-then f (place + length c) (omega arith), byte-then f (place + length c + 1) (omega arith), a, b)
-
-  pub tail_more : (i : ℕ) → i < length c → place + (length c + line_end) ≤ length f → get_or f (place + i) 0 ≡ get_or c i 0 → Tail (i + 1) → Tail i
-  tail_more i h g e t =
-      let n : length c - i + line_end ≡ suc (length c - (i + 1) + line_end) = omega arith in
-      let m : place + i + 1 ≡ place + (i + 1) = omega arith in
-      rw (n, byte-then f (place + i) (omega arith), byte-then c i h, e, m) (ap (λ (xs : List ℕ). get_or c i 0 ∷ xs) t)
-
-  pub tail_all : (i : ℕ) → i ≡ 0 → Tail i → true ≡ stands_at f place c
+  pub stands-by : place + (length c + line_end) ≤ length f → get_or f (place + length c) 0 ≡ cr → get_or f (place + length c + 1) 0 ≡ lf
+      → (k at : ℕ) (u : List ℕ) (b : Bool) → Decides b (take k (drop at f) ≡ u) → k ≡ length c → at ≡ place → u ≡ c → b ≡ stands_at f place c
   unfolding stands_at
-  tail_all i z t =
-      let n : length c - 0 + line_end ≡ length c + line_end = omega arith in
-      let q : take (length c + line_end) (drop place f) ≡ whole = rw (z, n, add-zero place) at t in
-      rw q (sym (bytes_same whole))
+  stands-by h x y k at u b d p q r = go b (rw r at d)
+    where
+      there : take 2 (drop (length c) (drop place f)) ≡ cr ∷ lf ∷ []
+      there = rw (drop-drop (length c) place f, byte-then f (place + length c) (omega arith), byte-then f (place + length c + 1) (omega arith), x, y) refl
+
+      go : (b : Bool) → Decides b (take k (drop at f) ≡ c) → b ≡ stands_at f place c
+      go true d =
+          let e : take (length c) (drop place f) ≡ c = rw (p, q) at (d.0 refl) in
+          let w : take (length c + line_end) (drop place f) ≡ whole = take-add (length c) 2 (drop place f) ∙ rw (e, there) refl in
+          rw w (sym (bytes_same whole))
+      go false d = refuted (λ e.
+          let w : take (length c) (drop place f) ≡ c =
+          sym (take-take (length c) (length c + line_end) (drop place f) (omega arith)) ∙ ap (take (length c)) (stood e) ∙ take-append_seam c (cr ∷ lf ∷ []) in
+          true≢false (sym (d.1 (rw (p, q) w))))

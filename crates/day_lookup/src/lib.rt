@@ -3,19 +3,18 @@
 // walks mean.
 #![tactic(auto)]
 
-ghost use Rattle.std.specs.Prelude.{◌≡◌, cond, ◌+◌, ◌≤◌, length};
+ghost use Rattle.std.specs.Prelude.{◌≡◌, ◌+◌, ◌≤◌, length};
 ghost use Rattle.byte_put.specs.Places.{over};
 ghost use Rattle.meaning_day.specs.DayCalls.{entries_in, lookup_call};
 ghost use Rattle.day_lookup.specs.Searching.{stands_at, number_if, standing};
 
-use meaning::{Made, Refusal};
+use meaning::Refusal;
 use meaning_day::ENTRY_NUMBERS;
 
 // This many numbers of an entry stand before its place.
 const BEFORE_PLACE: usize = ENTRY_NUMBERS - 1;
 
-// Whether "the asked bytes .. and 0Dh 0Ah stand at" a place of the file. The end is asked first, and then the bytes from the last one on: the numbers of two patients often start
-// alike.
+// Whether "the asked bytes .. and 0Dh 0Ah stand at" a place of the file. The end is asked first.
 fn stands_at(file: &[u8], place: usize, asked: &[u8]) -> bool
     ensures { result ≡ stands_at file.now place asked.now }
 {
@@ -32,35 +31,16 @@ fn stands_at(file: &[u8], place: usize, asked: &[u8]) -> bool
     if file[end + 1] != meaning::LF {
         return false;
     }
-    let mut i = asked.len();
-    while 0 < i {
-        i -= 1;
-        if file[place + i] != asked[i] {
-            return false;
-        }
-    }
-    true
-}
-
-// How much an entry adds to the count.
-fn one_if(so: bool) -> usize
-    ensures { (result ≡ cond so 1 0) × (result ≤ 1) }
-{
-    if so {
-        return 1;
-    }
-    0
+    &file[place..end] == asked
 }
 
 // How many entries have the asked bytes at their place.
 fn count_matches(file: &[u8], index: &[usize], asked: &[u8]) -> usize
     ensures { result ≡ length (standing file.now asked.now 1 (entries_in index.now)) }
 {
-    let mut at: usize = 0;
     let mut count: usize = 0;
-    while ENTRY_NUMBERS <= index.len() - at {
-        count += one_if(stands_at(file, index[at + BEFORE_PLACE], asked));
-        at += ENTRY_NUMBERS;
+    for entry in index.chunks_exact(ENTRY_NUMBERS) {
+        count += usize::from(stands_at(file, entry[BEFORE_PLACE], asked));
     }
     count
 }
@@ -82,30 +62,34 @@ fn put_matches(file: &[u8], index: &[usize], asked: &[u8], count: usize, out: &m
     requires { (count ≡ length (standing file.now asked.now 1 (entries_in index.now))) × (count ≤ length out.old) }
     ensures { out.new ≡ over 0 (standing file.now asked.now 1 (entries_in index.now)) out.old }
 {
-    let mut at: usize = 0;
-    let mut number: usize = 1;
     let mut found: usize = 0;
-    while found < count {
-        let so = stands_at(file, index[at + BEFORE_PLACE], asked);
-        found = put_match(so, number, out, found);
-        number += 1;
-        at += ENTRY_NUMBERS;
+    for (k, entry) in index.chunks_exact(ENTRY_NUMBERS).enumerate() {
+        if found == count {
+            return;
+        }
+        let so = stands_at(file, entry[BEFORE_PLACE], asked);
+        found = put_match(so, k + 1, out, found);
     }
 }
 
 // "Lookup answers all sets whose 3000 content has the same bytes".
-pub fn lookup(file: &[u8], index: &[usize], asked: &[u8], out: &mut [usize]) -> Made
+pub fn lookup(
+    file: &[u8],
+    index: &[usize],
+    asked: &[u8],
+    out: &mut [usize],
+) -> Result<usize, Refusal>
     ensures { (result ≡ (lookup_call file.now index.now asked.now out.old).answer) × (out.new ≡ (lookup_call file.now index.now asked.now out.old).buffer) }
 {
     // "the asked bytes, none under 20h"
     if byte_low::first_low(asked, 0, asked.len()) < asked.len() {
-        return Made::Done(0);
+        return Ok(0);
     }
     let count = count_matches(file, index, asked);
     // "NoRoom, from lookup too"
     if out.len() < count {
-        return Made::Refused(Refusal::at(Refusal::NO_ROOM, count));
+        return Err(Refusal::at(Refusal::NO_ROOM, count));
     }
     put_matches(file, index, asked, count, out);
-    Made::Done(count)
+    Ok(count)
 }

@@ -11,32 +11,31 @@ use lib.ListN.{length, take, drop, length-take, length-drop}
 use lib.Seq.{get_or-drop, drop-drop}
 use Rattle.meaning.specs.Entries.{entry_lead, two_bytes_at, entry_label, entry_content, entry_width, entry_whole}
 use Rattle.meaning.proofs.EntryLaws.{entire}
-use Rattle.entry_read.specs.declared.Head.{Head}
-use Rattle.entry_read.specs.declared.Head.TheVariants.{Whole, Cut}
-use Rattle.entry_read.specs.Head.{entry_at}
+use Rattle.entry_read.specs.Head.{entry_at, HeadRead, a_head, by_head}
+use Rattle.std.specs.Prelude.{None}
 
 -- ---- the ways that the code takes
 
 module _ (s : List ℕ) (at : ℕ) where
-  pub entry-headless : length s < at + entry_lead → Cut ≡ entry_at s at
+  pub entry-headless : length s < at + entry_lead → None ≡ entry_at s at
   unfolding entry_at
   entry-headless h = rw (lt-leb (at + entry_lead) (length s) h)
 
   module _ (h : at + entry_lead ≤ length s) (n : ℕ) (e : n ≡ two_bytes_at s at) where
-    pub entry-short : length s < at + (entry_lead + n) → Cut ≡ entry_at s at
+    pub entry-short : length s < at + (entry_lead + n) → None ≡ entry_at s at
     unfolding entry_at
     entry-short g = rw (le-leb (at + entry_lead) (length s) h, ← e, lt-leb (at + (entry_lead + n)) (length s) g)
 
-    pub entry-told : at + (entry_lead + n) ≤ length s → (k : ℕ) → k ≡ two_bytes_at s (at + 2) → Whole k n ≡ entry_at s at
+    pub entry-told : at + (entry_lead + n) ≤ length s → (k : ℕ) → k ≡ two_bytes_at s (at + 2) → a_head k n ≡ entry_at s at
     unfolding entry_at
     entry-told g k q = rw (le-leb (at + entry_lead) (length s) h, ← e, le-leb (at + (entry_lead + n)) (length s) g, q)
 
 -- ---- what the head says
 
 -- the head of the entry at the front, by whether it is whole
-abbrev pub head_of : Bool → List ℕ → Head
-head_of true s = Whole (entry_label s) (two_bytes_at s 0)
-head_of false s = Cut
+abbrev pub head_of : Bool → List ℕ → HeadRead
+head_of true s = a_head (entry_label s) (two_bytes_at s 0)
+head_of false s = None
 
 -- n bytes remain from an offset on if they end within the bytes
 left_is : (s : List ℕ) (at n : ℕ) → 1 ≤ n → leb (at + n) (length s) ≡ leb n (length (drop at s))
@@ -62,7 +61,7 @@ entry-is s at =
     let q : leb (at + (entry_lead + two_bytes_at d 0)) (length s) ≡ leb (entry_width d) (length d) = left_is s at (entry_width d) (omega arith) in
     rw (← k, ← n, p, q) (told (leb entry_lead (length d)) (leb (entry_width d) (length d)) d)
   where
-    told : (a b : Bool) (d : List ℕ) → cond a (cond b (Whole (entry_label d) (two_bytes_at d 0)) Cut) Cut ≡ head_of (a && b) d
+    told : (a b : Bool) (d : List ℕ) → cond a (cond b (a_head (entry_label d) (two_bytes_at d 0)) None) None ≡ head_of (a && b) d
     told true true d = refl
     told true false d = refl
     told false b d = refl
@@ -78,17 +77,21 @@ pub record WholeAt (s : List ℕ) (at label n : ℕ) : Type 0 where
   pub label-told : two_bytes_at s (at + 2) ≡ label
   pub length-told : two_bytes_at s at ≡ n
 
-pub whole_back : (s : List ℕ) (at : ℕ) {label n : ℕ} → entry_at s at ≡ Whole label n → WholeAt s at label n
+-- what two heads say that are the same
+pub same-head : {label n k m : ℕ} → a_head label n ≡ a_head k m → (label ≡ k) × (n ≡ m)
+same-head e = (ap (λ (x : HeadRead). by_head x 0 (λ l j. l)) e, ap (λ (x : HeadRead). by_head x 0 (λ l j. j)) e)
+
+pub whole_back : (s : List ℕ) (at : ℕ) {label n : ℕ} → entry_at s at ≡ a_head label n → WholeAt s at label n
 whole_back s at {label} {n} e = go (entry_whole (drop at s)) refl (sym (entry-is s at) ∙ e)
   where
     d : List ℕ
     d = drop at s
 
-    go : (b : Bool) → entry_whole d ≡ b → head_of b d ≡ Whole label n → WholeAt s at label n
+    go : (b : Bool) → entry_whole d ≡ b → head_of b d ≡ a_head label n → WholeAt s at label n
     go true q h =
         let w = entire d q in
-        let k : label ≡ entry_label d = cc in
-        let m : n ≡ two_bytes_at d 0 = cc in
+        let k : label ≡ entry_label d = sym (same-head h).0 in
+        let m : n ≡ two_bytes_at d 0 = sym (same-head h).1 in
         record {
           whole = q;
           label-so = k;

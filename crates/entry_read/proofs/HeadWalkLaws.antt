@@ -7,16 +7,15 @@ use lib.ListN.{length, take, drop}
 use Rattle.meaning.specs.Field.{Field}
 use Rattle.meaning.specs.Entries.{entry_lead, list_size}
 use Rattle.meaning.proofs.LeftLaws.{one-more}
-use Rattle.entry_read.specs.declared.Head.{Head}
-use Rattle.entry_read.specs.declared.Head.TheVariants.{Whole, Cut}
-use Rattle.entry_read.specs.Head.{entry_at, by_head, list_content}
+use Rattle.entry_read.specs.Head.{entry_at, by_head, list_content, HeadRead, a_head}
 use Rattle.entry_read.specs.HeadWalk.{entries_from, entries_left}
 use Rattle.entry_read.proofs.HeadLaws.{entry-headless, whole_back}
+use Rattle.std.specs.Prelude.{None, Some}
 
 -- ---- the walk
 
 module _ {A : Type 0} (none : A) (by : ℕ → ℕ → ℕ → A → A) (l : List ℕ) where
-  cut-from : (at k : ℕ) → entry_at l at ≡ Cut → entries_from none by l at k ≡ none
+  cut-from : (at k : ℕ) → entry_at l at ≡ None → entries_from none by l at k ≡ none
   unfolding entries_from
   cut-from at zero e = refl
   cut-from at (suc k) e = rw e
@@ -31,20 +30,20 @@ module _ {A : Type 0} (none : A) (by : ℕ → ℕ → ℕ → A → A) (l : Lis
   enough (suc k) zero at h g = none_from at (suc k) (omega arith)
   enough (suc k) (suc j) at h g = go (entry_at l at) (λ m. enough k j (at + (entry_lead + m)) (omega arith) (omega arith))
     where
-      go : (x : Head) → ((m : ℕ) → entries_from none by l (at + (entry_lead + m)) k ≡ entries_from none by l (at + (entry_lead + m)) j)
+      go : (x : HeadRead) → ((m : ℕ) → entries_from none by l (at + (entry_lead + m)) k ≡ entries_from none by l (at + (entry_lead + m)) j)
           → by_head x none (λ label m. by at label m (entries_from none by l (at + (entry_lead + m)) k))
           ≡ by_head x none (λ label m. by at label m (entries_from none by l (at + (entry_lead + m)) j))
-      go Cut ih = refl
-      go (Whole label m) ih = ap (by at label m) (ih m)
+      go None ih = refl
+      go (Some h) ih = ap (by at h.label h.length) (ih h.length)
 
   module _ (at : ℕ) where
     pub entries-end : length l ≤ at → entries_left none by l at ≡ none
     entries-end h = none_from at (length l - at) h
 
-    pub entries-cut : entry_at l at ≡ Cut → entries_left none by l at ≡ none
+    pub entries-cut : entry_at l at ≡ None → entries_left none by l at ≡ none
     entries-cut e = cut-from at (length l - at) e
 
-    pub entries-on : {label m : ℕ} → entry_at l at ≡ Whole label m → entries_left none by l at ≡ by at label m (entries_left none by l (at + (entry_lead + m)))
+    pub entries-on : {label m : ℕ} → entry_at l at ≡ a_head label m → entries_left none by l at ≡ by at label m (entries_left none by l (at + (entry_lead + m)))
     unfolding entries_from
     entries-on {label} {m} e =
         let h : at < length l = omega (arith, (whole_back l at e).within) in
@@ -56,7 +55,7 @@ module _ {A : Type 0} (none : A) (by : ℕ → ℕ → ℕ → A → A) (l : Lis
 abbrev pub Reads : List ℕ → ℕ → List Field → Type 0
 Reads l at [] = Unit
 Reads l at (f ∷ fs) =
-    (entry_at l at ≡ Whole f.label (length f.content)) × (list_content l at (length f.content) ≡ f.content) × Reads l (at + (entry_lead + length f.content)) fs
+    (entry_at l at ≡ a_head f.label (length f.content)) × (list_content l at (length f.content) ≡ f.content) × Reads l (at + (entry_lead + length f.content)) fs
 
 -- the entry after this one
 pub list-next : (es : List Field) (j : ℕ) (f : Field) (fs : List Field) → drop j es ≡ f ∷ fs

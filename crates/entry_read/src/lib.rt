@@ -2,26 +2,17 @@
 // `entry_at` assumes nothing of the bytes or the offset: its contract cites the walk of specs/, and proofs/HeadLaws says what it means. `told_label` and `told_length` assume that the head is there.
 #![tactic(auto)]
 
-ghost use Rattle.std.specs.Prelude.{◌≡◌, ◌+◌, ◌*◌, ◌≤◌, length};
-ghost use Rattle.meaning.specs.Entries.{byte_values, entry_lead, two_bytes_at};
+ghost use Rattle.std.specs.Prelude.{◌≡◌, ◌+◌, ◌≤◌, length};
+ghost use Rattle.meaning.specs.Entries.{entry_lead, two_bytes_at};
 ghost use Rattle.entry_read.specs.Head.{entry_at};
 
 use meaning::{ENTRY_LEAD, NUMBER_BYTES};
 
-// What the head of an entry says.
+// What the head of an entry says that is all there: its label (a label, in a sheet a line number), and the length of its content.
 #[derive(Drop)]
-pub enum Head {
-    // The entry is all there: its label (a label, in a sheet a line number), and the length of its content.
-    Whole { label: usize, length: usize },
-    // Its head or its content runs past the input.
-    Cut,
-}
-
-// The number that two bytes write.
-fn number(low: u8, high: u8) -> usize
-    ensures { result ≡ low + high * byte_values }
-{
-    low as usize + high as usize * meaning::BYTE_VALUES
+pub struct Head {
+    pub label: usize,
+    pub length: usize,
 }
 
 // The number that the two bytes at an offset write, little-endian.
@@ -29,25 +20,25 @@ fn two_bytes(s: &[u8], at: usize) -> usize
     requires { at + 2 ≤ length s.now }
     ensures { result ≡ two_bytes_at s.now at }
 {
-    number(s[at], s[at + 1])
+    u16::from_le_bytes([s[at], s[at + 1]]) as usize
 }
 
-// The head of the entry at an offset, if no byte of the entry is missing.
-pub fn entry_at(s: &[u8], at: usize) -> Head
+// The head of the entry at an offset; none if its head or its content runs past the input.
+pub fn entry_at(s: &[u8], at: usize) -> Option<Head>
     ensures { result ≡ entry_at s.now at }
 {
     if s.len() < at {
-        return Head::Cut;
+        return None;
     }
     if s.len() - at < ENTRY_LEAD {
-        return Head::Cut;
+        return None;
     }
     let length = two_bytes(s, at);
     if s.len() - at - ENTRY_LEAD < length {
-        return Head::Cut;
+        return None;
     }
     let label = two_bytes(s, at + NUMBER_BYTES);
-    Head::Whole { label, length }
+    Some(Head { label, length })
 }
 
 // The label of an entry that is known to be whole.

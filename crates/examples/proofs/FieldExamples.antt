@@ -8,14 +8,14 @@ use Prim.Native.Nat.{ℕ, zero, suc, pred, ◌+◌, ◌-◌, ◌*◌, ◌/◌}
 use Prim.Native.String.{String}
 use lib.ListN.{length, replicate, take, set}
 use lib.Dec.{leb, eqb}
-use Rattle.meaning.specs.declared.Judged.{Judged}
-use Rattle.meaning.specs.declared.Judged.TheVariants.{Accepted, Refused}
 use Rattle.meaning.specs.Refusals.{refusal}
 use Rattle.meaning.specs.Kinds.{is_alnum, is_num, is_float, is_rule020, is_rule008, is_rule090, is_rule112, is_rule116, is_charset, is_version, is0210}
 use Rattle.meaning.specs.FieldTable.{fits_label}
 use Rattle.meaning.specs.Reading.{judge}
 use Rattle.meaning.specs.Computes.{computes}
 use Rattle.meaning.proofs.Asking.{text}
+use Rattle.meaning.specs.Results.{Judged}
+use Rattle.std.specs.Prelude.{Err, Ok}
 
 -- n numbers from a on
 abbrev from : ℕ → ℕ → List ℕ
@@ -271,11 +271,11 @@ all-fields :
     × (wrong fits_label cases ≡ [])
     × (wrong (λ l c. is0210 c) versions ≡ [])
     × (map version_reply ("02.10" ∷ "02.00" ∷ "01.00" ∷ "99.99" ∷ "02,10" ∷ [])
-    ≡ Accepted (record { length = 51; lines = 4; settype = 6300 })
-    ∷ Refused (refusal 15 27 9218)
-    ∷ Refused (refusal 15 27 9218)
-    ∷ Refused (refusal 15 27 9218)
-    ∷ Refused (refusal 14 27 9218) ∷ [])
+    ≡ Ok (record { length = 51; lines = 4; settype = 6300 })
+    ∷ Err (refusal 15 27 9218)
+    ∷ Err (refusal 15 27 9218)
+    ∷ Err (refusal 15 27 9218)
+    ∷ Err (refusal 14 27 9218) ∷ [])
 unfolding computes printed cases versions version_reply
 all-fields = (refl, refl, refl, refl, refl)
 

@@ -13,8 +13,6 @@ use lib.ListN.{length, replicate}
 use borrow.Author.Tests.{leb-true, eqb-true, eq-eqb, ne_eqb}
 use Rattle.meaning.specs.declared.Row.{Row}
 use Rattle.meaning.specs.declared.Shape.{Shape}
-use Rattle.meaning.specs.declared.Judged.TheVariants.{Accepted}
-use Rattle.meaning.specs.declared.Known.TheVariants.{Nothing}
 use Rattle.meaning.specs.declared.SetType.{SetType}
 use Rattle.meaning.specs.declared.SetType.TheVariants.{T6300, T6301, T6302, T6310, T6311}
 use Rattle.meaning.specs.Limits.{max_lines, type_number}
@@ -33,6 +31,7 @@ use Rattle.meaning.proofs.RowLaws.{all_rows, found}
 use Rattle.keeps.specs.Keeps.{HasRow, KeepsRules, SetAtFront}
 use Rattle.keeps.proofs.TableFacts.{no-absurd, label_of, Regular, row-regular, row-label}
 use Rattle.keeps.proofs.Exact.{every_of, accepted-exactly}
+use Rattle.std.specs.Prelude.{None, Ok}
 
 -- ---- totals over labels
 
@@ -104,7 +103,7 @@ line-most f e =
 
 line-leaves : (f : Field) → Fits f → line_size f + leaves f.label ≤ longest_line
 unfolding fits
-line-leaves f e = omega (arith, line-most f e, (fits-short (record { set_type = Nothing }) f e).few_bytes)
+line-leaves f e = omega (arith, line-most f e, (fits-short (record { set_type = None }) f e).few_bytes)
 
 size-total : (fs : List Field) → Every Fits fs → size fs ≤ total most_of (labels fs)
 size-total [] h = omega arith
@@ -225,7 +224,7 @@ size-of-type T6310 fs k h few = size-6310 fs k h few
 size-of-type T6311 fs k h few = omega (arith, size-plain T6311 refl fs k h)
 
 -- no accepted set has more bytes
-pub largest-set : (s : List ℕ) (x : Shape) → judge s ≡ Accepted x → x.length ≤ largest_size
+pub largest-set : (s : List ℕ) (x : Shape) → judge s ≡ Ok x → x.length ≤ largest_size
 largest-set s x e =
     let a : SetAtFront s x = (accepted-exactly s x).0 e in
     let fs = a.lines in
@@ -236,6 +235,6 @@ largest-set s x e =
 pub largest : List ℕ
 largest = set_of (line 8000 "6310" ∷ line 9218 "02.10" ∷ line 3000 "1234567890" ∷ line 8402 "EKG001" ∷ replicate 507 (field 6220 (replicate longest least_byte)))
 
-pub largest-judged : judge largest ≡ Accepted (record { length = largest_size; lines = max_lines; settype = type_number T6310 })
+pub largest-judged : judge largest ≡ Ok (record { length = largest_size; lines = max_lines; settype = type_number T6310 })
 unfolding computes largest
 largest-judged = refl

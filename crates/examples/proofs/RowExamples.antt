@@ -7,8 +7,6 @@ use mathlib.Core.List.{List, [], ◌∷◌, ◌++◌, map, flat_map}
 use Prim.Native.Nat.{ℕ, suc, pred}
 use lib.ListN.{length, take}
 use lib.Dec.{eqb}
-use Rattle.meaning.specs.declared.Judged.{Judged}
-use Rattle.meaning.specs.declared.Judged.TheVariants.{Accepted, Refused}
 use Rattle.meaning.specs.Digits.{digits}
 use Rattle.meaning.specs.Field.{Field, field}
 use Rattle.meaning.specs.Refusals.{refusal}
@@ -17,6 +15,8 @@ use Rattle.meaning.specs.Lists.{with_sum}
 use Rattle.meaning.specs.Reading.{judge}
 use Rattle.meaning.specs.Computes.{computes}
 use Rattle.meaning.proofs.Asking.{text}
+use Rattle.meaning.specs.Results.{Judged}
+use Rattle.std.specs.Prelude.{Err, Ok}
 
 -- ---- how a row is printed
 
@@ -270,8 +270,8 @@ bytes t (bare ls) = render (lines t (bare ls)) []
 
 -- "The place is the offset of the line's first byte"
 abbrev answer : ℕ → List Field → Demand → Judged
-answer t fs accepted = Accepted (record { length = length (render fs []); lines = length fs; settype = t })
-answer t fs (refused n k l) = Refused (refusal n (length (render (take k fs) [])) l)
+answer t fs accepted = Ok (record { length = length (render fs []); lines = length fs; settype = t })
+answer t fs (refused n k l) = Err (refusal n (length (render (take k fs) [])) l)
 
 -- a set that is accepted
 abbrev accept : List ℕ → Case
@@ -452,8 +452,8 @@ of_table rs =
 
 -- an answer in numbers: 0, length, lines and type, or number, place and label
 abbrev numbers : Judged → List ℕ
-numbers (Accepted x) = 0 ∷ x.length ∷ x.lines ∷ x.settype ∷ []
-numbers (Refused r) = r.no ∷ r.place ∷ r.label ∷ []
+numbers (Ok x) = 0 ∷ x.length ∷ x.lines ∷ x.settype ∷ []
+numbers (Err r) = r.no ∷ r.place ∷ r.label ∷ []
 
 abbrev same : List ℕ → List ℕ → Bool
 same [] [] = true

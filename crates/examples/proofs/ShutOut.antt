@@ -14,13 +14,6 @@ use Rattle.meaning.specs.declared.Refusal.{Refusal}
 use Rattle.meaning.specs.declared.Shape.{Shape}
 use Rattle.meaning.specs.declared.Entry.{Entry}
 use Rattle.meaning.specs.declared.Part.{Part}
-use Rattle.meaning.specs.declared.Judged.{Judged}
-use Rattle.meaning.specs.declared.Judged.TheVariants.{Accepted, Refused as RefusedSet}
-use Rattle.meaning.specs.declared.Made.{Made}
-use Rattle.meaning.specs.declared.Made.TheVariants.{Done, Refused}
-use Rattle.meaning.specs.declared.Viewed.{Viewed}
-use Rattle.meaning.specs.declared.Viewed.TheVariants.{Set, Refused as RefusedView}
-use Rattle.meaning.specs.declared.Known.{Known}
 use Rattle.meaning.specs.declared.SetType.{SetType}
 use Rattle.meaning.specs.declared.SetType.TheVariants.{T6300, T6301}
 use Rattle.meaning.specs.Limits.{max_lines, max_set_bytes, type_of, type_number}
@@ -56,6 +49,9 @@ use Rattle.meaning.proofs.CorrectionLaws.{Holds, Change, change, Alike, Correcte
 use Rattle.meaning.proofs.IndexLaws.{Shows, index-shows}
 use Rattle.meaning.proofs.ViewLaws.{newest, view-shows, view-as-corrected}
 use Rattle.examples.proofs.LargestSet.{largest_size, largest-set, largest, largest-judged}
+use Rattle.meaning.specs.Results.{Judged, Known, Made, Viewed, of_set}
+use Rattle.meaning.specs.declared.Shown.TheVariants.{Set}
+use Rattle.std.specs.Prelude.{Err, Ok}
 
 -- ---- the inputs
 
@@ -87,15 +83,15 @@ read-q : read q ≡ done (parsed q_lines [])
 unfolding computes q q_lines
 read-q = refl
 
-judge-p : judge p ≡ Accepted (shaped 51 4 6300)
+judge-p : judge p ≡ Ok (shaped 51 4 6300)
 unfolding computes p
 judge-p = refl
 
-judge-q : judge q ≡ Accepted (shaped 55 4 6300)
+judge-q : judge q ≡ Ok (shaped 55 4 6300)
 unfolding computes q
 judge-q = refl
 
-judge-none : judge [] ≡ RefusedSet (refusal 1 0 0)
+judge-none : judge [] ≡ Err (refusal 1 0 0)
 unfolding computes
 judge-none = refl
 
@@ -161,7 +157,7 @@ call a b = record { answer = a; buffer = b }
 abbrev SaysJudge : (List ℕ → Judged) → Type 0
 SaysJudge f = (s : List ℕ) → f s ≡ judge s
 
-judge-not-refusing : (r : List ℕ → Refusal) → SaysJudge (λ s. RefusedSet (r s)) → ⊥
+judge-not-refusing : (r : List ℕ → Refusal) → SaysJudge (λ s. Err (r s)) → ⊥
 judge-not-refusing r h = refused-accepted (h p ∙ judge-p)
 
 judge-not-same : (a : Judged) → SaysJudge (λ s. a) → ⊥
@@ -181,11 +177,11 @@ lent_entry = record { label = 7; place = 7; length = 7; header = 7 }
 abbrev lent_entries : List Entry
 lent_entries = replicate 8 lent_entry
 
-four-entries : (index_call p lent_entries).answer ≡ Done 4
+four-entries : (index_call p lent_entries).answer ≡ Ok 4
 unfolding computes p
 four-entries = refl
 
-index-not-refusing : (r : List ℕ → List Entry → Refusal) (b : List ℕ → List Entry → List Entry) → SaysIndex (λ s out. call (Refused (r s out)) (b s out)) → ⊥
+index-not-refusing : (r : List ℕ → List Entry → Refusal) (b : List ℕ → List Entry → List Entry) → SaysIndex (λ s out. call (Err (r s out)) (b s out)) → ⊥
 index-not-refusing r b h = refused-made (ap answer_of (h p lent_entries) ∙ four-entries)
 
 index-not-same : (a : Call Entry) → SaysIndex (λ s out. a) → ⊥
@@ -204,12 +200,12 @@ SaysList f = (s out : List ℕ) → f s out ≡ list_call s out
 abbrev lent : List ℕ
 lent = replicate 60 7
 
-list-not-refusing : (r : List ℕ → List ℕ → Refusal) (b : List ℕ → List ℕ → List ℕ) → SaysList (λ s out. call (Refused (r s out)) (b s out)) → ⊥
+list-not-refusing : (r : List ℕ → List ℕ → Refusal) (b : List ℕ → List ℕ → List ℕ) → SaysList (λ s out. call (Err (r s out)) (b s out)) → ⊥
 list-not-refusing r b h = refused-made (ap answer_of (h p lent) ∙ ap made list-p)
 
 list-not-same : (a : Call ℕ) → SaysList (λ s out. a) → ⊥
 list-not-same a h =
-    let e : Done (length (list_of p_lines)) ≡ Done (length (list_of q_lines)) = sym (ap made list-p) ∙ (ap answer_of (sym (h p lent) ∙ h q lent) ∙ ap made list-q) in
+    let e : Ok (length (list_of p_lines)) ≡ Ok (length (list_of q_lines)) = sym (ap made list-p) ∙ (ap answer_of (sym (h p lent) ∙ h q lent) ∙ ap made list-q) in
     omega (arith, made-same e, p-list, q-list)
 
 -- the last byte that was lent is 7 before the call, and 0 after it
@@ -220,12 +216,12 @@ list-not-idle a h = let z : ◌≡◌ {A = ℕ} 7 0 = ap (λ (c : Call ℕ). get
 abbrev SaysWrite : (List ℕ → List ℕ → Call ℕ) → Type 0
 SaysWrite f = (l out : List ℕ) → f l out ≡ write_call l out
 
-write-not-refusing : (r : List ℕ → List ℕ → Refusal) (b : List ℕ → List ℕ → List ℕ) → SaysWrite (λ l out. call (Refused (r l out)) (b l out)) → ⊥
+write-not-refusing : (r : List ℕ → List ℕ → Refusal) (b : List ℕ → List ℕ → List ℕ) → SaysWrite (λ l out. call (Err (r l out)) (b l out)) → ⊥
 write-not-refusing r b h = refused-made (ap answer_of (h (list_of p_lines) lent) ∙ ap made write-p)
 
 write-not-same : (a : Call ℕ) → SaysWrite (λ l out. a) → ⊥
 write-not-same a h =
-    let e : Done (length p) ≡ Done (length q) = sym (ap made write-p) ∙ (ap answer_of (sym (h (list_of p_lines) lent) ∙ h (list_of q_lines) lent) ∙ ap made write-q) in
+    let e : Ok (length p) ≡ Ok (length q) = sym (ap made write-p) ∙ (ap answer_of (sym (h (list_of p_lines) lent) ∙ h (list_of q_lines) lent) ∙ ap made write-q) in
     omega (arith, made-same e, length-p, length-q)
 
 write-not-idle : (a : List ℕ → List ℕ → Made) → SaysWrite (λ l out. call (a l out) out) → ⊥
@@ -236,12 +232,12 @@ abbrev SaysCorrect : (List ℕ → ℕ → ℕ → List ℕ → Call ℕ) → Ty
 SaysCorrect f = (b : List ℕ) (used n : ℕ) (c : List ℕ) → f b used n c ≡ correct_call b used n c
 
 correct-not-refusing : (r : List ℕ → ℕ → ℕ → List ℕ → Refusal) (o : List ℕ → ℕ → ℕ → List ℕ → List ℕ)
-    → SaysCorrect (λ b used n c. call (Refused (r b used n c)) (o b used n c)) → ⊥
+    → SaysCorrect (λ b used n c. call (Err (r b used n c)) (o b used n c)) → ⊥
 correct-not-refusing r o h = refused-made (ap answer_of (h in_buffer 51 4 (text "0")) ∙ ap made correct-p)
 
 correct-not-same : (a : Call ℕ) → SaysCorrect (λ b used n c. a) → ⊥
 correct-not-same a h =
-    let e : Done (length p) ≡ Done (length q) =
+    let e : Ok (length p) ≡ Ok (length q) =
     sym (ap made correct-p) ∙ (ap answer_of (sym (h in_buffer 51 4 (text "0")) ∙ h in_buffer 51 4 (text "10027")) ∙ ap made correct-q) in
     omega (arith, made-same e, length-p, length-q)
 
@@ -252,14 +248,14 @@ correct-not-idle a h = let z : ◌≡◌ {A = ℕ} 7 0 = ap (λ (c : Call ℕ). 
 abbrev SaysViewed : (List ℕ → List ℕ → ℕ → Viewed) → Type 0
 SaysViewed f = (s h : List ℕ) (n : ℕ) → f s h n ≡ viewed s h n
 
-viewed-p : viewed p [] 4 ≡ Set (record { place = 48; length = 1 })
+viewed-p : viewed p [] 4 ≡ of_set (record { place = 48; length = 1 })
 unfolding computes p
 viewed-p = refl
 
-refused-view : {r : Refusal} → viewed p [] 4 ≡ RefusedView r → ⊥
+refused-view : {r : Refusal} → viewed p [] 4 ≡ Err r → ⊥
 refused-view e = let f = sym viewed-p ∙ e in let z : ◌≡◌ {A = ℕ} 0 1 = cc in omega arith
 
-viewed-not-refusing : (r : List ℕ → List ℕ → ℕ → Refusal) → SaysViewed (λ s h n. RefusedView (r s h n)) → ⊥
+viewed-not-refusing : (r : List ℕ → List ℕ → ℕ → Refusal) → SaysViewed (λ s h n. Err (r s h n)) → ⊥
 viewed-not-refusing r h = refused-view (sym (h p [] 4))
 
 viewed-not-same : (a : Viewed) → SaysViewed (λ s h n. a) → ⊥
@@ -343,7 +339,7 @@ keeps-met-by-idle r b = refl
 
 -- refused-shape: given a set that is refused. Any function for `judge`, and any for the values of its answer
 abbrev SaysRefusedShape : (List ℕ → Judged) → (Judged → Shape) → Type 0
-SaysRefusedShape J G = (s : List ℕ) (r : Refusal) → J s ≡ RefusedSet r → G (J s) ≡ shaped 0 0 0
+SaysRefusedShape J G = (s : List ℕ) (r : Refusal) → J s ≡ Err r → G (J s) ≡ shaped 0 0 0
 
 refused-shape-says : SaysRefusedShape judge judged_shape
 refused-shape-says = refused-shape
@@ -361,7 +357,7 @@ refused-shape-met-by-zeros J s r e = refl
 
 -- accepted-no-refusal: given a set that is accepted
 abbrev SaysAcceptedNoRefusal : (List ℕ → Judged) → (Judged → Refusal) → Type 0
-SaysAcceptedNoRefusal J G = (s : List ℕ) (x : Shape) → J s ≡ Accepted x → G (J s) ≡ refusal 0 0 0
+SaysAcceptedNoRefusal J G = (s : List ℕ) (x : Shape) → J s ≡ Ok x → G (J s) ≡ refusal 0 0 0
 
 accepted-no-refusal-says : SaysAcceptedNoRefusal judge judged_refusal
 accepted-no-refusal-says = accepted-no-refusal
@@ -378,12 +374,12 @@ accepted-no-refusal-met-by-zeros J s x e = refl
 
 -- refused-view: given a view that is refused. Any function for `viewed`, for `view`, and for flag and part of the answer
 abbrev SaysRefusedView : (List ℕ → List ℕ → ℕ → Viewed) → (List ℕ → List ℕ → ℕ → List ℕ) → (Viewed → ℕ) → (Viewed → Part) → Type 0
-SaysRefusedView A W F P = (s h : List ℕ) (n : ℕ) (r : Refusal) → A s h n ≡ RefusedView r → (F (A s h n) ≡ 0) × (P (A s h n) ≡ record { place = 0; length = 0 }) × (W s h n ≡ [])
+SaysRefusedView A W F P = (s h : List ℕ) (n : ℕ) (r : Refusal) → A s h n ≡ Err r → (F (A s h n) ≡ 0) × (P (A s h n) ≡ record { place = 0; length = 0 }) × (W s h n ≡ [])
 
 refused-view-says : SaysRefusedView viewed view viewed_flag viewed_part
 refused-view-says = view-refused
 
-viewed-none : viewed [] [] 1 ≡ RefusedView (refusal 1 0 0)
+viewed-none : viewed [] [] 1 ≡ Err (refusal 1 0 0)
 unfolding computes
 viewed-none = refl
 
@@ -441,13 +437,13 @@ accepted-not-same d h = let z : ◌≡◌ {A = ℕ} 0 1 = ap length ((h [] d ref
 -- ---- demand 2: set to list to set
 
 abbrev SaysSetListSet : (List ℕ → List ℕ → Call ℕ) → (List ℕ → List ℕ → Call ℕ) → Type 0
-SaysSetListSet list_call write_call = (s : List ℕ) (x : Shape) → judge s ≡ Accepted x
+SaysSetListSet list_call write_call = (s : List ℕ) (x : Shape) → judge s ≡ Ok x
     → (l : List ℕ) × ((list₀ list₁ out₀ out₁ : List ℕ) (listed written : Made)
     → length l ≤ length list₀ → x.length ≤ length out₀
     → listed ≡ (list_call s list₀).answer → list₁ ≡ (list_call s list₀).buffer
     → written ≡ (write_call (take (length l) list₁) out₀).answer → out₁ ≡ (write_call (take (length l) list₁) out₀).buffer
-    → ((listed ≡ Done (length l)) × (list₁ ≡ l ++ replicate (length list₀ - length l) 0))
-    × ((written ≡ Done x.length) × (out₁ ≡ take x.length s ++ replicate (length out₀ - x.length) 0)))
+    → ((listed ≡ Ok (length l)) × (list₁ ≡ l ++ replicate (length list₀ - length l) 0))
+    × ((written ≡ Ok x.length) × (out₁ ≡ take x.length s ++ replicate (length out₀ - x.length) 0)))
 
 set-list-set-says : SaysSetListSet list_call write_call
 set-list-set-says = set-list-set
@@ -459,11 +455,11 @@ room_for : (n : ℕ) → n ≤ length (zeros n)
 room_for n = omega (arith, length-replicate {A = ℕ} n 0)
 
 -- what it says of one set, in a buffer for its list and one of 60 bytes
-module _ (L W : List ℕ → List ℕ → Call ℕ) (s : List ℕ) (x : Shape) (j : judge s ≡ Accepted x) (few : x.length ≤ 60) where
+module _ (L W : List ℕ → List ℕ → Call ℕ) (s : List ℕ) (x : Shape) (j : judge s ≡ Ok x) (few : x.length ≤ 60) where
   record Back : Type 0 where
     count : ℕ
-    listed : (L s (zeros count)).answer ≡ Done count
-    written : (W (take count (L s (zeros count)).buffer) lent).answer ≡ Done x.length
+    listed : (L s (zeros count)).answer ≡ Ok count
+    written : (W (take count (L s (zeros count)).buffer) lent).answer ≡ Ok x.length
 
   there_and_back : SaysSetListSet L W → Back
   there_and_back h =
@@ -482,12 +478,12 @@ q-and-back L W = there_and_back L W q (shaped 55 4 6300) judge-q (omega arith)
 
 -- neither with a trivial lister, whatever the writer is, nor with a trivial writer, whatever the lister is
 set-list-set-not-refusing-list : (r : List ℕ → List ℕ → Refusal) (b : List ℕ → List ℕ → List ℕ) (W : List ℕ → List ℕ → Call ℕ)
-    → SaysSetListSet (λ s out. call (Refused (r s out)) (b s out)) W → ⊥
-set-list-set-not-refusing-list r b W h = refused-made (p-and-back (λ s out. call (Refused (r s out)) (b s out)) W h).listed
+    → SaysSetListSet (λ s out. call (Err (r s out)) (b s out)) W → ⊥
+set-list-set-not-refusing-list r b W h = refused-made (p-and-back (λ s out. call (Err (r s out)) (b s out)) W h).listed
 
 set-list-set-not-refusing-write : (r : List ℕ → List ℕ → Refusal) (b : List ℕ → List ℕ → List ℕ) (L : List ℕ → List ℕ → Call ℕ)
-    → SaysSetListSet L (λ l out. call (Refused (r l out)) (b l out)) → ⊥
-set-list-set-not-refusing-write r b L h = refused-made (p-and-back L (λ l out. call (Refused (r l out)) (b l out)) h).written
+    → SaysSetListSet L (λ l out. call (Err (r l out)) (b l out)) → ⊥
+set-list-set-not-refusing-write r b L h = refused-made (p-and-back L (λ l out. call (Err (r l out)) (b l out)) h).written
 
 -- both sets would have a list of one length at the front of one buffer, from which the writer makes 51 bytes and 55
 set-list-set-not-same-list : (a : Call ℕ) (W : List ℕ → List ℕ → Call ℕ) → SaysSetListSet (λ s out. a) W → ⊥
@@ -504,7 +500,7 @@ set-list-set-not-same-write a L h =
 
 -- list-write: given an accepted set, its list as `list` made it, and room
 abbrev SaysListWrite : (List ℕ → ℕ → Reply (List ℕ)) → (List ℕ → ℕ → Reply (List ℕ)) → Type 0
-SaysListWrite list write = (s : List ℕ) (x : Shape) (l : List ℕ) (room room' : ℕ) → judge s ≡ Accepted x → list s room ≡ done l → x.length ≤ room'
+SaysListWrite list write = (s : List ℕ) (x : Shape) (l : List ℕ) (room room' : ℕ) → judge s ≡ Ok x → list s room ≡ done l → x.length ≤ room'
     → write l room' ≡ done (take x.length s)
 
 list-write-says : SaysListWrite list write
@@ -536,7 +532,7 @@ list-write-not-same-write a h =
 
 -- list-there: given an accepted set
 abbrev SaysListThere : (List ℕ → ℕ → Reply (List ℕ)) → Type 0
-SaysListThere list = (s : List ℕ) (x : Shape) → judge s ≡ Accepted x → (l : List ℕ) × ((room : ℕ) → length l ≤ room → list s room ≡ done l)
+SaysListThere list = (s : List ℕ) (x : Shape) → judge s ≡ Ok x → (l : List ℕ) × ((room : ℕ) → length l ≤ room → list s room ≡ done l)
 
 list-there-says : SaysListThere list
 list-there-says = list-there
@@ -551,13 +547,13 @@ list-there-met-by-same l s x j = (l, λ room h. refl)
 -- All three speak of accepted sets alone: a lister that makes a list of no bytes of every set that is refused meets them. Shut out by its contract and by `list-only`, and by
 -- `listed-exactly` in crate `breaches`.
 abbrev lenient : Judged → Reply (List ℕ) → Reply (List ℕ)
-lenient (Accepted x) r = r
-lenient (RefusedSet q) r = done []
+lenient (Ok x) r = r
+lenient (Err q) r = done []
 
 lenient_list : List ℕ → ℕ → Reply (List ℕ)
 lenient_list s room = lenient (judge s) (list s room)
 
-lenient-same : (s : List ℕ) (x : Shape) (room : ℕ) → judge s ≡ Accepted x → lenient_list s room ≡ list s room
+lenient-same : (s : List ℕ) (x : Shape) (room : ℕ) → judge s ≡ Ok x → lenient_list s room ≡ list s room
 unfolding lenient_list
 lenient-same s x room j = ap (λ (y : Judged). lenient y (list s room)) j
 
@@ -592,21 +588,21 @@ list-only-not-lenient h = refused-done {r = refusal 1 0 0} (h [] 0 [] refl).was_
 -- list-set-list: given a list of bytes that the writer wrote, and room
 abbrev SaysListSetList : (List ℕ → List ℕ → Call ℕ) → (List ℕ → List ℕ → Call ℕ) → (List ℕ → Judged) → Type 0
 SaysListSetList write_call list_call judge = (l out₀ out₁ back₀ back₁ : List ℕ) (n : ℕ) (answer : Made) → Every Byte l
-    → Done n ≡ (write_call l out₀).answer → out₁ ≡ (write_call l out₀).buffer
+    → Ok n ≡ (write_call l out₀).answer → out₁ ≡ (write_call l out₀).buffer
     → length l ≤ length back₀
     → answer ≡ (list_call (take n out₁) back₀).answer → back₁ ≡ (list_call (take n out₁) back₀).buffer
-    → ((y : Shape) × (judge (take n out₁) ≡ Accepted y) × (y.length ≡ n)) × (answer ≡ Done (length l)) × (back₁ ≡ l ++ replicate (length back₀ - length l) 0)
+    → ((y : Shape) × (judge (take n out₁) ≡ Ok y) × (y.length ≡ n)) × (answer ≡ Ok (length l)) × (back₁ ≡ l ++ replicate (length back₀ - length l) 0)
 
 list-set-list-says : SaysListSetList write_call list_call judge
 list-set-list-says = list-set-list
 
 -- a writer that refuses all meets it; shut out by `set-list-set`
 list-set-list-met-by-refusing-write : (r : List ℕ → List ℕ → Refusal) (b : List ℕ → List ℕ → List ℕ) (L : List ℕ → List ℕ → Call ℕ) (G : List ℕ → Judged)
-    → SaysListSetList (λ l out. call (Refused (r l out)) (b l out)) L G
+    → SaysListSetList (λ l out. call (Err (r l out)) (b l out)) L G
 list-set-list-met-by-refusing-write r b L G l out₀ out₁ back₀ back₁ n answer bytes e = absurd (refused-made (sym e))
 
 -- the list of no bytes and that of one byte would be read back from the same bytes
-list-set-list-not-same-write : (n : ℕ) (b : List ℕ) (L : List ℕ → List ℕ → Call ℕ) (G : List ℕ → Judged) → SaysListSetList (λ l out. call (Done n) b) L G → ⊥
+list-set-list-not-same-write : (n : ℕ) (b : List ℕ) (L : List ℕ → List ℕ → Call ℕ) (G : List ℕ → Judged) → SaysListSetList (λ l out. call (Ok n) b) L G → ⊥
 list-set-list-not-same-write n b L G h =
     let d : Call ℕ = L (take n b) lent in
     let one : Every Byte (1 ∷ []) = omega arith in
@@ -621,15 +617,15 @@ module _ (L : List ℕ → List ℕ → Call ℕ) (G : List ℕ → Judged) (l x
   abbrev set-made : List ℕ
   set-made = take (length x) (write_call l lent).buffer
 
-  listed_back : SaysListSetList write_call L G → ((y : Shape) × (G set-made ≡ Accepted y) × (y.length ≡ length x)) × ((L set-made lent).answer ≡ Done (length l))
+  listed_back : SaysListSetList write_call L G → ((y : Shape) × (G set-made ≡ Ok y) × (y.length ≡ length x)) × ((L set-made lent).answer ≡ Ok (length l))
   listed_back h =
       let e = h l lent (write_call l lent).buffer lent (L set-made lent).buffer (length x) (L set-made lent).answer b (sym (ap made w)) refl few refl refl in
       (e.0, e.1)
 
 list-set-list-not-refusing-list : (r : List ℕ → List ℕ → Refusal) (b : List ℕ → List ℕ → List ℕ) (G : List ℕ → Judged)
-    → SaysListSetList write_call (λ s out. call (Refused (r s out)) (b s out)) G → ⊥
+    → SaysListSetList write_call (λ s out. call (Err (r s out)) (b s out)) G → ⊥
 list-set-list-not-refusing-list r b G h =
-    refused-made (listed_back (λ s out. call (Refused (r s out)) (b s out)) G (list_of p_lines) p bytes-p write-p (omega (arith, p-list)) h).1
+    refused-made (listed_back (λ s out. call (Err (r s out)) (b s out)) G (list_of p_lines) p bytes-p write-p (omega (arith, p-list)) h).1
 
 list-set-list-not-same-list : (a : Call ℕ) (G : List ℕ → Judged) → SaysListSetList write_call (λ s out. a) G → ⊥
 list-set-list-not-same-list a G h =
@@ -637,9 +633,9 @@ list-set-list-not-same-list a G h =
     let y = (listed_back (λ s out. a) G (list_of q_lines) q bytes-q write-q (omega (arith, q-list)) h).1 in
     omega (arith, made-same (sym x ∙ y), p-list, q-list)
 
-list-set-list-not-refusing-judge : (r : List ℕ → Refusal) (L : List ℕ → List ℕ → Call ℕ) → SaysListSetList write_call L (λ s. RefusedSet (r s)) → ⊥
+list-set-list-not-refusing-judge : (r : List ℕ → Refusal) (L : List ℕ → List ℕ → Call ℕ) → SaysListSetList write_call L (λ s. Err (r s)) → ⊥
 list-set-list-not-refusing-judge r L h =
-    refused-accepted (listed_back L (λ s. RefusedSet (r s)) (list_of p_lines) p bytes-p write-p (omega (arith, p-list)) h).0.1
+    refused-accepted (listed_back L (λ s. Err (r s)) (list_of p_lines) p bytes-p write-p (omega (arith, p-list)) h).0.1
 
 list-set-list-not-same-judge : (a : Judged) (L : List ℕ → List ℕ → Call ℕ) → SaysListSetList write_call L (λ s. a) → ⊥
 list-set-list-not-same-judge a L h =
@@ -676,7 +672,7 @@ write-list-not-same-list a h =
 
 -- write-judge: given a list of bytes that the writer wrote
 abbrev SaysWriteJudge : (List ℕ → ℕ → Reply (List ℕ)) → (List ℕ → Judged) → Type 0
-SaysWriteJudge write judge = (l x : List ℕ) (room : ℕ) → Every Byte l → write l room ≡ done x → (y : Shape) × (judge x ≡ Accepted y) × (y.length ≡ length x)
+SaysWriteJudge write judge = (l x : List ℕ) (room : ℕ) → Every Byte l → write l room ≡ done x → (y : Shape) × (judge x ≡ Ok y) × (y.length ≡ length x)
 
 write-judge-says : SaysWriteJudge write judge
 write-judge-says = write-judge
@@ -689,7 +685,7 @@ write-judge-met-by-same-write : SaysWriteJudge (λ l room. done p) judge
 write-judge-met-by-same-write l x room b e =
     let f : p ≡ x = done-same e in (shaped 51 4 6300, ap judge (sym f) ∙ judge-p, sym length-p ∙ ap length f)
 
-write-judge-not-refusing-judge : (r : List ℕ → Refusal) → SaysWriteJudge write (λ s. RefusedSet (r s)) → ⊥
+write-judge-not-refusing-judge : (r : List ℕ → Refusal) → SaysWriteJudge write (λ s. Err (r s)) → ⊥
 write-judge-not-refusing-judge r h = refused-accepted (h (list_of p_lines) p 60 bytes-p write-p).1
 
 write-judge-not-same-judge : (a : Judged) → SaysWriteJudge write (λ s. a) → ⊥
@@ -723,8 +719,8 @@ record Both (c d : List ℕ) (u v k : ℕ) : Type 0 where
   second-made : correct t_buffer 101 7 d ≡ done (render (changed t_lines 7 d) [])
   first-length : length (render (changed t_lines 4 c) []) ≡ u
   second-length : length (render (changed t_lines 7 d) []) ≡ v
-  both-made : (correct_call (correct_call t_buffer 101 4 c).buffer u 7 d).answer ≡ Done k
-  both-written : (write_call (list_of (both_replaced t_lines 4 c 7 d)) t_buffer).answer ≡ Done k
+  both-made : (correct_call (correct_call t_buffer 101 4 c).buffer u 7 d).answer ≡ Ok k
+  both-written : (write_call (list_of (both_replaced t_lines 4 c 7 d)) t_buffer).answer ≡ Ok k
   zero-after : get_or (write_call (list_of (both_replaced t_lines 4 c 7 d)) t_buffer).buffer 109 0 ≡ 0
   room : size (resum (both_replaced t_lines 4 c 7 d)) ≤ length t_buffer
 
@@ -761,19 +757,19 @@ four-seven e = omega arith
 abbrev SaysEitherCall : (List ℕ → ℕ → ℕ → List ℕ → Call ℕ) → (List ℕ → List ℕ → Call ℕ) → Type 0
 SaysEitherCall correct_call write_call = (b bx by : List ℕ) (used n m : ℕ) (c d : List ℕ) (fs : List Field) (u v : ℕ)
     → read (take used b) ≡ done (parsed fs []) → (n ≡ m → ⊥)
-    → Done u ≡ (correct_call b used n c).answer → bx ≡ (correct_call b used n c).buffer
-    → Done v ≡ (correct_call b used m d).answer → by ≡ (correct_call b used m d).buffer
+    → Ok u ≡ (correct_call b used n c).answer → bx ≡ (correct_call b used n c).buffer
+    → Ok v ≡ (correct_call b used m d).answer → by ≡ (correct_call b used m d).buffer
     → size (resum (both_replaced fs n c m d)) ≤ length b
-    → (k : ℕ) × ((correct_call bx u m d).answer ≡ Done k) × ((correct_call by v n c).answer ≡ Done k)
+    → (k : ℕ) × ((correct_call bx u m d).answer ≡ Ok k) × ((correct_call by v n c).answer ≡ Ok k)
     × ((correct_call bx u m d).buffer ≡ (correct_call by v n c).buffer)
-    × ((write_call (list_of (both_replaced fs n c m d)) b).answer ≡ Done k) × ((correct_call bx u m d).buffer ≡ (write_call (list_of (both_replaced fs n c m d)) b).buffer)
+    × ((write_call (list_of (both_replaced fs n c m d)) b).answer ≡ Ok k) × ((correct_call bx u m d).buffer ≡ (write_call (list_of (both_replaced fs n c m d)) b).buffer)
 
 either-call-says : SaysEitherCall correct_call write_call
 either-call-says = either-call
 
 -- a corrector that refuses all meets it; shut out by `correct-makes`, and by `corrected-exactly` in crate `keeps`
 either-call-met-by-refusing-correct : (r : List ℕ → ℕ → ℕ → List ℕ → Refusal) (o : List ℕ → ℕ → ℕ → List ℕ → List ℕ) (W : List ℕ → List ℕ → Call ℕ)
-    → SaysEitherCall (λ b used n c. call (Refused (r b used n c)) (o b used n c)) W
+    → SaysEitherCall (λ b used n c. call (Err (r b used n c)) (o b used n c)) W
 either-call-met-by-refusing-correct r o W b bx by used n m c d fs u v e ne p = absurd (refused-made (sym p))
 
 -- what it says of lines 4 and 7
@@ -784,16 +780,16 @@ module _ (C : List ℕ → ℕ → ℕ → List ℕ → Call ℕ) (W : List ℕ 
   abbrev as_written : Call ℕ
   as_written = W (list_of (both_replaced t_lines 4 c 7 d)) t_buffer
 
-  either-at : (C t_buffer 101 4 c).answer ≡ Done u → (C t_buffer 101 7 d).answer ≡ Done v → size (resum (both_replaced t_lines 4 c 7 d)) ≤ length t_buffer
-      → (k : ℕ) × (twice.answer ≡ Done k) × (as_written.answer ≡ Done k) × (twice.buffer ≡ as_written.buffer)
+  either-at : (C t_buffer 101 4 c).answer ≡ Ok u → (C t_buffer 101 7 d).answer ≡ Ok v → size (resum (both_replaced t_lines 4 c 7 d)) ≤ length t_buffer
+      → (k : ℕ) × (twice.answer ≡ Ok k) × (as_written.answer ≡ Ok k) × (twice.buffer ≡ as_written.buffer)
   either-at p q room =
       let e = h t_buffer (C t_buffer 101 4 c).buffer (C t_buffer 101 7 d).buffer 101 4 7 c d t_lines u v read-t four-seven (sym p) refl (sym q) refl room in
       (e.0, e.1, e.4, e.5)
 
-either-call-not-same-correct : (u : ℕ) (x : List ℕ) → SaysEitherCall (λ b used n c. call (Done u) x) write_call → ⊥
+either-call-not-same-correct : (u : ℕ) (x : List ℕ) → SaysEitherCall (λ b used n c. call (Ok u) x) write_call → ⊥
 either-call-not-same-correct u x h =
-    let e = either-at (λ b used n c. call (Done u) x) write_call h (text "10027") (text "2.5") u u refl refl longer.room in
-    let f = either-at (λ b used n c. call (Done u) x) write_call h (text "8") (text "-3.8") u u refl refl as_long.room in
+    let e = either-at (λ b used n c. call (Ok u) x) write_call h (text "10027") (text "2.5") u u refl refl longer.room in
+    let f = either-at (λ b used n c. call (Ok u) x) write_call h (text "8") (text "-3.8") u u refl refl as_long.room in
     omega (
       arith,
       made-same e.1,
@@ -803,7 +799,7 @@ either-call-not-same-correct u x h =
     )
 
 -- one that reports the two corrections as made, whatever else it answers, and leaves the buffer as it was
-either-call-not-idle : (a : List ℕ → ℕ → ℕ → List ℕ → Made) (u v : ℕ) → a t_buffer 101 4 (text "10027") ≡ Done u → a t_buffer 101 7 (text "2.5") ≡ Done v
+either-call-not-idle : (a : List ℕ → ℕ → ℕ → List ℕ → Made) (u v : ℕ) → a t_buffer 101 4 (text "10027") ≡ Ok u → a t_buffer 101 7 (text "2.5") ≡ Ok v
     → SaysEitherCall (λ b used n c. call (a b used n c) b) write_call → ⊥
 unfolding t t_buffer
 either-call-not-idle a u v p q h =
@@ -812,23 +808,23 @@ either-call-not-idle a u v p q h =
     omega arith
 
 -- one that makes every correction to line 4, and of every other line reports that it was made
-either-call-not-first-only : SaysEitherCall (λ b used n c. cond (eqb n 4) (correct_call b used n c) (call (Done used) b)) write_call → ⊥
+either-call-not-first-only : SaysEitherCall (λ b used n c. cond (eqb n 4) (correct_call b used n c) (call (Ok used) b)) write_call → ⊥
 either-call-not-first-only h =
-    let C : List ℕ → ℕ → ℕ → List ℕ → Call ℕ = λ b used n c. cond (eqb n 4) (correct_call b used n c) (call (Done used) b) in
-    let e = either-at C write_call h (text "10027") (text "2.5") 105 101 (ap made longer.first_made ∙ ap Done longer.first-length) refl longer.room in
+    let C : List ℕ → ℕ → ℕ → List ℕ → Call ℕ = λ b used n c. cond (eqb n 4) (correct_call b used n c) (call (Ok used) b) in
+    let e = either-at C write_call h (text "10027") (text "2.5") 105 101 (ap made longer.first_made ∙ ap Ok longer.first-length) refl longer.room in
     let z : ◌≡◌ {A = ℕ} 105 104 = made-same (e.1 ∙ (sym e.2 ∙ longer.both-written)) in
     omega arith
 
 -- with the corrector and a trivial writer
 either-at-real : (W : List ℕ → List ℕ → Call ℕ) → SaysEitherCall correct_call W → (c d : List ℕ) (u v k : ℕ) → Both c d u v k
-    → (W (list_of (both_replaced t_lines 4 c 7 d)) t_buffer).answer ≡ Done k
+    → (W (list_of (both_replaced t_lines 4 c 7 d)) t_buffer).answer ≡ Ok k
 either-at-real W h c d u v k b =
-    let e = either-at correct_call W h c d u v (ap made b.first_made ∙ ap Done b.first-length) (ap made b.second-made ∙ ap Done b.second-length) b.room in
+    let e = either-at correct_call W h c d u v (ap made b.first_made ∙ ap Ok b.first-length) (ap made b.second-made ∙ ap Ok b.second-length) b.room in
     e.2 ∙ (sym e.1 ∙ b.both-made)
 
-either-call-not-refusing-write : (r : List ℕ → List ℕ → Refusal) (o : List ℕ → List ℕ → List ℕ) → SaysEitherCall correct_call (λ l out. call (Refused (r l out)) (o l out)) → ⊥
+either-call-not-refusing-write : (r : List ℕ → List ℕ → Refusal) (o : List ℕ → List ℕ → List ℕ) → SaysEitherCall correct_call (λ l out. call (Err (r l out)) (o l out)) → ⊥
 either-call-not-refusing-write r o h =
-    refused-made (either-at-real (λ l out. call (Refused (r l out)) (o l out)) h (text "10027") (text "2.5") 105 100 104 longer)
+    refused-made (either-at-real (λ l out. call (Err (r l out)) (o l out)) h (text "10027") (text "2.5") 105 100 104 longer)
 
 either-call-not-same-write : (a : Call ℕ) → SaysEitherCall correct_call (λ l out. a) → ⊥
 either-call-not-same-write a h =
@@ -887,7 +883,7 @@ either-order-real W h c d u v k b =
     let x : List ℕ = render (changed t_lines 4 c) [] in
     let o = h t_buffer 101 4 7 c d x (render (changed t_lines 7 d) []) t_lines read-t four-seven b.first_made b.second-made b.room in
     let left : (correct_call t_buffer 101 4 c).buffer ≡ bytes_left (done x) t_buffer = ap (λ (r : Reply (List ℕ)). bytes_left r t_buffer) b.first_made in
-    let made-so : (correct_call (correct_call t_buffer 101 4 c).buffer u 7 d).answer ≡ Done (length o.result) =
+    let made-so : (correct_call (correct_call t_buffer 101 4 c).buffer u 7 d).answer ≡ Ok (length o.result) =
     ap₂ (λ (z : List ℕ) (n : ℕ). made (correct z n 7 d)) left (sym b.first-length) ∙ ap made o.second-after-first in
     (o.result, o.as-written, made-same (sym made-so ∙ b.both-made))
 
@@ -1004,13 +1000,13 @@ alike-changed-not-same gs h =
 
 record IndexedBy (index_call : List ℕ → List Entry → Call Entry) (s : List ℕ) (x : Shape) (fs : List Field) (out : List Entry) : Type 0 where
   lines_are : x.lines ≡ length fs
-  answer : (index_call s out).answer ≡ Done x.lines
+  answer : (index_call s out).answer ≡ Ok x.lines
   each : (k : ℕ) (none : Entry) → k < x.lines → Shows s fs k (get_or (index_call s out).buffer k none)
   others-stay : drop x.lines (index_call s out).buffer ≡ drop x.lines out
 
 -- index-shows: given an accepted set, and room
 abbrev SaysIndexShows : (List ℕ → List Entry → Call Entry) → Type 0
-SaysIndexShows index_call = (s : List ℕ) (x : Shape) (out : List Entry) → judge s ≡ Accepted x → x.lines ≤ length out
+SaysIndexShows index_call = (s : List ℕ) (x : Shape) (out : List Entry) → judge s ≡ Ok x → x.lines ≤ length out
     → (d : Parsed) × (read s ≡ done d) × IndexedBy index_call s x d.fields out
 
 index-shows-says : SaysIndexShows index_call
@@ -1018,11 +1014,11 @@ index-shows-says s x out j room =
     let e = index-shows s x out j room in
     (e.0, e.1, record { lines_are = e.2.lines_are; answer = e.2.answer; each = e.2.each; others-stay = e.2.others-stay })
 
-judge-t : judge t ≡ Accepted (shaped 101 8 6310)
+judge-t : judge t ≡ Ok (shaped 101 8 6310)
 unfolding computes t
 judge-t = refl
 
-index-shows-not-refusing : (r : List ℕ → List Entry → Refusal) (b : List ℕ → List Entry → List Entry) → SaysIndexShows (λ s out. call (Refused (r s out)) (b s out)) → ⊥
+index-shows-not-refusing : (r : List ℕ → List Entry → Refusal) (b : List ℕ → List Entry → List Entry) → SaysIndexShows (λ s out. call (Err (r s out)) (b s out)) → ⊥
 index-shows-not-refusing r b h = refused-made (h p (shaped 51 4 6300) lent_entries judge-p (omega arith)).2.answer
 
 index-shows-not-same : (a : Call Entry) → SaysIndexShows (λ s out. a) → ⊥
@@ -1122,26 +1118,26 @@ sizes-not-empty-content h = let z : 1 ≤ 0 = (h.0 [] (parsed (field 3000 [] ∷
 
 -- largest-set and largest-judged: given that the set was accepted; of one set, nothing
 abbrev SaysLargest : (List ℕ → Judged) → Type 0
-SaysLargest judge = ((s : List ℕ) (x : Shape) → judge s ≡ Accepted x → x.length ≤ largest_size) × (judge largest ≡ Accepted (shaped largest_size max_lines 6310))
+SaysLargest judge = ((s : List ℕ) (x : Shape) → judge s ≡ Ok x → x.length ≤ largest_size) × (judge largest ≡ Ok (shaped largest_size max_lines 6310))
 
 largest-says : SaysLargest judge
 largest-says = (largest-set, largest-judged)
 
-largest-not-refusing : (r : List ℕ → Refusal) → SaysLargest (λ s. RefusedSet (r s)) → ⊥
+largest-not-refusing : (r : List ℕ → Refusal) → SaysLargest (λ s. Err (r s)) → ⊥
 largest-not-refusing r h = refused-accepted h.1
 
 -- nor does one that accepts all bytes, each time with their length
-largest-not-accepting : (lines settype : List ℕ → ℕ) → SaysLargest (λ s. Accepted (shaped (length s) (lines s) (settype s))) → ⊥
+largest-not-accepting : (lines settype : List ℕ → ℕ) → SaysLargest (λ s. Ok (shaped (length s) (lines s) (settype s))) → ⊥
 largest-not-accepting lines settype h =
     let long : List ℕ = replicate (largest_size + 1) 0 in
     omega (arith, h.0 long (shaped (length long) (lines long) (settype long)) refl, length-replicate {A = ℕ} (largest_size + 1) 0)
 
 -- nor one that answers always the same, with another length
-largest-not-another : (x : Shape) → (x.length ≡ largest_size → ⊥) → SaysLargest (λ s. Accepted x) → ⊥
+largest-not-another : (x : Shape) → (x.length ≡ largest_size → ⊥) → SaysLargest (λ s. Ok x) → ⊥
 largest-not-another x n h = n (ap (λ (y : Shape). y.length) (accepted-same h.1))
 
 -- one that answers always what it answers for the largest set meets it; shut out by `accepted-exactly` in crate `keeps`
-largest-met-by-same : SaysLargest (λ s. Accepted (shaped largest_size max_lines 6310))
+largest-met-by-same : SaysLargest (λ s. Ok (shaped largest_size max_lines 6310))
 largest-met-by-same = (λ s x e. subst (λ (y : Shape). y.length ≤ largest_size) (accepted-same e) (omega arith), refl)
 
 -- ruled-total: given at most 512 lines that keep the rules

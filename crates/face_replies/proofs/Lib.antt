@@ -1,3 +1,2 @@
 -- The laws that the proofs of this crate and of later ones cite.
-pub mod IndexPlanLaws
 pub mod CopiedLaws

@@ -1,12 +1,10 @@
 -- The records of numbers that the C face answers, from the answers of `meaning`, and the buffer that a copy of a view leaves.
 use Rattle.std.specs.Prelude.{cond, List, ◌++◌, ℕ, length, drop, leb}
-use Rattle.meaning.specs.declared.Judged.{Judged}
-use Rattle.meaning.specs.declared.Made.{Made}
-use Rattle.meaning.specs.declared.Viewed.{Viewed}
 use Rattle.meaning.specs.Answers.{judged_refusal, judged_shape, made_refusal, made_count, viewed_refusal, viewed_flag, viewed_part}
 use Rattle.face_replies.specs.declared.JudgedReply.{JudgedReply}
 use Rattle.face_replies.specs.declared.MadeReply.{MadeReply}
 use Rattle.face_replies.specs.declared.ViewedReply.{ViewedReply}
+use Rattle.meaning.specs.Results.{Judged, Made, Viewed}
 
 -- the refusal's number, place and label, 0 if there is none; the set's length, lines and type, 0 if it is refused
 abbrev pub judged_reply : Judged → JudgedReply

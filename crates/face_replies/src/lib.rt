@@ -1,12 +1,13 @@
 // What the calls of the C face answer: records of numbers by value, made of the answers of `meaning`; and what an index comes to before its first entry is written.
+// They stay records of numbers, 0 where there is nothing, since C reads them.
 // No function has a `requires`. The contracts cite specs/Replies, which gives the numbers of each answer, and specs/IndexPlans.
 #![tactic(auto)]
 
-ghost use Rattle.std.specs.Prelude.{◌≡◌};
+ghost use Rattle.std.specs.Prelude.{◌≡◌, Ok};
 ghost use Rattle.face_replies.specs.Replies.{judged_reply, made_reply, viewed_reply};
-ghost use Rattle.face_replies.specs.IndexPlans.{no_entries, all_entries, plan_index};
+ghost use Rattle.face_replies.specs.IndexPlans.{plan_index};
 
-use meaning::{Judged, Made, Refusal, Shape, Viewed};
+use meaning::{Refusal, Shape, Shown};
 
 // What judging a set answers: number 0 and the set's length, lines and type, or the refusal.
 #[repr(C)]
@@ -42,117 +43,106 @@ pub struct ViewedReply {
     pub length: usize,
 }
 
-// What an index comes to before its first entry is written: how many entries, and the answer.
-#[derive(Drop)]
-pub struct IndexPlan {
-    pub count: usize,
-    pub reply: MadeReply,
-}
-
 // The numbers of what judging a set answers.
-pub fn judged_reply(judged: Judged) -> JudgedReply
-    ensures { result ≡ judged_reply judged }
-{
-    match judged {
-        Judged::Accepted(shape) => JudgedReply {
-            no: 0,
-            place: 0,
-            label: 0,
-            length: shape.length,
-            lines: shape.lines,
-            settype: shape.settype,
-        },
-        Judged::Refused(r) => JudgedReply {
-            no: r.no,
-            place: r.place,
-            label: r.label,
-            length: 0,
-            lines: 0,
-            settype: 0,
-        },
+impl From<Result<Shape, Refusal>> for JudgedReply {
+    ghost from_gives = { λ judged reply. reply ≡ judged_reply judged };
+
+    fn from(judged: Result<Shape, Refusal>) -> Self {
+        match judged {
+            Ok(shape) => JudgedReply {
+                no: 0,
+                place: 0,
+                label: 0,
+                length: shape.length,
+                lines: shape.lines,
+                settype: shape.settype,
+            },
+            Err(r) => JudgedReply {
+                no: r.no,
+                place: r.place,
+                label: r.label,
+                length: 0,
+                lines: 0,
+                settype: 0,
+            },
+        }
     }
 }
 
 // The numbers of what index, list, writer, correction or a call of a day file answers.
-pub fn made_reply(made: Made) -> MadeReply
-    ensures { result ≡ made_reply made }
-{
-    match made {
-        Made::Done(count) => MadeReply {
-            no: 0,
-            place: 0,
-            label: 0,
-            count,
-        },
-        Made::Refused(refusal) => MadeReply {
-            no: refusal.no,
-            place: refusal.place,
-            label: refusal.label,
-            count: 0,
-        },
+impl From<Result<usize, Refusal>> for MadeReply {
+    ghost from_gives = { λ made reply. reply ≡ made_reply made };
+
+    fn from(made: Result<usize, Refusal>) -> Self {
+        match made {
+            Ok(count) => MadeReply {
+                no: 0,
+                place: 0,
+                label: 0,
+                count,
+            },
+            Err(refusal) => MadeReply {
+                no: refusal.no,
+                place: refusal.place,
+                label: refusal.label,
+                count: 0,
+            },
+        }
+    }
+}
+
+// The numbers of what a view shows.
+impl From<Shown> for ViewedReply {
+    ghost from_gives = { λ shown reply. reply ≡ viewed_reply (Ok shown) };
+
+    fn from(shown: Shown) -> Self {
+        match shown {
+            Shown::Sheet(part) => ViewedReply {
+                no: 0,
+                place: 0,
+                label: 0,
+                flag: 1,
+                at: part.place,
+                length: part.length,
+            },
+            Shown::Set(part) => ViewedReply {
+                no: 0,
+                place: 0,
+                label: 0,
+                flag: 0,
+                at: part.place,
+                length: part.length,
+            },
+        }
     }
 }
 
 // The numbers of what a view answers.
-pub fn viewed_reply(viewed: Viewed) -> ViewedReply
-    ensures { result ≡ viewed_reply viewed }
-{
-    match viewed {
-        Viewed::Sheet(part) => ViewedReply {
-            no: 0,
-            place: 0,
-            label: 0,
-            flag: 1,
-            at: part.place,
-            length: part.length,
-        },
-        Viewed::Set(part) => ViewedReply {
-            no: 0,
-            place: 0,
-            label: 0,
-            flag: 0,
-            at: part.place,
-            length: part.length,
-        },
-        Viewed::Refused(r) => ViewedReply {
-            no: r.no,
-            place: r.place,
-            label: r.label,
-            flag: 0,
-            at: 0,
-            length: 0,
-        },
+impl From<Result<Shown, Refusal>> for ViewedReply {
+    ghost from_gives = { λ viewed reply. reply ≡ viewed_reply viewed };
+
+    fn from(viewed: Result<Shown, Refusal>) -> Self {
+        match viewed {
+            Ok(shown) => ViewedReply::from(shown),
+            Err(r) => ViewedReply {
+                no: r.no,
+                place: r.place,
+                label: r.label,
+                flag: 0,
+                at: 0,
+                length: 0,
+            },
+        }
     }
 }
 
-// "All lent buffers then keep every byte and entry": nothing is written.
-fn no_entries(refusal: Refusal) -> IndexPlan
-    ensures { result ≡ no_entries refusal }
-{
-    let reply = made_reply(Made::Refused(refusal));
-    IndexPlan { count: 0, reply }
-}
-
-// An entry for each line of an accepted set of this shape, if there is room.
-fn all_entries(shape: Shape, room: usize) -> IndexPlan
-    ensures { result ≡ all_entries shape room }
-{
-    if room < shape.lines {
-        return no_entries(Refusal::at(Refusal::NO_ROOM, shape.lines));
-    }
-    let reply = made_reply(Made::Done(shape.lines));
-    IndexPlan {
-        count: shape.lines,
-        reply,
-    }
-}
-
-// "Index and list refuse as the set does, then by 22."
-pub fn plan_index(judged: Judged, room: usize) -> IndexPlan
+// "Index and list refuse as the set does, then by 22": how many entries are written, one for each line of an accepted set, if there is room; of a refusal none.
+pub fn plan_index(judged: Result<Shape, Refusal>, room: usize) -> Result<usize, Refusal>
     ensures { result ≡ plan_index judged room }
 {
-    match judged {
-        Judged::Refused(r) => no_entries(r),
-        Judged::Accepted(shape) => all_entries(shape, room),
+    let shape = judged?;
+    if room < shape.lines {
+        return Err(Refusal::at(Refusal::NO_ROOM, shape.lines));
     }
+    Ok(shape.lines)
 }

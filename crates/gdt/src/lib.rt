@@ -1,5 +1,5 @@
 // The C face of every call but the writer's: each exported function is thin, has no `requires`, and answers one record of numbers by value. include/gdt.h declares them for C.
-// Assumes nothing of the bytes. The contracts cite the replies of crate `face_replies`, which give the numbers of each answer; specs/Filling has how the index is written.
+// Assumes nothing of the bytes. The contracts cite the replies of crate `face_replies`, which give the numbers of each answer.
 #![tactic(auto)]
 
 ghost use Rattle.std.specs.Prelude.{◌≡◌, length};
@@ -9,45 +9,44 @@ ghost use Rattle.meaning.specs.Answers.{index_call, list_call, correct_call};
 ghost use Rattle.face_replies.specs.Replies.{judged_reply, made_reply, viewed_reply, copied};
 ghost use Rattle.face_replies.specs.IndexPlans.{plan_index};
 
-use face_replies::{IndexPlan, JudgedReply, MadeReply, ViewedReply};
-use meaning::Entry;
+use face_replies::{JudgedReply, MadeReply, ViewedReply};
+use meaning::{Entry, Refusal};
 
 #[unsafe(no_mangle)]
 pub extern "C" fn gdt_judge(set: &[u8]) -> JudgedReply
     ensures { result ≡ judged_reply (Reading.judge set.now) }
 {
-    face_replies::judged_reply(judge::judge(set))
+    judge::judge(set).into()
 }
 
 // What the index of this set comes to, judged and held against the room for its entries.
-fn plan_of(set: &[u8], room: usize) -> IndexPlan
+fn plan_of(set: &[u8], room: usize) -> Result<usize, Refusal>
     ensures { result ≡ plan_index (Reading.judge set.now) room }
 {
     face_replies::plan_index(judge::judge(set), room)
 }
 
-// Every refusal is in the plan, so that this function has no branch: a reference to a slice of records is proved by hand (proofs/gdt_index).
 #[unsafe(no_mangle)]
 pub extern "C" fn gdt_index(set: &[u8], out: &mut [Entry]) -> MadeReply
     ensures { (result ≡ made_reply (index_call set.now out.old).answer) × (out.new ≡ (index_call set.now out.old).buffer) }
 {
     let plan = plan_of(set, out.len());
-    let mut walk = index_walk::start();
-    let mut i = 0;
-    while i < plan.count {
-        let next = index_walk::next_entry(set, walk);
-        out[i] = next.entry;
-        walk = next.walk;
-        i += 1;
+    if let Ok(count) = plan {
+        let mut walk = index_walk::start();
+        for entry in &mut out[..count] {
+            let next = index_walk::next_entry(set, walk);
+            *entry = next.entry;
+            walk = next.walk;
+        }
     }
-    plan.reply
+    plan.into()
 }
 
 #[unsafe(no_mangle)]
 pub extern "C" fn gdt_list(set: &[u8], out: &mut [u8]) -> MadeReply
     ensures { (result ≡ made_reply (list_call set.now out.old).answer) × (out.new ≡ (list_call set.now out.old).buffer) }
 {
-    face_replies::made_reply(list::list(set, out))
+    list::list(set, out).into()
 }
 
 #[unsafe(no_mangle)]
@@ -59,14 +58,14 @@ pub extern "C" fn gdt_correct(
 ) -> MadeReply
     ensures { (result ≡ made_reply (correct_call buffer.old used line content.now).answer) × (buffer.new ≡ (correct_call buffer.old used line content.now).buffer) }
 {
-    face_replies::made_reply(correct::correct(buffer, used, line, content))
+    correct::correct(buffer, used, line, content).into()
 }
 
 #[unsafe(no_mangle)]
 pub extern "C" fn gdt_view(set: &[u8], sheet: &[u8], line: usize) -> ViewedReply
     ensures { result ≡ viewed_reply (Views.viewed set.now sheet.now line) }
 {
-    face_replies::viewed_reply(view::viewed(set, sheet, line))
+    view::viewed(set, sheet, line).into()
 }
 
 // The content that a view shows, if there is room for all of it: a cut content is never shown. The answer is the room that it needs.

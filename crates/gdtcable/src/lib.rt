@@ -2,16 +2,15 @@
 // Assumes nothing of the bytes, the numbers and the records. The contracts cite specs/CableReplies, which gives the numbers of each answer. include/gdt.h declares the calls.
 #![tactic(auto)]
 
-ghost use Rattle.std.specs.Prelude.{◌≡◌};
-ghost use Rattle.meaning_cable.specs.declared.Sent.TheVariants.{Next};
+ghost use Rattle.std.specs.Prelude.{◌≡◌, Err, Ok};
 ghost use Rattle.meaning_cable.specs.Receiving.{receive};
-ghost use Rattle.meaning_cable.specs.CableCalls.{send_call, block_call, received_call};
+ghost use Rattle.meaning_cable.specs.CableCalls.{send_call, block_call, outcome_number, received_call};
 ghost use Rattle.face_replies.specs.Replies.{made_reply};
 ghost use Rattle.gdtcable.specs.CableReplies.{begins, sent_reply, turn_after, send_turn, received_reply};
 
 use face_replies::MadeReply;
-use meaning::{Made, Refusal};
-use meaning_cable::{Action, BLOCK, Link, Received, Receiver, Sent};
+use meaning::Refusal;
+use meaning_cable::{Action, BLOCK, BlockOutcome, Link, Receiver, Taken};
 
 // What the sender answers: number 0 and what it has to do next, or the refusal.
 #[repr(C)]
@@ -48,24 +47,30 @@ pub struct SentTurn {
 
 // The sender goes on or ends: the record that it has then, and what has to be done next.
 fn next_turn(link: Link, action: Action) -> SentTurn
-    ensures { result ≡ turn_after link (Next (record { link = link; action = action })) }
+    ensures { result ≡ turn_after link (Ok (record { link = link; action = action })) }
 {
+    let (what, block, count) = match action {
+        Action::Nothing => (Link::IDLE, 0, 0),
+        Action::Send { block, count } => (Link::UNDER_WAY, block, count),
+        Action::Delivered => (Link::DELIVERED, 0, 0),
+        Action::GivenUp => (Link::GIVEN_UP, 0, 0),
+    };
     SentTurn {
         link,
         reply: SentReply {
             no: 0,
             place: 0,
             label: 0,
-            what: action.what,
-            block: action.block,
-            count: action.count,
+            what,
+            block,
+            count,
         },
     }
 }
 
 // A set that is refused leaves the record as it was.
 fn refused_turn(link: Link, refusal: Refusal) -> SentTurn
-    ensures { result ≡ turn_after link (Sent.Refused refusal) }
+    ensures { result ≡ turn_after link (Err refusal) }
 {
     SentTurn {
         link,
@@ -85,8 +90,8 @@ fn send_turn(link: Link, begin: usize, bytes: &[u8]) -> SentTurn
     ensures { result ≡ send_turn link begin bytes.now }
 {
     match cable_send::send(link, begin != 0, bytes) {
-        Sent::Next(turned) => next_turn(turned.link, turned.action),
-        Sent::Refused(refusal) => refused_turn(link, refusal),
+        Ok(turned) => next_turn(turned.link, turned.action),
+        Err(refusal) => refused_turn(link, refusal),
     }
 }
 
@@ -111,29 +116,40 @@ pub extern "C" fn gdt_block(
 ) -> MadeReply
     ensures { (result ≡ made_reply (block_call set.now block count out.old).answer) × (out.new ≡ (block_call set.now block count out.old).buffer) }
 {
-    let made: Made = cable_block::block(set, block, count, out);
-    face_replies::made_reply(made)
+    let made: Result<usize, Refusal> = cable_block::block(set, block, count, out);
+    made.into()
 }
 
 // ---- the receiver
 
+// The number of what became of a block.
+fn outcome_number(outcome: BlockOutcome) -> usize
+    ensures { result ≡ outcome_number outcome }
+{
+    match outcome {
+        BlockOutcome::Taken => 1,
+        BlockOutcome::Again => 2,
+        BlockOutcome::Whole => 3,
+    }
+}
+
 // The numbers of what the receiver answers. "Refusals, answered ACK 0"; all else ACK 1.
-fn received_reply(receiver: Receiver, received: Received) -> ReceivedReply
+fn received_reply(receiver: Receiver, received: Result<Taken, Refusal>) -> ReceivedReply
     ensures { result ≡ received_reply receiver received }
 {
     match received {
-        Received::Done(taken) => {
+        Ok(taken) => {
             let after = taken.receiver;
             ReceivedReply {
                 no: 0,
                 place: 0,
                 label: 0,
-                what: taken.what,
+                what: outcome_number(taken.what),
                 receiver: after,
                 ack: 1,
             }
         }
-        Received::Refused(refusal) => ReceivedReply {
+        Err(refusal) => ReceivedReply {
             no: refusal.no,
             place: refusal.place,
             label: refusal.label,
@@ -153,6 +169,6 @@ pub extern "C" fn gdt_receive_2(
 ) -> ReceivedReply
     ensures { (result ≡ received_reply receiver (received_call (receive receiver buffer.old block.now))) × (buffer.new ≡ (receive receiver buffer.old block.now).buffer) }
 {
-    let received: Received = cable_receive::receive(receiver, buffer, block);
+    let received: Result<Taken, Refusal> = cable_receive::receive(receiver, buffer, block);
     received_reply(receiver, received)
 }

@@ -7,14 +7,12 @@ ghost use Rattle.meaning_day.specs.DayCalls.{build_call, append_call, lookup_cal
 ghost use Rattle.face_replies.specs.Replies.{made_reply};
 
 use face_replies::MadeReply;
-use meaning::Made;
 
 #[unsafe(no_mangle)]
 pub extern "C" fn gdt_day_build(file: &[u8], index: &mut [usize]) -> MadeReply
     ensures { (result ≡ made_reply (build_call file.now index.old).answer) × (index.new ≡ (build_call file.now index.old).buffer) }
 {
-    let made: Made = day_index::build(file, index);
-    face_replies::made_reply(made)
+    day_index::build(file, index).into()
 }
 
 #[unsafe(no_mangle)]
@@ -26,8 +24,7 @@ pub extern "C" fn gdt_day_append(
 ) -> MadeReply
     ensures { (result ≡ made_reply (append_call file.now old index.old count).answer) × (index.new ≡ (append_call file.now old index.old count).buffer) }
 {
-    let made: Made = day_index::append(file, old, index, count);
-    face_replies::made_reply(made)
+    day_index::append(file, old, index, count).into()
 }
 
 #[unsafe(no_mangle)]
@@ -39,6 +36,5 @@ pub extern "C" fn gdt_day_find(
 ) -> MadeReply
     ensures { (result ≡ made_reply (lookup_call file.now index.now asked.now out.old).answer) × (out.new ≡ (lookup_call file.now index.now asked.now out.old).buffer) }
 {
-    let made: Made = day_lookup::lookup(file, index, asked, out);
-    face_replies::made_reply(made)
+    day_lookup::lookup(file, index, asked, out).into()
 }

@@ -7,21 +7,18 @@ ghost use Rattle.meaning_recode.specs.RecodeCalls.{recode_call};
 ghost use Rattle.face_replies.specs.Replies.{made_reply};
 
 use face_replies::MadeReply;
-use meaning::Made;
 use meaning_recode::Code;
 
 #[unsafe(no_mangle)]
 pub extern "C" fn gdt_to_437(buffer: &mut [u8], used: usize) -> MadeReply
     ensures { (result ≡ made_reply (recode_call buffer.old used Code.Page437).answer) × (buffer.new ≡ (recode_call buffer.old used Code.Page437).buffer) }
 {
-    let made: Made = recode::recode(buffer, used, Code::Page437);
-    face_replies::made_reply(made)
+    recode::recode(buffer, used, Code::Page437).into()
 }
 
 #[unsafe(no_mangle)]
 pub extern "C" fn gdt_to_1252(buffer: &mut [u8], used: usize) -> MadeReply
     ensures { (result ≡ made_reply (recode_call buffer.old used Code.Page1252).answer) × (buffer.new ≡ (recode_call buffer.old used Code.Page1252).buffer) }
 {
-    let made: Made = recode::recode(buffer, used, Code::Page1252);
-    face_replies::made_reply(made)
+    recode::recode(buffer, used, Code::Page1252).into()
 }

@@ -12,5 +12,5 @@ use face_replies::MadeReply;
 pub extern "C" fn gdt_write(list: &[u8], out: &mut [u8]) -> MadeReply
     ensures { (result ≡ made_reply (write_call list.now out.old).answer) × (out.new ≡ (write_call list.now out.old).buffer) }
 {
-    face_replies::made_reply(write::write(list, out))
+    write::write(list, out).into()
 }

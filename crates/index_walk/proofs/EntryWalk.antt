@@ -7,8 +7,6 @@ use native.Mathlib.Omega.{arith}
 use lib.ListN.{length, drop}
 use borrow.Author.Tests.{le-leb, lt-leb}
 use Rattle.meaning.specs.declared.Entry.{Entry}
-use Rattle.meaning.specs.declared.Known.{Known}
-use Rattle.meaning.specs.declared.Known.TheVariants.{Of, Nothing}
 use Rattle.meaning.specs.declared.SetType.{SetType}
 use Rattle.meaning.specs.Limits.{max_lines}
 use Rattle.meaning.specs.Field.{Field}
@@ -31,6 +29,8 @@ use Rattle.index_walk.specs.declared.Walk.{Walk}
 use Rattle.index_walk.specs.declared.NextEntry.{NextEntry}
 use Rattle.index_walk.specs.Walking.{walk_start, counted, header_of, last_after, no_entry, next_entry, walked_entries}
 use Rattle.index_walk.proofs.HeaderLaws.{placed, follow}
+use Rattle.meaning.specs.Results.{Known}
+use Rattle.std.specs.Prelude.{None, Some}
 
 -- ---- the count of lines
 
@@ -84,7 +84,7 @@ step_is s f u at k last h w c =
 module _ (s : List ℕ) (settype : SetType) where
   -- the profile of a set of this type
   abbrev profile_of : Profile
-  profile_of = record { set_type = Of settype }
+  profile_of = record { set_type = Some settype }
 
   abbrev Kept : State → ℕ → Type 0
   Kept = (follow settype).Kept
@@ -108,9 +108,9 @@ module _ (s : List ℕ) (settype : SetType) where
 
 -- ---- an accepted set
 
-known_of : (k : Known) → is_known k ≡ true → (t : SetType) × (k ≡ Of t)
-known_of (Of t) e = (t, refl)
-known_of Nothing e = absurd (true≢false (sym e))
+known_of : (k : Known) → is_known k ≡ true → (t : SetType) × (k ≡ Some t)
+known_of (Some t) e = (t, refl)
+known_of None e = absurd (true≢false (sym e))
 
 -- The walk over an accepted set gives its index, entry after entry.
 pub entries-are : (s : List ℕ) (d : Parsed) → read s ≡ done d → walked_entries s walk_start (length d.fields) ≡ index_of d.fields

@@ -121,10 +121,7 @@ pub fn next_entry(set: &[u8], walk: Walk) -> NextEntry
     ensures { result ≡ next_entry set.now walk }
 {
     let at = walk.at;
-    if set.len() < meaning::LINE_LEAD {
-        return no_entry();
-    }
-    if set.len() - meaning::LINE_LEAD < at {
+    if !line_read::has_lead(set, at) {
         return no_entry();
     }
     let length = line_read::told_length(set, at);

@@ -9,9 +9,6 @@ use lib.Dec.{eqb}
 use lib.ListN.{length, drop, take, length-take}
 use borrow.Author.Tests.{ne_eqb, eqb-true, le-leb}
 use Rattle.meaning.specs.declared.Refusal.{Refusal}
-use Rattle.meaning.specs.declared.Judged.{Judged}
-use Rattle.meaning.specs.declared.Known.{Known}
-use Rattle.meaning.specs.declared.Known.TheVariants.{Of, Nothing}
 use Rattle.meaning.specs.declared.SetType.{SetType}
 use Rattle.meaning.specs.Limits.{max_lines}
 use Rattle.meaning.specs.Digits.{number, all_digits}
@@ -29,7 +26,6 @@ use Rattle.meaning.proofs.FaultLaws.{append-none}
 use Rattle.meaning.proofs.LineLaws.{Sound}
 use Rattle.meaning.proofs.FieldLaws.{sum_fits}
 use Rattle.meaning.proofs.SetLaws.{scanned, second_fits, later-sound}
-use Rattle.line_read.specs.declared.Number.TheVariants.{Is}
 use Rattle.line_read.specs.Number.{number_at}
 use Rattle.line_read.proofs.LineMeaning.{as_number, number_is, read-line, reads-content, reads_on}
 use Rattle.line_scan.proofs.ScanMeaning.{scan_summary, scan-is}
@@ -38,6 +34,8 @@ use Rattle.meaning.proofs.RealLaws.{start_faults_by, real-starts, faults_then_hi
 use Rattle.judge_start.specs.Sum.{sum_walk}
 use Rattle.judge_lines.proofs.PassLaws.{pass-found}
 use Rattle.judge.specs.Walks.{second_by, second_walk, as_judged, typed_by, first_by, lines_walk, judged_scan, judge_walk}
+use Rattle.meaning.specs.Results.{Known}
+use Rattle.std.specs.Prelude.{Err, None, Some}
 
 -- ---- all rules, as found
 
@@ -59,14 +57,14 @@ module _ (fs : List Field) (a b c : Bool) (e : start_faults fs ≡ start_faults_
       ∙ sym (or_assoc (first_of (in_set fs) (start_faults_by a b c)) (first_of (in_set fs) m) (first_of (in_set fs) (sum_faults fs)))))
 
 -- the answer, from the first fault; `settype` is the type that line 1 names
-verdict-is : (pl : ℕ → Spot → ℕ) (xs : List Fault) (d : Parsed) (settype : SetType) → (profile d.fields).set_type ≡ Of settype → Real xs
+verdict-is : (pl : ℕ → Spot → ℕ) (xs : List Fault) (d : Parsed) (settype : SetType) → (profile d.fields).set_type ≡ Some settype → Real xs
     → judged (verdict pl xs d) ≡ as_judged (first_of pl xs) settype (size d.fields) (length d.fields)
 unfolding as_judged
 verdict-is pl [] d settype e h = rw e
 verdict-is pl (x ∷ xs) d settype e h = sym (rw (ne_eqb x.no 0 h))
 
 -- a first fault that is one is the answer
-verdict-bad : (pl : ℕ → Spot → ℕ) (xs : List Fault) (d : Parsed) → ((first_of pl xs).no ≡ 0 → ⊥) → judged (verdict pl xs d) ≡ Judged.Refused (first_of pl xs)
+verdict-bad : (pl : ℕ → Spot → ℕ) (xs : List Fault) (d : Parsed) → ((first_of pl xs).no ≡ 0 → ⊥) → judged (verdict pl xs d) ≡ Err (first_of pl xs)
 verdict-bad pl [] d h = absurd (h refl)
 verdict-bad pl (x ∷ xs) d h = refl
 
@@ -80,7 +78,7 @@ sum_is s at total g u pl p h w e q =
     let n5 : line_size g - 9 ≡ 5 = omega (arith, d.five) in
     let c : take 5 (drop (at + 7) s) ≡ g.content = ap (λ (m : ℕ). take m (drop (at + 7) s)) (sym n5) ∙ reads-content s at g u h w in
     let l : 5 ≤ length (drop (at + 7) s) = omega (arith, d.five, ap length c, length-take 5 (drop (at + 7) s)) in
-    let num : number_at s (at + line_lead) sum_digits ≡ Is (number g.content) =
+    let num : number_at s (at + line_lead) sum_digits ≡ Some (number g.content) =
     number_is s (at + 7) 5 (omega arith) (omega arith)
     ∙ (ap (λ (x : Bool). as_number (x && all_digits (take 5 (drop (at + 7) s))) (number (take 5 (drop (at + 7) s)))) (le-leb 5 (length (drop (at + 7) s)) l)
     ∙ (ap (λ (x : List ℕ). as_number (all_digits x) (number x)) c ∙ ap (λ (x : Bool). as_number x (number g.content)) d.all-digits)) in
@@ -128,16 +126,16 @@ place-one f fs = omega arith
 -- what the walk makes of the tests on lines 1 and 2: a says that line 1 is 8000, k which type it names, c that line 2 is 8100; P and Q are found after them
 module _ (all : List Field) (d : Parsed) (same : d.fields ≡ all) (xs : List Fault) (real : Real xs) (at : ℕ) (place : at ≡ in_set all 1 start) (P Q : Refusal) where
   -- a refusal that is found is the answer
-  bad : (r : Refusal) → (r.no ≡ 0 → ⊥) → first_of (in_set all) xs ≡ r → judged (verdict (in_set all) xs d) ≡ Judged.Refused r
-  bad r n w = verdict-bad (in_set all) xs d (λ z. n (ap (λ (y : Refusal). y.no) (sym w) ∙ z)) ∙ ap Judged.Refused w
+  bad : (r : Refusal) → (r.no ≡ 0 → ⊥) → first_of (in_set all) xs ≡ r → judged (verdict (in_set all) xs d) ≡ Err r
+  bad r n w = verdict-bad (in_set all) xs d (λ z. n (ap (λ (y : Refusal). y.no) (sym w) ∙ z)) ∙ ap Err w
 
   by_tests : (s : List ℕ) (a : Bool) (k : Known) (c : Bool) → (profile d.fields).set_type ≡ k
-      → ((settype : SetType) → k ≡ Of settype → second_walk s settype at (size all) (length all) ≡ cond c (or_else P Q) (refusal no_sum at 0))
+      → ((settype : SetType) → k ≡ Some settype → second_walk s settype at (size all) (length all) ≡ cond c (or_else P Q) (refusal no_sum at 0))
       → first_of (in_set all) xs ≡ or_else (first_of (in_set all) (start_faults_by a (is_known k) c)) (or_else P Q)
-      → cond a (typed_by s k at (size all) (length all)) (Judged.Refused (refusal no_start 0 0)) ≡ judged (verdict (in_set all) xs d)
+      → cond a (typed_by s k at (size all) (length all)) (Err (refusal no_start 0 0)) ≡ judged (verdict (in_set all) xs d)
   by_tests s false k c e x q = sym (bad (refusal no_start 0 0) (λ z. omega arith) (q ∙ or-bad (refusal no_start 0 0) (or_else P Q) (λ z. omega arith)))
-  by_tests s true Nothing c e x q = sym (bad (refusal unknown_set 0 0) (λ z. omega arith) (q ∙ or-bad (refusal unknown_set 0 0) (or_else P Q) (λ z. omega arith)))
-  by_tests s true (Of settype) c e x q =
+  by_tests s true None c e x q = sym (bad (refusal unknown_set 0 0) (λ z. omega arith) (q ∙ or-bad (refusal unknown_set 0 0) (or_else P Q) (λ z. omega arith)))
+  by_tests s true (Some settype) c e x q =
       ap (λ (r : Refusal). as_judged r settype (size all) (length all)) (x settype refl ∙ (second_so c ∙ sym q))
       ∙ (ap (λ (fs : List Field). as_judged (first_of (in_set all) xs) settype (size fs) (length fs)) (sym same)
       ∙ sym (verdict-is (in_set all) xs d settype e real))
@@ -148,7 +146,7 @@ module _ (all : List Field) (d : Parsed) (same : d.fields ≡ all) (xs : List Fa
 
 -- line 1 as the walk reads it
 first-is : (s : List ℕ) (f : Field) (fs : List Field) (t : List ℕ) (total lines : ℕ) → Sound f → s ≡ render (f ∷ fs) t
-    → lines_walk s total lines ≡ cond (eqb f.label 8000) (typed_by s (type_named f.content) (line_size f) total lines) (Judged.Refused (refusal no_start 0 0))
+    → lines_walk s total lines ≡ cond (eqb f.label 8000) (typed_by s (type_named f.content) (line_size f) total lines) (Err (refusal no_start 0 0))
 unfolding lines_walk first_by
 first-is s f fs t total lines h w = rw (read-line s 0 f (render fs t) w h, reads-content s 0 f (render fs t) h w)
 

@@ -2,25 +2,20 @@
 // `judge` has no `requires`. `ruled` is its part; each contract cites a walk of specs/, and proofs/JudgeLaws says what the walks mean.
 #![tactic(auto)]
 
-ghost use Rattle.std.specs.Prelude.{◌≡◌};
-ghost use Rattle.meaning.specs.declared.Judged.{Judged};
+ghost use Rattle.std.specs.Prelude.{◌≡◌, Err};
 ghost use Rattle.meaning.specs.Refusals.{refusal, bad_content};
 ghost use Rattle.meaning.specs.Reading as Reading;
-ghost use Rattle.line_read.specs.declared.Line.TheVariants.{Read};
-ghost use Rattle.line_read.specs.Line.{line_at};
-ghost use Rattle.line_scan.specs.declared.Scan.TheVariants.{Done};
-ghost use Rattle.line_scan.specs.Scan.{scan_set};
+ghost use Rattle.line_read.specs.Line.{line_at, a_line};
+ghost use Rattle.line_scan.specs.Scan.{scan_set, scanned};
 ghost use Rattle.judge.specs.Walks.{first_by};
 
-use line_read::{Line, Number};
-use line_scan::Scan;
-use meaning::{Judged, Known, Refusal, Shape};
+use meaning::{Refusal, Shape};
 
 // 14, BadContent, of line 2, which stands at an offset.
-fn unsummed(at: usize) -> Judged
-    ensures { result ≡ Judged.Refused (refusal bad_content at 8100) }
+fn unsummed(at: usize) -> Result<Shape, Refusal>
+    ensures { result ≡ Err (refusal bad_content at 8100) }
 {
-    Judged::Refused(Refusal {
+    Err(Refusal {
         no: Refusal::BAD_CONTENT,
         place: at,
         label: meaning::LABEL_8100,
@@ -29,38 +24,37 @@ fn unsummed(at: usize) -> Judged
 
 // 8 to 17 and 24 of a set of this many bytes and lines, all of which were read: line 1 has this label and ends at `at`. Line 2 is the first line that 14 may refuse, so its sum is read before
 // the others are judged. All these tests stand in one function with the call of the pass: so the compiler keeps the pass, a large loop, a function of its own.
-fn ruled(s: &[u8], label: usize, at: usize, length: usize, lines: usize) -> Judged
-    requires { (line_at s.now 0 ≡ Read label at) × (scan_set s.now ≡ Done length lines) }
+fn ruled(s: &[u8], label: usize, at: usize, length: usize, lines: usize) -> Result<Shape, Refusal>
+    requires { (line_at s.now 0 ≡ a_line label at) × (scan_set s.now ≡ scanned length lines) }
     ensures { result ≡ first_by s.now label at length lines }
 {
     if label != meaning::LABEL_8000 {
-        return Judged::Refused(Refusal::at(Refusal::NO_START, 0));
+        return Err(Refusal::at(Refusal::NO_START, 0));
     }
     let end = at - meaning::LINE_END;
     let known = judge_start::type_of(&s[meaning::LINE_LEAD..end]);
-    let Known::Of(settype) = known else {
-        return Judged::Refused(Refusal::at(Refusal::UNKNOWN_SET, 0));
+    let Some(settype) = known else {
+        return Err(Refusal::at(Refusal::UNKNOWN_SET, 0));
     };
     let no_sum = Refusal::at(Refusal::NO_SUM, at);
     if lines < judge_lines::FIXED_LINES {
-        return Judged::Refused(no_sum);
+        return Err(no_sum);
     }
     if line_read::label_at(s, at) != meaning::LABEL_8100 {
-        return Judged::Refused(no_sum);
+        return Err(no_sum);
     }
     let size = line_read::size_at(s, at);
     let written = judge_start::sum_of(s, at, size);
-    let Number::Is(sum) = written else {
+    let Some(sum) = written else {
         return unsummed(at);
     };
-    let r = judge_lines::pass(s, settype, at, lines);
-    if r.no != 0 {
-        return Judged::Refused(r);
+    if let Err(r) = judge_lines::pass(s, settype, at, lines) {
+        return Err(r);
     }
     if sum != length {
-        return Judged::Refused(Refusal::at(Refusal::BAD_SUM, at));
+        return Err(Refusal::at(Refusal::BAD_SUM, at));
     }
-    Judged::Accepted(Shape {
+    Ok(Shape {
         length,
         lines,
         settype: settype.number(),
@@ -68,17 +62,13 @@ fn ruled(s: &[u8], label: usize, at: usize, length: usize, lines: usize) -> Judg
 }
 
 // The set at the front of some bytes: accepted with its length, its lines and its type, or its first refusal in the paper's order.
-pub fn judge(set: &[u8]) -> Judged
+pub fn judge(set: &[u8]) -> Result<Shape, Refusal>
     ensures { result ≡ Reading.judge set.now }
 {
     if set.len() == 0 {
-        return Judged::Refused(Refusal::at(Refusal::EMPTY, 0));
+        return Err(Refusal::at(Refusal::EMPTY, 0));
     }
-    match line_read::line_at(set, 0) {
-        Line::Refused(r) => Judged::Refused(r),
-        Line::Read { label, size } => match line_scan::scan_from(set, size, 1) {
-            Scan::Refused(r) => Judged::Refused(r),
-            Scan::Done { length, lines } => ruled(set, label, size, length, lines),
-        },
-    }
+    let first = line_read::line_at(set, 0)?;
+    let scan = line_scan::scan_from(set, first.size, 1)?;
+    ruled(set, first.label, first.size, scan.length, scan.lines)
 }

@@ -10,7 +10,6 @@ use lib.ListN.{get_or, set}
 use borrow.Author.Tests.{eqb-true, eqb-false, ne_eqb}
 use Rattle.meaning.specs.declared.Refusal.{Refusal}
 use Rattle.meaning.specs.declared.Row.{Row}
-use Rattle.meaning.specs.declared.Known.TheVariants.{Of}
 use Rattle.meaning.specs.declared.SetType.{SetType}
 use Rattle.meaning.specs.Field.{Field, labels, elem}
 use Rattle.meaning.specs.Refusals.{Spot, start, Fault, at_line, ask, refusal, not_in_set, stray, repeated, bad_content, other_version}
@@ -33,6 +32,7 @@ use Rattle.meaning.proofs.SevenLaws.{seen-9206}
 use Rattle.judge_missing.proofs.FlagLaws.{Flags, flags-mark, flags-none, Agrees}
 use Rattle.judge_missing.proofs.LackMeaning.{set-lack, open_is}
 use Rattle.judge_line.specs.Steps.{row_of, repeated_no, place_no, label_no, version_no, content_no, line_no, next_flagged, stays_in, lack_then}
+use Rattle.std.specs.Prelude.{Some}
 
 -- a number as a refusal of the line at `at` with label l; 0 is none
 abbrev numbered : ℕ → ℕ → ℕ → Refusal
@@ -198,7 +198,7 @@ module _ (pl : ℕ → Spot → ℕ) (st : Flagged) (ms : G.State) (s : Agrees p
 -- the rules over some lines, with places found by `pl`; `high` is what 24 finds in the set, asked after 16 if 9206 was seen at set level
 module _ (settype : SetType) (pl : ℕ → Spot → ℕ) (high : Refusal) where
   abbrev pub profile_of : Profile
-  profile_of = record { set_type = Of settype }
+  profile_of = record { set_type = Some settype }
 
   -- 11 to 15 of the lines fs, then 16: set level, then groups and pairs
   abbrev lacks_found : G.State → ℕ → List Field → Refusal → Refusal

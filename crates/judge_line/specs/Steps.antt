@@ -1,5 +1,6 @@
 -- One line's step as the code walks it, with the rows that were seen as flags. proofs/StepMeaning ties it to the rules of `meaning`.
-use Rattle.std.specs.Prelude.{Bool, true, false, cond, not, ◌≡◌, List, ℕ, ◌-◌, get_or, set, take, drop, eqb}
+use Rattle.std.specs.Prelude.{Bool, true, false, cond, not, ◌≡◌, List, ℕ, zero, suc, ◌-◌, get_or, set, take, drop, eqb, Ok, Err, Result}
+use Rattle.meaning.specs.declared.Kind.{Kind}
 use Rattle.meaning.specs.declared.Refusal.{Refusal}
 use Rattle.meaning.specs.declared.Row.{Row}
 use Rattle.meaning.specs.declared.SetType.{SetType}
@@ -8,17 +9,20 @@ use Rattle.meaning.specs.Kinds.{is0210, of_kind}
 use Rattle.meaning.specs.FieldTable.{fits_label}
 use Rattle.meaning.specs.Tables.{table, row_label, is_pair_label, set_level}
 use Rattle.meaning.specs.Groups.{belongs, no_header, names_row}
-use Rattle.table_fields.specs.FieldCodes.{kind_of}
 use Rattle.table_find.specs.LookUp.{Found, At, NoRow, find_from}
-use Rattle.judge_missing.specs.declared.Group.{Group}
-use Rattle.judge_missing.specs.Lacks.{Flagged, no_flags, first_lack, flagged_of}
-use Rattle.judge_line.specs.declared.Step.{Step}
+use Rattle.judge_missing.specs.declared.State.{State}
+use Rattle.judge_missing.specs.Lacks.{Flagged, no_flags, first_lack, flagged_of, told}
 
 -- the row of a label, with its number
 abbrev pub row_of : SetType → ℕ → Found
 row_of settype l = find_from (table settype) (row_label l)
 
 -- ---- 11 to 15 of one line, 0 if none of them is given
+
+-- how the code answers such a number
+abbrev pub refused_by : ℕ → Result Unit ℕ
+refused_by zero = Ok tt
+refused_by (suc n) = Err (suc n)
 
 unfoldable pub repeated_no : Bool → Bool → ℕ
 repeated_no many seen = cond many 0 (cond seen repeated 0)
@@ -39,9 +43,9 @@ between s from end = take (end - from) (drop from s)
 unfoldable pub version_no : ℕ → List ℕ → ℕ
 version_no l c = cond (eqb l 9218) (cond (is0210 c) 0 other_version) 0
 
--- of a content whose length fits, by the number of the kind that is asked
-unfoldable pub fit_no : ℕ → ℕ → List ℕ → ℕ
-fit_no kind l c = cond (of_kind (kind_of kind) c) (version_no l c) bad_content
+-- of a content whose length fits, by the kind that is asked
+unfoldable pub fit_no : Kind → ℕ → List ℕ → ℕ
+fit_no kind l c = cond (of_kind kind c) (version_no l c) bad_content
 
 unfoldable pub content_no : ℕ → List ℕ → ℕ
 content_no l c = cond (fits_label l c) (version_no l c) bad_content
@@ -65,15 +69,19 @@ stays_in (At i r) = not (eqb r.under set_level)
 abbrev pub lack_then : Bool → SetType → Flagged → Refusal → Refusal
 lack_then stays settype st lack = cond stays lack (first_lack settype st.header st.place st.members lack)
 
--- what is open after a set-level line, and after a member whose row stands under a label, as the code holds it
-abbrev pub opened_group : SetType → ℕ → ℕ → Group → List Bool → Group
-opened_group settype at l g members = record { header = l; place = at; lack = first_lack settype g.header g.place members g.lack }
+-- what is open and seen after a set-level line, and after a member whose row stands under a label, as the code holds it
+abbrev pub IsOpened : SetType → ℕ → ℕ → ℕ → State → State → Type 0
+IsOpened settype at l i x y =
+    (flagged_of y ≡ record { header = l; place = at; members = no_flags; top = set x.top i true })
+    × (told y.lack ≡ first_lack settype x.header x.place x.members (told x.lack))
 
-abbrev pub joined_group : ℕ → Group → Group
-joined_group under g = record { header = cond (eqb under names_row) no_header g.header; place = g.place; lack = g.lack }
+abbrev pub IsJoined : ℕ → ℕ → State → State → Type 0
+IsJoined under i x y =
+    (flagged_of y ≡ record { header = cond (eqb under names_row) no_header x.header; place = x.place; members = set x.members i true; top = x.top })
+    × (y.lack ≡ x.lack)
 
--- what a line's step and the flags after it say: its number, and if that is 0 what is open and seen next and the first group's lack
-pub record Stepped (o : Found) (settype : SetType) (st : Flagged) (lack : Refusal) (at l : ℕ) (c : List ℕ) (r : Step) (members top : List Bool) : Type 0 where
-  pub number : r.no ≡ line_no o st l c
-  pub flagged-so : r.no ≡ 0 → flagged_of r.group members top ≡ next_flagged o st at l
-  pub lack-so : r.no ≡ 0 → r.group.lack ≡ lack_then (stays_in o) settype st lack
+-- what a line's step and the state after it say: the number that refuses it, and if there is none what is open and seen next and the first group's lack
+pub record Stepped (o : Found) (settype : SetType) (x : State) (at l : ℕ) (c : List ℕ) (r : Result Unit ℕ) (y : State) : Type 0 where
+  pub number : r ≡ refused_by (line_no o (flagged_of x) l c)
+  pub flagged-so : r ≡ Ok tt → flagged_of y ≡ next_flagged o (flagged_of x) at l
+  pub lack-so : r ≡ Ok tt → told y.lack ≡ lack_then (stays_in o) settype (flagged_of x) (told x.lack)

@@ -7,33 +7,24 @@ ghost use Rattle.std.specs.Prelude.{◌≡◌, true, cond, ◌≤◌, ◌<◌, e
 ghost use Rattle.meaning.specs.declared.Row.{Row};
 ghost use Rattle.meaning.specs.FieldTable.{field_row};
 ghost use Rattle.meaning.specs.Groups.{belongs, names_row};
-ghost use Rattle.table_fields.specs.FieldCodes.{field_code};
-ghost use Rattle.judge_missing.specs.Lacks.{row_count, no_flags, flagged_of};
-ghost use Rattle.judge_line.specs.Steps.{row_of, repeated_no, place_no, version_no, fit_no, content_no, between, opened_group, joined_group, Stepped};
+ghost use Rattle.judge_missing.specs.Lacks.{row_count, flagged_of};
+ghost use Rattle.judge_line.specs.Steps.{row_of, refused_by, repeated_no, place_no, version_no, fit_no, content_no, between, IsOpened, IsJoined, Stepped};
 
-use judge_missing::{Group, ROWS};
-use meaning::{Refusal, SetType};
+use judge_missing::State;
+use meaning::{FieldRow, Kind, Refusal, SetType};
+use table_find::TableRow;
 
-// A line's refusal by its number (0: none), and what is open after it.
-#[derive(Drop)]
-pub struct Step {
-    pub no: usize,
-    pub group: Group,
-}
-
-// ---- 11 to 15 of one line
+// ---- 11 to 15 of one line: the number that it is refused by
 
 // 13, Repeated: "single label again in the set or its group".
-fn repeated_no(many: bool, seen: bool) -> usize
-    ensures { result ≡ repeated_no many seen }
+#[tactic(auto, unfolding(crate::specs::Steps::repeated_no))]
+fn repeated(many: bool, seen: bool) -> Result<(), usize>
+    ensures { result ≡ refused_by (repeated_no many seen) }
 {
-    if many {
-        return 0;
+    if !many && seen {
+        return Err(Refusal::REPEATED);
     }
-    if seen {
-        return Refusal::REPEATED;
-    }
-    0
+    Ok(())
 }
 
 // A label whose row stands under this one belongs to the open header: an odd label right after its name, any other member under the header that its row names.
@@ -49,158 +40,107 @@ fn belongs_to(under: usize, header: usize, label: usize) -> bool
     header == label - 1
 }
 
-// 12 and 13 of a line whose row has this number, stands under this label and repeats or not, or 0.
-fn place_no(
-    i: usize,
-    under: usize,
-    many: bool,
-    header: usize,
-    members: &[bool; ROWS],
-    top: &[bool; ROWS],
-    label: usize,
-) -> usize
-    requires { i < row_count }
-    ensures { (r : Row) → r.under ≡ under → r.many ≡ many → result ≡ place_no i r header members.now top.now label }
+// 12 and 13 of a line with this row.
+#[tactic(auto, unfolding(crate::specs::Steps::place_no))]
+fn placed(row: TableRow, state: &State, label: usize) -> Result<(), usize>
+    requires { row.number < row_count }
+    ensures { (r : Row) → r.under ≡ row.under → r.many ≡ row.many → result ≡ refused_by (place_no row.number r state.now.header state.now.members state.now.top label) }
 {
-    if under == 0 {
-        return repeated_no(many, judge_missing::has(top, i));
+    if row.under == table_find::SET_LEVEL {
+        return repeated(row.many, judge_missing::has(&state.top, row.number));
     }
-    if belongs_to(under, header, label) {
-        return repeated_no(many, judge_missing::has(members, i));
+    if belongs_to(row.under, state.header, label) {
+        return repeated(row.many, judge_missing::has(&state.members, row.number));
     }
-    Refusal::STRAY
+    Err(Refusal::STRAY)
 }
 
-// 15, OtherVersion, of a content that fits, or 0.
-fn version_no(label: usize, content: &[u8]) -> usize
-    ensures { result ≡ version_no label content.now }
+// 15, OtherVersion, of a content that fits.
+#[tactic(auto, unfolding(crate::specs::Steps::version_no))]
+fn version(label: usize, content: &[u8]) -> Result<(), usize>
+    ensures { result ≡ refused_by (version_no label content.now) }
 {
-    if label != meaning::LABEL_9218 {
-        return 0;
+    if label == meaning::LABEL_9218 && !table_kinds::is_0210(content) {
+        return Err(Refusal::OTHER_VERSION);
     }
-    if table_kinds::is_0210(content) {
-        return 0;
-    }
-    Refusal::OTHER_VERSION
+    Ok(())
 }
 
-// 14, BadContent, and 15, or 0, of a label with this kind and a content of fitting length.
-fn fit_no(kind: u16, label: usize, content: &[u8]) -> usize
-    ensures { result ≡ fit_no kind label content.now }
+// 14, BadContent, and 15 of a label with this kind and a content of fitting length.
+#[tactic(auto, unfolding(crate::specs::Steps::fit_no))]
+fn fits_kind(kind: Kind, label: usize, content: &[u8]) -> Result<(), usize>
+    ensures { result ≡ refused_by (fit_no kind label content.now) }
 {
-    if table_kinds::of_kind(kind, content) {
-        return version_no(label, content);
+    if !table_kinds::of_kind(kind, content) {
+        return Err(Refusal::BAD_CONTENT);
     }
-    Refusal::BAD_CONTENT
+    version(label, content)
 }
 
-// 14 and 15, or 0, of a label with this field and the content from one offset to another.
-fn content_no(field: u16, label: usize, s: &[u8], from: usize, end: usize) -> usize
+// 14 and 15 of a label with this field and the content from one offset to another.
+fn fits(field: FieldRow, label: usize, s: &[u8], from: usize, end: usize) -> Result<(), usize>
     requires { (from ≤ end) × (end ≤ length s.now) }
-    ensures { field ≡ field_code (field_row label) → result ≡ content_no label (between s.now from end) }
+    ensures { field ≡ field_row label → result ≡ refused_by (content_no label (between s.now from end)) }
 {
-    if table_kinds::has_length(field, end - from) {
-        let kind = table_fields::kind_of(field);
-        // "alnum: any content bytes."
-        if kind == table_fields::ALNUM {
-            return 0;
-        }
-        return fit_no(kind, label, &s[from..end]);
+    if !table_kinds::has_length(field, end - from) {
+        return Err(Refusal::BAD_CONTENT);
     }
-    Refusal::BAD_CONTENT
+    match field.kind {
+        // "alnum: any content bytes."
+        Kind::Alnum => Ok(()),
+        kind => fits_kind(kind, label, &s[from..end]),
+    }
 }
 
 // ---- one line's step
 
-// A line that is refused by this number: nothing moves.
-fn refused_step(no: usize, group: Group) -> Step
-    ensures { result.no ≡ no }
+// A set-level line with row number i opens its own group, with no member yet. The group before it ends.
+fn opened(settype: SetType, state: &mut State, at: usize, label: usize, i: usize)
+    requires { i < row_count }
+    ensures { IsOpened settype at label i state.old state.new }
 {
-    Step { no, group }
+    if let Some(lack) = judge_missing::first_lack(settype, state) {
+        state.lack = Some(lack);
+    }
+    state.header = label;
+    state.place = at;
+    judge_missing::mark(&mut state.top, i);
+    judge_missing::clear(&mut state.members);
 }
 
-// The open header after a member whose row stands under this label: "an odd label 6331 to 6399 stands nowhere else", so nothing follows it in its pair.
-fn header_after(under: usize, header: usize) -> usize
-    ensures { result ≡ cond (eqb under names_row) 0 header }
+// A member with row number i that stands under this label joins the open group. "An odd label 6331 to 6399 stands nowhere else", so nothing follows it in its pair.
+fn joined(state: &mut State, under: usize, i: usize)
+    requires { i < row_count }
+    ensures { IsJoined under i state.old state.new }
 {
+    judge_missing::mark(&mut state.members, i);
     if under == meaning::LABEL_6330 {
-        return 0;
-    }
-    header
-}
-
-// What is open after a set-level line with row number i: its own group, with no member yet. The group before it ends.
-fn opened(
-    settype: SetType,
-    at: usize,
-    label: usize,
-    i: usize,
-    group: Group,
-    members: &mut [bool; ROWS],
-    top: &mut [bool; ROWS],
-) -> Group
-    requires { i < row_count }
-    ensures { (result ≡ opened_group settype at label group members.old) × (members.new ≡ no_flags) × (top.new ≡ set top.old i true) }
-{
-    let lack = judge_missing::first_lack(settype, group, members);
-    judge_missing::mark(top, i);
-    judge_missing::clear(members);
-    Group {
-        header: label,
-        place: at,
-        lack,
+        state.header = 0;
     }
 }
 
-// What is open after a member with row number i that stands under this label.
-fn joined(under: usize, i: usize, group: Group, members: &mut [bool; ROWS]) -> Group
-    requires { i < row_count }
-    ensures { (result ≡ joined_group under group) × (members.new ≡ set members.old i true) }
-{
-    judge_missing::mark(members, i);
-    let header = header_after(under, group.header);
-    let lack = group.lack;
-    Group {
-        header,
-        place: group.place,
-        lack,
-    }
-}
-
-// One line with its content from one offset to another: 11, 12, 13, 14, 15; else what is then open, and the flags.
+// One line with its content from one offset to another: 11, 12, 13, 14, 15; else what is then open, and the labels that were seen.
 pub fn step_at(
     settype: SetType,
+    state: &mut State,
     at: usize,
     label: usize,
     s: &[u8],
     from: usize,
     end: usize,
-    group: Group,
-    members: &mut [bool; ROWS],
-    top: &mut [bool; ROWS],
-) -> Step
+) -> Result<(), usize>
     requires { (from ≤ end) × (end ≤ length s.now) }
-    ensures { Stepped (row_of settype label) settype (flagged_of group members.old top.old) group.lack at label (between s.now from end) result members.new top.new }
+    ensures { Stepped (row_of settype label) settype state.old at label (between s.now from end) result state.new }
 {
-    let code = table_find::find_row(settype, label);
-    if code == table_find::NOTHING {
-        return refused_step(Refusal::NOT_IN_SET, group);
+    let Some(row) = table_find::find_row(settype, label) else {
+        return Err(Refusal::NOT_IN_SET);
+    };
+    placed(row, state, label)?;
+    fits(row.field, label, s, from, end)?;
+    if row.under == table_find::SET_LEVEL {
+        opened(settype, state, at, label, row.number);
+        return Ok(());
     }
-    let i = table_find::number_of(code);
-    let under = table_find::under_of(code);
-    let many = table_find::many_of(code);
-    let misplaced = place_no(i, under, many, group.header, members, top, label);
-    if misplaced != 0 {
-        return refused_step(misplaced, group);
-    }
-    let unfit = content_no(table_find::field_of(code), label, s, from, end);
-    if unfit != 0 {
-        return refused_step(unfit, group);
-    }
-    if under == 0 {
-        let group = opened(settype, at, label, i, group, members, top);
-        return Step { no: 0, group };
-    }
-    let group = joined(under, i, group, members);
-    Step { no: 0, group }
+    joined(state, row.under, row.number);
+    Ok(())
 }

@@ -1,12 +1,12 @@
 -- The pass over bytes and flags finds what the rules of `meaning` find over fields and labels: 11 to 16 and 24, by one induction over the fields.
 use mathlib.Core.Path.{◌≡◌, refl, sym, ap, ap₂, ◌∙◌, subst}
-use mathlib.Core.Bool.{Bool}
 use mathlib.Core.List.{List, [], ◌∷◌, cons≢nil}
 use Prim.Native.Nat.{ℕ, zero, suc, ◌+◌, ◌-◌, ◌≤◌}
 use native.Mathlib.Numerals.{add-one}
 use native.Mathlib.Omega.{arith}
 use lib.ListN.{length, drop, take}
 use borrow.Author.Tests.{ne_eqb}
+use Rattle.std.specs.Prelude.{Result, Ok, Err}
 use Rattle.meaning.specs.declared.Refusal.{Refusal}
 use Rattle.meaning.specs.declared.SetType.{SetType}
 use Rattle.meaning.specs.Field.{Field}
@@ -21,39 +21,42 @@ use Rattle.meaning.proofs.Bools.{Every}
 use Rattle.meaning.proofs.FirstLaws.{first_of}
 use Rattle.meaning.proofs.RealLaws.{faults_then_high, of_type}
 use Rattle.meaning.proofs.LineLaws.{Sound, take-render}
-use Rattle.line_read.specs.declared.Line.TheVariants.{Read}
-use Rattle.line_read.specs.Line.{line_at, line_content}
+use Rattle.line_read.specs.Line.{line_at, line_content, a_line}
 use Rattle.line_read.proofs.LineMeaning.{read-line, read_back, reads-content, reads_on}
 use Rattle.line_seven.specs.Seven.{high_in_set}
 use Rattle.line_seven.proofs.SevenMeaning.{high-in-set-is}
-use Rattle.judge_missing.specs.Lacks.{Flagged, none_seen, flagged_of}
+use Rattle.judge_missing.specs.declared.State.{State}
+use Rattle.judge_missing.specs.Lacks.{Flagged, none_seen, flagged_of, told}
 use Rattle.judge_missing.proofs.FlagLaws.{Agrees, none-agrees}
-use Rattle.judge_line.specs.declared.Step.{Step}
 use Rattle.judge_line.specs.Steps.{row_of, line_no, Stepped}
+use Rattle.judge_line.proofs.StepLaws.{refused-err, refused-ok}
 use Rattle.judge_line.proofs.StepMeaning.{pass_finds, pass-line, pass-finish, pass-finds}
 use Rattle.judge_lines.specs.Pass.{pass_from, pass_set}
 
 -- ---- the pass: one line more
 
 -- the content of a line is the part of the set that stands there
-pub step_line : {settype : SetType} {st : Flagged} {lack : Refusal} {l : ℕ} {r : Step} {members top : List Bool} (s : List ℕ) (at size : ℕ) → 10 ≤ size
-    → Stepped (row_of settype l) settype st lack at l (take (at + size - 2 - (at + 7)) (drop (at + line_lead) s)) r members top
-    → Stepped (row_of settype l) settype st lack at l (line_content s at size) r members top
-step_line {settype} {st} {lack} {l} {r} {members} {top} s at size h e =
+pub step_line : {settype : SetType} {x : State} {l : ℕ} {r : Result Unit ℕ} {y : State} (s : List ℕ) (at size : ℕ) → 10 ≤ size
+    → Stepped (row_of settype l) settype x at l (take (at + size - 2 - (at + 7)) (drop (at + line_lead) s)) r y
+    → Stepped (row_of settype l) settype x at l (line_content s at size) r y
+step_line {settype} {x} {l} {r} {y} s at size h e =
     let m : at + size - 2 - (at + 7) ≡ size - 9 = omega arith in
-    subst (λ (x : ℕ). Stepped (row_of settype l) settype st lack at l (take x (drop (at + line_lead) s)) r members top) m e
+    subst (λ (n : ℕ). Stepped (row_of settype l) settype x at l (take n (drop (at + line_lead) s)) r y) m e
 
-module _ (s : List ℕ) (settype : SetType) (at : ℕ) (st : Flagged) (lack : Refusal) (l size : ℕ) (q : line_at s at ≡ Read l size) (r : Step) (members top : List Bool)
-    (e : Stepped (row_of settype l) settype st lack at l (line_content s at size) r members top) where
-  pub pass-bad : (r.no ≡ 0 → ⊥) → (m : ℕ) → pass_from s settype at st lack (suc m) ≡ refusal r.no at l
+module _ (s : List ℕ) (settype : SetType) (at : ℕ) (x : State) (l size : ℕ) (q : line_at s at ≡ a_line l size) where
+  pub pass-bad : {n : ℕ} {y : State} → Stepped (row_of settype l) settype x at l (line_content s at size) (Err n) y
+      → (m : ℕ) → pass_from s settype at (flagged_of x) (told x.lack) (suc m) ≡ refusal n at l
   unfolding pass_from
-  pass-bad g m = rw (q, ← e.number, ne_eqb r.no 0 g)
+  pass-bad {n} e m =
+      let w = refused-err _ _ e.number in
+      rw (q, ne_eqb _ 0 w.1, w.0)
 
-  pub pass_on : r.no ≡ 0 → (m : ℕ) → pass_from s settype at st lack (suc m) ≡ pass_from s settype (at + size) (flagged_of r.group members top) r.group.lack m
+  pub pass_on : {y : State} → Stepped (row_of settype l) settype x at l (line_content s at size) (Ok tt) y
+      → (m : ℕ) → pass_from s settype at (flagged_of x) (told x.lack) (suc m) ≡ pass_from s settype (at + size) (flagged_of y) (told y.lack) m
   unfolding pass_from
-  pass_on g m =
-      let z : line_no (row_of settype l) st l (line_content s at size) ≡ 0 = sym e.number ∙ g in
-      rw (q, z) (ap₂ (λ (x : Flagged) (y : Refusal). pass_from s settype (at + size) x y m) (sym (e.flagged-so g)) (sym (e.lack-so g)))
+  pass_on e m =
+      let z : line_no (row_of settype l) (flagged_of x) l (line_content s at size) ≡ 0 = refused-ok _ e.number in
+      rw (q, z) (ap₂ (λ (f : Flagged) (g : Refusal). pass_from s settype (at + size) f g m) (sym (e.flagged-so refl)) (sym (e.lack-so refl)))
 
 -- ---- the pass over the fields
 
@@ -87,7 +90,7 @@ module _ (s : List ℕ) (settype : SetType) (all : List Field) (high : Refusal) 
       let end : at ≡ size all = omega (arith, e, offset-end all k d) in
       rw (end, found) (pass-finish settype (in_set all) high k st ms lack refl sm)
   pass-is (f ∷ fs) t at k st ms lack h w b e d sm =
-      let rd : line_at s at ≡ Read f.label (line_size f) = read-line s at f (render fs t) w h.0 in
+      let rd : line_at s at ≡ a_line f.label (line_size f) = read-line s at f (render fs t) w h.0 in
       let fit : at + line_size f ≤ length s = (read_back s at rd).within in
       let go = pass-line settype (in_set all) high f fs at k st ms lack sm e
       (λ st' lack'. pass_from s settype (at + line_size f) st' lack' (length fs))

@@ -1,5 +1,5 @@
 -- Which labels were seen, as flags, and what is then missing, as the code walks it. proofs/LackMeaning ties it to `Missing` of `meaning`.
-use Rattle.std.specs.Prelude.{Bool, false, cond, not, ◌&&◌, ◌||◌, List, [], ◌∷◌, ℕ, ◌+◌, get_or, replicate, eqb}
+use Rattle.std.specs.Prelude.{Bool, true, false, cond, not, ◌&&◌, ◌||◌, List, [], ◌∷◌, ℕ, ◌+◌, get_or, replicate, ltb, eqb, Option, Some, None}
 use Rattle.meaning.specs.declared.Refusal.{Refusal}
 use Rattle.meaning.specs.declared.SetType.{SetType}
 use Rattle.meaning.specs.declared.SetType.TheVariants.{T6300, T6301, T6302, T6310, T6311}
@@ -8,7 +8,8 @@ use Rattle.meaning.specs.Tables.{row_label}
 use Rattle.meaning.specs.Groups.{no_header}
 use Rattle.meaning.specs.Answers.{no_refusal, or_else}
 use Rattle.table_fields.specs.LabelNumbers.{label_number}
-use Rattle.judge_missing.specs.declared.Group.{Group}
+use Rattle.judge_missing.specs.declared.Lack.{Lack}
+use Rattle.judge_missing.specs.declared.State.{State}
 
 -- ---- what the lines so far leave, as `Groups.State`, with flags by a label's number in the place of labels and the header's place in the place of its line
 
@@ -34,6 +35,11 @@ unfoldable pub seen : List Bool → ℕ → Bool
 seen on l = get_or on (label_number l) false
 
 -- ---- 16, by the few labels that are needed
+
+-- what is lacking as its refusal; none if nothing is
+abbrev pub told : Option Lack → Refusal
+told None = no_refusal
+told (Some x) = refusal missing x.place x.label
 
 -- a label that is needed and not there
 abbrev pub lacks : (ℕ → Bool) → ℕ → Bool → Bool
@@ -92,6 +98,16 @@ required_labels T6302 = patient_labels
 required_labels T6310 = test_labels
 required_labels T6311 = basic_labels
 
+-- the first of some labels that was not seen, each with its number before it: how the code asks for the labels of a list
+unfoldable pub lack_by : List Bool → ℕ → List (ℕ × ℕ) → Refusal
+lack_by on place [] = no_refusal
+lack_by on place (x ∷ xs) = let rest = lack_by on place xs in cond (get_or on x.0 false) rest (lack_here place x.1)
+
+-- each has the number of a flag
+abbrev pub in_rows : List (ℕ × ℕ) → Bool
+in_rows [] = true
+in_rows (x ∷ xs) = ltb x.0 row_count && in_rows xs
+
 -- the open group's lack, if one is open
 unfoldable pub open_lack : SetType → ℕ → ℕ → List Bool → Refusal
 open_lack settype header place members = cond (eqb header no_header) no_refusal (group_lack settype (seen members) header place)
@@ -112,6 +128,10 @@ finish settype st lack = or_else (set_lack settype st.top) (first_lack settype s
 abbrev pub finish_then : SetType → Flagged → Refusal → Refusal → Refusal
 finish_then settype st lack high = or_else (finish settype st lack) (cond (seen st.top 9206) high no_refusal)
 
--- the state, from the parts that the code holds
-abbrev pub flagged_of : Group → List Bool → List Bool → Flagged
-flagged_of g members top = record { header = g.header; place = g.place; members = members; top = top }
+-- the state that the code holds, without the first group's lack
+abbrev pub flagged_of : State → Flagged
+flagged_of x = record { header = x.header; place = x.place; members = x.members; top = x.top }
+
+-- before line 1, as the code holds it
+abbrev pub before_lines : State
+before_lines = record { header = no_header; place = 0; lack = None; members = no_flags; top = no_flags }

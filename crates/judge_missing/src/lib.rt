@@ -3,62 +3,100 @@
 // cites a walk of specs/, and proofs/LackMeaning says what the walks mean.
 #![tactic(auto)]
 
-ghost use Rattle.std.specs.Prelude.{◌≡◌, true, false, ◌<◌, get_or, set};
-ghost use Rattle.meaning.specs.Refusals.{refusal};
+ghost use Rattle.std.specs.Prelude.{◌≡◌, IsTrue, true, false, ◌<◌, get_or, set};
+ghost use Rattle.meaning.specs.Refusals.{refusal, missing};
 ghost use Rattle.meaning.specs.Tables.{row_label};
-ghost use Rattle.judge_missing.specs.Lacks.{row_count, no_flags, seen, valued, lack8437, lack8410, lack6302, lack_name, lack_under, lack_all, basic_labels, patient_labels, test_labels, group_lack, first_lack, set_lack, finish, flagged_of};
+ghost use Rattle.judge_missing.specs.Lacks.{row_count, no_flags, seen, valued, lack8437, lack8410, lack_name, lack_under, lack_by, in_rows, group_lack, first_lack, set_lack, finish, told, flagged_of, before_lines};
 
 use meaning::{Refusal, SetType};
+use table_fields as fields;
 
 // The labels of the field table; the flags go by their numbers.
 pub const ROWS: usize = 57;
 
-// The numbers of the labels that 16 asks for.
-const NO_3000: usize = table_fields::NO_3000 as usize;
+pub const NO_8000: usize = fields::NO_8000;
 
-const NO_3101: usize = table_fields::NO_3101 as usize;
+pub const NO_8100: usize = fields::NO_8100;
 
-const NO_3102: usize = table_fields::NO_3102 as usize;
+// Labels that 16 asks for, lowest first, each after its number. "Required at set level: 8000, 8100, 9218, 3000 in all".
+const BASIC: [(usize, usize); 4] = [
+    (fields::NO_3000, meaning::LABEL_3000),
+    (fields::NO_8000, meaning::LABEL_8000),
+    (fields::NO_8100, meaning::LABEL_8100),
+    (fields::NO_9218, meaning::LABEL_9218),
+];
 
-const NO_3103: usize = table_fields::NO_3103 as usize;
+// "3101, 3102, 3103 also in 6301 and 6302".
+const PATIENT: [(usize, usize); 7] = [
+    (fields::NO_3000, meaning::LABEL_3000),
+    (fields::NO_3101, meaning::LABEL_3101),
+    (fields::NO_3102, meaning::LABEL_3102),
+    (fields::NO_3103, meaning::LABEL_3103),
+    (fields::NO_8000, meaning::LABEL_8000),
+    (fields::NO_8100, meaning::LABEL_8100),
+    (fields::NO_9218, meaning::LABEL_9218),
+];
 
-const NO_6303: usize = table_fields::NO_6303 as usize;
+// "8402 also in 6310".
+const TEST: [(usize, usize); 5] = [
+    (fields::NO_3000, meaning::LABEL_3000),
+    (fields::NO_8000, meaning::LABEL_8000),
+    (fields::NO_8100, meaning::LABEL_8100),
+    (fields::NO_8402, meaning::LABEL_8402),
+    (fields::NO_9218, meaning::LABEL_9218),
+];
 
-const NO_6304: usize = table_fields::NO_6304 as usize;
+// A 6302 group: "6303, 6304 and 6305 are its members, each required once".
+const ARCHIVE: [(usize, usize); 3] = [
+    (fields::NO_6303, meaning::LABEL_6303),
+    (fields::NO_6304, meaning::LABEL_6304),
+    (fields::NO_6305, meaning::LABEL_6305),
+];
 
-const NO_6305: usize = table_fields::NO_6305 as usize;
+// What 16 refuses: a label that is not there, and the place of the header's line, 0 at set level.
+#[derive(Clone, Copy)]
+pub struct Lack {
+    pub place: usize,
+    pub label: usize,
+}
 
-const NO_6331: usize = table_fields::NO_6331 as usize;
+impl Lack {
+    // 16, Missing.
+    pub fn refusal(self) -> Refusal
+        ensures { result ≡ refusal missing self.place self.label }
+    {
+        Refusal {
+            no: Refusal::MISSING,
+            place: self.place,
+            label: self.label,
+        }
+    }
+}
 
-pub const NO_8000: usize = table_fields::NO_8000 as usize;
-
-pub const NO_8100: usize = table_fields::NO_8100 as usize;
-
-const NO_8402: usize = table_fields::NO_8402 as usize;
-
-const NO_8420: usize = table_fields::NO_8420 as usize;
-
-const NO_8421: usize = table_fields::NO_8421 as usize;
-
-const NO_8437: usize = table_fields::NO_8437 as usize;
-
-const NO_8438: usize = table_fields::NO_8438 as usize;
-
-const NO_8461: usize = table_fields::NO_8461 as usize;
-
-const NO_8462: usize = table_fields::NO_8462 as usize;
-
-const NO_9218: usize = table_fields::NO_9218 as usize;
-
-// The number of the label that 24 asks for.
-const NO_9206: usize = table_fields::NO_9206 as usize;
-
-// The open header or name (0: none), the place of its line, and what the first group that ended with a lack lacks (number 0: none so far).
+// What the lines so far leave: the open header or name (0: none), the place of its line, what the first group that ended with a lack lacks, and which labels were
+// seen: in the open group, and at set level.
 #[derive(Drop)]
-pub struct Group {
+pub struct State {
     pub header: usize,
     pub place: usize,
-    pub lack: Refusal,
+    pub lack: Option<Lack>,
+    pub members: [bool; ROWS],
+    pub top: [bool; ROWS],
+}
+
+impl State {
+    // No line was read, and no label was seen.
+    pub fn new() -> State
+        ensures { result ≡ before_lines }
+    {
+        State {
+            header: 0,
+            place: 0,
+            lack: None,
+            members: [false; ROWS],
+            top: [false; ROWS],
+        }
+    }
 }
 
 // ---- which labels were seen
@@ -80,10 +118,11 @@ pub fn mark(flags: &mut [bool; ROWS], i: usize)
 }
 
 // 9206 was seen.
+#[tactic(auto, unfolding(crate::specs::Lacks::seen, table_fields::specs::LabelNumbers::label_number, table_fields::specs::LabelNumbers::rows_before, meaning::specs::FieldTable::field_table))]
 pub fn has_9206(flags: &[bool; ROWS]) -> bool
     ensures { result ≡ seen flags.now 9206 }
 {
-    has(flags, NO_9206)
+    has(flags, fields::NO_9206)
 }
 
 // No label was seen.
@@ -95,222 +134,139 @@ pub fn clear(flags: &mut [bool; ROWS])
 
 // ---- 16: what a group and the set lack
 
-fn missing(place: usize, label: usize) -> Refusal
-    ensures { result ≡ refusal 16 place label }
+// The first of these labels that was not seen.
+fn first_unseen<const N: usize>(
+    flags: &[bool; ROWS],
+    labels: &[(usize, usize); N],
+    place: usize,
+) -> Option<Lack>
+    requires { IsTrue (in_rows labels.now) }
+    ensures { told result ≡ lack_by flags.now place labels.now }
 {
-    Refusal {
-        no: Refusal::MISSING,
-        place,
-        label,
+    for (number, label) in labels {
+        if !has(flags, *number) {
+            return Some(Lack {
+                place,
+                label: *label,
+            });
+        }
     }
+    None
 }
 
 // A group that has a value or a limit.
+#[tactic(auto, unfolding(crate::specs::Lacks::valued, crate::specs::Lacks::seen, table_fields::specs::LabelNumbers::label_number, table_fields::specs::LabelNumbers::rows_before, meaning::specs::FieldTable::field_table))]
 fn has_value(members: &[bool; ROWS]) -> bool
     ensures { result ≡ valued (seen members.now) }
 {
-    if has(members, NO_8420) {
-        return true;
-    }
-    if has(members, NO_8461) {
-        return true;
-    }
-    has(members, NO_8462)
+    has(members, fields::NO_8420) || has(members, fields::NO_8461) || has(members, fields::NO_8462)
 }
 
 // An 8410 group: "8437 is required in a group that has 8438", 8421 in one that has a value or a limit.
-fn lack_8410(members: &[bool; ROWS], place: usize) -> Refusal
-    ensures { result ≡ lack8410 (seen members.now) place }
+#[tactic(auto, unfolding(crate::specs::Lacks::lack8410, crate::specs::Lacks::seen, table_fields::specs::LabelNumbers::label_number, table_fields::specs::LabelNumbers::rows_before, meaning::specs::FieldTable::field_table))]
+fn lack_8410(members: &[bool; ROWS], place: usize) -> Option<Lack>
+    ensures { told result ≡ lack8410 (seen members.now) place }
 {
-    if has_value(members) {
-        if has(members, NO_8421) {
-            return lack_8437(members, place);
-        }
-        return missing(place, meaning::LABEL_8421);
+    if has_value(members) && !has(members, fields::NO_8421) {
+        return Some(Lack {
+            place,
+            label: meaning::LABEL_8421,
+        });
     }
     lack_8437(members, place)
 }
 
-fn lack_8437(members: &[bool; ROWS], place: usize) -> Refusal
-    ensures { result ≡ lack8437 (seen members.now) place }
+#[tactic(auto, unfolding(crate::specs::Lacks::lack8437, crate::specs::Lacks::seen, table_fields::specs::LabelNumbers::label_number, table_fields::specs::LabelNumbers::rows_before, meaning::specs::FieldTable::field_table))]
+fn lack_8437(members: &[bool; ROWS], place: usize) -> Option<Lack>
+    ensures { told result ≡ lack8437 (seen members.now) place }
 {
-    if has(members, NO_8438) {
-        if has(members, NO_8437) {
-            return Refusal::none();
-        }
-        return missing(place, meaning::LABEL_8437);
+    if has(members, fields::NO_8438) && !has(members, fields::NO_8437) {
+        return Some(Lack {
+            place,
+            label: meaning::LABEL_8437,
+        });
     }
-    Refusal::none()
-}
-
-// A 6302 group: "6303, 6304 and 6305 are its members, each required once".
-fn lack_6302(members: &[bool; ROWS], place: usize) -> Refusal
-    ensures { result ≡ lack6302 (seen members.now) place }
-{
-    if has(members, NO_6303) {
-        if has(members, NO_6304) {
-            if has(members, NO_6305) {
-                return Refusal::none();
-            }
-            return missing(place, meaning::LABEL_6305);
-        }
-        return missing(place, meaning::LABEL_6304);
-    }
-    missing(place, meaning::LABEL_6303)
+    None
 }
 
 // A name: "the next line must be the label one higher".
-fn lack_name(members: &[bool; ROWS], name: usize, place: usize) -> Refusal
+#[tactic(auto, unfolding(crate::specs::Lacks::lack_name, crate::specs::Lacks::seen, table_fields::specs::LabelNumbers::label_number, table_fields::specs::LabelNumbers::rows_before, meaning::specs::FieldTable::field_table))]
+fn lack_name(members: &[bool; ROWS], name: usize, place: usize) -> Option<Lack>
     requires { name < 10000 }
-    ensures { result ≡ lack_name (seen members.now) name place }
+    ensures { told result ≡ lack_name (seen members.now) name place }
 {
-    if has(members, NO_6331) {
-        return Refusal::none();
+    if has(members, fields::NO_6331) {
+        return None;
     }
-    missing(place, name + 1)
+    Some(Lack {
+        place,
+        label: name + 1,
+    })
 }
 
 // What the group of a header lacks in a 6310 set.
-fn lack_under(members: &[bool; ROWS], header: usize, place: usize) -> Refusal
-    ensures { result ≡ lack_under (row_label header) (seen members.now) header place }
+#[tactic(auto, unfolding(crate::specs::Lacks::lack_under, meaning::specs::Tables::row_label))]
+fn lack_under(members: &[bool; ROWS], header: usize, place: usize) -> Option<Lack>
+    ensures { told result ≡ lack_under (row_label header) (seen members.now) header place }
 {
     // 6302 is the lowest header of a group; 0 is none
     if header < meaning::LABEL_6302 {
-        return Refusal::none();
+        return None;
     }
     if header == meaning::LABEL_8410 {
         return lack_8410(members, place);
     }
     if header == meaning::LABEL_6302 {
-        return lack_6302(members, place);
+        return first_unseen(members, &ARCHIVE, place);
     }
     // "Even labels 6330 to 6398 are names"
-    if table_fields::is_pair(header) {
-        if header % 2 == 0 {
-            return lack_name(members, header, place);
-        }
+    if fields::is_pair(header) && header % 2 == 0 {
+        return lack_name(members, header, place);
     }
-    Refusal::none()
+    None
 }
 
 // What the group of a header lacks: only 6310 has groups.
-fn group_lack(settype: SetType, members: &[bool; ROWS], header: usize, place: usize) -> Refusal
-    ensures { result ≡ group_lack settype (seen members.now) header place }
+#[tactic(auto, unfolding(crate::specs::Lacks::group_lack))]
+fn group_lack(settype: SetType, members: &[bool; ROWS], header: usize, place: usize) -> Option<Lack>
+    ensures { told result ≡ group_lack settype (seen members.now) header place }
 {
     match settype {
         SetType::T6310 => lack_under(members, header, place),
-        SetType::T6300 => Refusal::none(),
-        SetType::T6301 => Refusal::none(),
-        SetType::T6302 => Refusal::none(),
-        SetType::T6311 => Refusal::none(),
+        SetType::T6300 | SetType::T6301 | SetType::T6302 | SetType::T6311 => None,
     }
 }
 
 // What the first group lacks that lacks something, up to the open one, which ends here.
-pub fn first_lack(settype: SetType, group: Group, members: &[bool; ROWS]) -> Refusal
-    ensures { result ≡ first_lack settype group.header group.place members.now group.lack }
+#[tactic(auto, unfolding(crate::specs::Lacks::first_lack, meaning::specs::Answers::or_else))]
+pub fn first_lack(settype: SetType, state: &State) -> Option<Lack>
+    ensures { told result ≡ first_lack settype state.now.header state.now.place state.now.members (told state.now.lack) }
 {
-    let lack = group.lack;
-    if lack.no != 0 {
-        return lack;
+    match state.lack {
+        Some(lack) => Some(lack),
+        None => group_lack(settype, &state.members, state.header, state.place),
     }
-    group_lack(settype, members, group.header, group.place)
-}
-
-// "Required at set level: 8000, 8100, 9218, 3000 in all".
-fn lack_basic(top: &[bool; ROWS]) -> Refusal
-    ensures { result ≡ lack_all (seen top.now) basic_labels }
-{
-    if !has(top, NO_3000) {
-        return missing(0, meaning::LABEL_3000);
-    }
-    if !has(top, NO_8000) {
-        return missing(0, meaning::LABEL_8000);
-    }
-    if !has(top, NO_8100) {
-        return missing(0, meaning::LABEL_8100);
-    }
-    if !has(top, NO_9218) {
-        return missing(0, meaning::LABEL_9218);
-    }
-    Refusal::none()
-}
-
-// "3101, 3102, 3103 also in 6301 and 6302".
-fn lack_patient(top: &[bool; ROWS]) -> Refusal
-    ensures { result ≡ lack_all (seen top.now) patient_labels }
-{
-    if !has(top, NO_3000) {
-        return missing(0, meaning::LABEL_3000);
-    }
-    if !has(top, NO_3101) {
-        return missing(0, meaning::LABEL_3101);
-    }
-    if !has(top, NO_3102) {
-        return missing(0, meaning::LABEL_3102);
-    }
-    if !has(top, NO_3103) {
-        return missing(0, meaning::LABEL_3103);
-    }
-    if !has(top, NO_8000) {
-        return missing(0, meaning::LABEL_8000);
-    }
-    if !has(top, NO_8100) {
-        return missing(0, meaning::LABEL_8100);
-    }
-    if !has(top, NO_9218) {
-        return missing(0, meaning::LABEL_9218);
-    }
-    Refusal::none()
-}
-
-// "8402 also in 6310".
-fn lack_test(top: &[bool; ROWS]) -> Refusal
-    ensures { result ≡ lack_all (seen top.now) test_labels }
-{
-    if !has(top, NO_3000) {
-        return missing(0, meaning::LABEL_3000);
-    }
-    if !has(top, NO_8000) {
-        return missing(0, meaning::LABEL_8000);
-    }
-    if !has(top, NO_8100) {
-        return missing(0, meaning::LABEL_8100);
-    }
-    if !has(top, NO_8402) {
-        return missing(0, meaning::LABEL_8402);
-    }
-    if !has(top, NO_9218) {
-        return missing(0, meaning::LABEL_9218);
-    }
-    Refusal::none()
 }
 
 // What the set lacks at set level, lowest label first.
-fn set_lack(settype: SetType, top: &[bool; ROWS]) -> Refusal
-    ensures { result ≡ set_lack settype top.now }
+#[tactic(auto, unfolding(crate::specs::Lacks::set_lack, crate::specs::Lacks::lack_all, crate::specs::Lacks::seen, table_fields::specs::LabelNumbers::label_number, table_fields::specs::LabelNumbers::rows_before, meaning::specs::FieldTable::field_table))]
+fn set_lack(settype: SetType, top: &[bool; ROWS]) -> Option<Lack>
+    ensures { told result ≡ set_lack settype top.now }
 {
     match settype {
-        SetType::T6300 => lack_basic(top),
-        SetType::T6301 => lack_patient(top),
-        SetType::T6302 => lack_patient(top),
-        SetType::T6310 => lack_test(top),
-        SetType::T6311 => lack_basic(top),
+        SetType::T6300 | SetType::T6311 => first_unseen(top, &BASIC, 0),
+        SetType::T6301 | SetType::T6302 => first_unseen(top, &PATIENT, 0),
+        SetType::T6310 => first_unseen(top, &TEST, 0),
     }
 }
 
 // 16 after the last line: "set level before groups and pairs in order".
-pub fn finish_at(
-    settype: SetType,
-    group: Group,
-    members: &[bool; ROWS],
-    top: &[bool; ROWS],
-) -> Refusal
-    ensures { result ≡ finish settype (flagged_of group members.now top.now) group.lack }
+#[tactic(auto, unfolding(crate::specs::Lacks::finish, meaning::specs::Answers::or_else))]
+pub fn finish_at(settype: SetType, state: &State) -> Option<Lack>
+    ensures { told result ≡ finish settype (flagged_of state.now) (told state.now.lack) }
 {
-    let lack = set_lack(settype, top);
-    if lack.no != 0 {
-        return lack;
+    match set_lack(settype, &state.top) {
+        Some(lack) => Some(lack),
+        None => first_lack(settype, state),
     }
-    first_lack(settype, group, members)
 }

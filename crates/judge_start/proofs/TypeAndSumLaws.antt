@@ -8,8 +8,6 @@ use lib.Dec.{leb, eqb}
 use lib.ListN.{length, take, drop, length-drop}
 use lib.Seq.{take_all, length-take-le}
 use borrow.Author.Tests.{eq-eqb, ne_eqb, eqb-true, eqb-false, le-leb, leb-true}
-use Rattle.meaning.specs.declared.Known.{Known}
-use Rattle.meaning.specs.declared.Known.TheVariants.{Nothing}
 use Rattle.meaning.specs.Limits.{type_of}
 use Rattle.meaning.specs.Digits.{number, all_digits}
 use Rattle.meaning.specs.Refusals.{refusal, bad_sum}
@@ -20,21 +18,21 @@ use Rattle.meaning.specs.FieldTable.{field_table, field_row_in, field_row, has_l
 use Rattle.meaning.specs.Rules.{type_named, type_digits}
 use Rattle.meaning.specs.Lists.{sum_digits}
 use Rattle.meaning.specs.Answers.{no_refusal}
-use Rattle.line_read.specs.declared.Number.{Number}
-use Rattle.line_read.specs.declared.Number.TheVariants.{Is, None}
-use Rattle.line_read.specs.Number.{number_at}
+use Rattle.line_read.specs.Number.{number_at, Number}
 use Rattle.line_read.specs.Line.{line_content, sum_line}
 use Rattle.line_read.proofs.LineMeaning.{as_number, number_is}
 use Rattle.judge_start.specs.Sum.{sum_written, is_sum, sum_walk}
+use Rattle.meaning.specs.Results.{Known}
+use Rattle.std.specs.Prelude.{None, Some}
 
 -- ---- 9: the type that a content names
 
 -- the type by what the four bytes write
 known_by : Number → Known
-known_by (Is n) = type_of n
-known_by None = Nothing
+known_by (Some n) = type_of n
+known_by None = None
 
-pub type-other : (c : List ℕ) → (length c ≡ type_digits → ⊥) → Nothing ≡ type_named c
+pub type-other : (c : List ℕ) → (length c ≡ type_digits → ⊥) → None ≡ type_named c
 unfolding type_named
 type-other c h = rw (ne_eqb (length c) type_digits h)
 
@@ -45,17 +43,17 @@ type-read c h =
     ap known_by (number_is c 0 type_digits (omega arith) (omega arith))
     ∙ (ap (λ (b : Bool). known_by (as_number (b && all_digits (take type_digits c)) (number (take type_digits c)))) (le-leb type_digits (length c) (omega arith))
     ∙ (ap (λ (x : List ℕ). known_by (as_number (all_digits x) (number x))) t
-    ∙ (go (all_digits c) ∙ sym (ap (λ (b : Bool). cond (b && all_digits c) (type_of (number c)) Nothing) (eq-eqb (length c) type_digits h)))))
+    ∙ (go (all_digits c) ∙ sym (ap (λ (b : Bool). cond (b && all_digits c) (type_of (number c)) None) (eq-eqb (length c) type_digits h)))))
   where
-    go : (b : Bool) → known_by (as_number b (number c)) ≡ cond b (type_of (number c)) Nothing
+    go : (b : Bool) → known_by (as_number b (number c)) ≡ cond b (type_of (number c)) None
     go true = refl
     go false = refl
 
-pub type-known : (c : List ℕ) → length c ≡ type_digits → (n : ℕ) → number_at c 0 type_digits ≡ Is n → type_of n ≡ type_named c
+pub type-known : (c : List ℕ) → length c ≡ type_digits → (n : ℕ) → number_at c 0 type_digits ≡ Some n → type_of n ≡ type_named c
 unfolding known_by
 type-known c h n q = sym (ap known_by q) ∙ type-read c h
 
-pub type-none : (c : List ℕ) → length c ≡ type_digits → number_at c 0 type_digits ≡ None → Nothing ≡ type_named c
+pub type-none : (c : List ℕ) → length c ≡ type_digits → number_at c 0 type_digits ≡ None → None ≡ type_named c
 unfolding known_by
 type-none c h q = sym (ap known_by q) ∙ type-read c h
 
@@ -72,13 +70,13 @@ module _ (s : List ℕ) (at n : ℕ) where
     sum-read = rw (eq-eqb n sum_line h)
 
   -- a sum that is written is a number of five digits, in a line of 14 bytes
-  pub sum_number : (k : ℕ) → sum_written s at n ≡ Is k → (n ≡ sum_line) × (number_at s (at + line_lead) sum_digits ≡ Is k)
+  pub sum_number : (k : ℕ) → sum_written s at n ≡ Some k → (n ≡ sum_line) × (number_at s (at + line_lead) sum_digits ≡ Some k)
   sum_number k q = go (eqb n sum_line) refl
     where
-      go : (b : Bool) → eqb n sum_line ≡ b → (n ≡ sum_line) × (number_at s (at + line_lead) sum_digits ≡ Is k)
+      go : (b : Bool) → eqb n sum_line ≡ b → (n ≡ sum_line) × (number_at s (at + line_lead) sum_digits ≡ Some k)
       go true e = (eqb-true n sum_line e, sum-read (eqb-true n sum_line e) ∙ q)
       go false e =
-          let z : None ≡ Is k = sum-short (eqb-false n sum_line e) ∙ q in
+          let z : None ≡ Some k = sum-short (eqb-false n sum_line e) ∙ q in
           let y : ◌≡◌ {A = ℕ} 0 1 = cc in
           absurd (omega arith)
 
@@ -121,10 +119,10 @@ module _ (s : List ℕ) (at n : ℕ) where
 -- ---- 17
 
 module _ (s : List ℕ) (at total : ℕ) where
-  pub sum-right : (k : ℕ) → number_at s (at + line_lead) sum_digits ≡ Is k → k ≡ total → no_refusal ≡ sum_walk s at total
+  pub sum-right : (k : ℕ) → number_at s (at + line_lead) sum_digits ≡ Some k → k ≡ total → no_refusal ≡ sum_walk s at total
   unfolding sum_walk
   sum-right k q e = rw (q, eq-eqb k total e)
 
-  pub sum-wrong : (k : ℕ) → number_at s (at + line_lead) sum_digits ≡ Is k → (k ≡ total → ⊥) → refusal bad_sum at 0 ≡ sum_walk s at total
+  pub sum-wrong : (k : ℕ) → number_at s (at + line_lead) sum_digits ≡ Some k → (k ≡ total → ⊥) → refusal bad_sum at 0 ≡ sum_walk s at total
   unfolding sum_walk
   sum-wrong k q e = rw (q, ne_eqb k total e)

@@ -1,13 +1,11 @@
 -- The sum of line 2, and 17, as the code walks them, at the offset of line 2. `sum_is` in `judge` ties 17 to the meaning, `sum-fitting` in proofs/TypeAndSumLaws says that 14 asks for a sum.
-use Rattle.std.specs.Prelude.{Bool, true, false, cond, List, ℕ, ◌+◌, eqb}
+use Rattle.std.specs.Prelude.{Bool, true, false, cond, List, ℕ, ◌+◌, eqb, None, Some}
 use Rattle.meaning.specs.declared.Refusal.{Refusal}
 use Rattle.meaning.specs.Refusals.{refusal, bad_sum}
 use Rattle.meaning.specs.Lines.{line_lead}
 use Rattle.meaning.specs.Lists.{sum_digits}
 use Rattle.meaning.specs.Answers.{no_refusal}
-use Rattle.line_read.specs.declared.Number.{Number}
-use Rattle.line_read.specs.declared.Number.TheVariants.{Is, None}
-use Rattle.line_read.specs.Number.{number_at}
+use Rattle.line_read.specs.Number.{number_at, Number}
 use Rattle.line_read.specs.Line.{sum_line}
 
 -- what line 2 writes, which stands at `at` and has n bytes: five digits
@@ -16,12 +14,12 @@ sum_written s at n = cond (eqb n sum_line) (number_at s (at + line_lead) sum_dig
 
 -- it writes a sum
 abbrev pub is_sum : Number → Bool
-is_sum (Is n) = true
+is_sum (Some n) = true
 is_sum None = false
 
 -- five digits that write the set's length
 abbrev pub sum_is : Number → ℕ → Bool
-sum_is (Is n) total = eqb n total
+sum_is (Some n) total = eqb n total
 sum_is None total = false
 
 -- 17, if line 2 stands at `at` and its content fits

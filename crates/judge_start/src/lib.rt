@@ -6,29 +6,28 @@ ghost use Rattle.std.specs.Prelude.{◌≡◌, ◌≤◌, length};
 ghost use Rattle.meaning.specs.Rules.{type_named};
 ghost use Rattle.judge_start.specs.Sum.{sum_written};
 
-use line_read::Number;
-use meaning::{Known, SetType};
+use meaning::SetType;
 
 // The set type that a content of 8000 names.
-pub fn type_of(content: &[u8]) -> Known
+pub fn type_of(content: &[u8]) -> Option<SetType>
     ensures { result ≡ type_named content.now }
 {
     if content.len() != meaning::TYPE_DIGITS {
-        return Known::Nothing;
+        return None;
     }
     match line_read::number_at(content, 0, meaning::TYPE_DIGITS) {
-        Number::Is(number) => SetType::of(number),
-        Number::None => Known::Nothing,
+        Some(number) => SetType::of(number),
+        None => None,
     }
 }
 
 // The sum that line 2 writes, which stands at an offset and has this many bytes: five digits, else 14 refuses it.
-pub fn sum_of(s: &[u8], at: usize, size: usize) -> Number
+pub fn sum_of(s: &[u8], at: usize, size: usize) -> Option<usize>
     requires { at ≤ length s.now }
     ensures { result ≡ sum_written s.now at size }
 {
     if size != line_read::SUM_LINE {
-        return Number::None;
+        return None;
     }
     line_read::number_at(s, at + meaning::LINE_LEAD, meaning::SUM_DIGITS)
 }

@@ -11,8 +11,6 @@ use lib.Seq.{drop-cons}
 use borrow.Author.Tests.{leb-true, le-leb, eqb-true, eq-eqb}
 use Rattle.meaning.specs.declared.Refusal.{Refusal}
 use Rattle.meaning.specs.declared.Shape.{Shape}
-use Rattle.meaning.specs.declared.Judged.{Judged}
-use Rattle.meaning.specs.declared.Judged.TheVariants.{Accepted, Refused}
 use Rattle.meaning.specs.declared.SetType.{SetType}
 use Rattle.meaning.specs.Limits.{type_number}
 use Rattle.meaning.specs.Digits.{digits, number, all_digits}
@@ -33,6 +31,8 @@ use Rattle.meaning.proofs.SetLaws.{Standing, read-render, Accepted as AcceptedSe
 use Rattle.keeps.specs.Keeps.{WellFormed, LinesWellFormed, StartsSet, SumIsLength, KeepsRules, Keeps, SetAtFront}
 use Rattle.keeps.proofs.TableFacts.{or_cases}
 use Rattle.keeps.proofs.RulesExact.{profile-typed, ruled-keeps, keeps-ruled}
+use Rattle.meaning.specs.Results.{Judged}
+use Rattle.std.specs.Prelude.{Err, Ok}
 
 -- ---- lines
 
@@ -176,11 +176,11 @@ shape_typed : (t : SetType) (fs : List Field) → KeepsRules t fs → shape fs �
 shape_typed t fs r =
     ap (λ (n : ℕ). record { length = size fs; lines = length fs; settype = n }) (ap (λ p. known_number p.set_type) (profile-typed t fs r.starts.1))
 
-judged-front : (s : List ℕ) (x : Shape) → judge s ≡ Accepted x → SetAtFront s x
+judged-front : (s : List ℕ) (x : Shape) → judge s ≡ Ok x → SetAtFront s x
 unfolding judge
 judged-front s x e = go (read s) refl e
   where
-    go : (r : Reply Parsed) → read s ≡ r → judged r ≡ Accepted x → SetAtFront s x
+    go : (r : Reply Parsed) → read s ≡ r → judged r ≡ Ok x → SetAtFront s x
     go (refused y) p q = refused-accepted q
     go (done d) p q =
         let k = accepted-keeps s d p in
@@ -192,26 +192,26 @@ judged-front s x e = go (read s) refl e
           shape_is = sym (accepted-same q) ∙ shape_typed k.0 d.fields k.1.rules;
         }
 
-front-judged : (s : List ℕ) (x : Shape) → SetAtFront s x → judge s ≡ Accepted x
+front-judged : (s : List ℕ) (x : Shape) → SetAtFront s x → judge s ≡ Ok x
 unfolding judge
 front-judged s x f =
     ap judged (keeps-accepted s f.set-type f.lines f.rest f.keeps)
-    ∙ ap Accepted (shape_typed f.set-type f.lines f.keeps.rules ∙ sym f.shape_is)
+    ∙ ap Ok (shape_typed f.set-type f.lines f.keeps.rules ∙ sym f.shape_is)
 
 -- a set is accepted with this shape exactly when a set of this shape stands at the front and keeps the line syntax and every rule
-pub accepted-exactly : (s : List ℕ) (x : Shape) → (judge s ≡ Accepted x) ↔ SetAtFront s x
+pub accepted-exactly : (s : List ℕ) (x : Shape) → (judge s ≡ Ok x) ↔ SetAtFront s x
 accepted-exactly s x = (judged-front s x, front-judged s x)
 
 -- and refused exactly when there is no such set
-pub refused-exactly : (s : List ℕ) → ((r : Refusal) × (judge s ≡ Refused r)) ↔ ((x : Shape) → SetAtFront s x → ⊥)
+pub refused-exactly : (s : List ℕ) → ((r : Refusal) × (judge s ≡ Err r)) ↔ ((x : Shape) → SetAtFront s x → ⊥)
 refused-exactly s = (none, some-refusal (judge s) refl)
   where
-    none : (r : Refusal) × (judge s ≡ Refused r) → (x : Shape) → SetAtFront s x → ⊥
+    none : (r : Refusal) × (judge s ≡ Err r) → (x : Shape) → SetAtFront s x → ⊥
     none r x f = refused-accepted (sym r.1 ∙ front-judged s x f)
 
-    some-refusal : (j : Judged) → judge s ≡ j → ((x : Shape) → SetAtFront s x → ⊥) → (r : Refusal) × (judge s ≡ Refused r)
-    some-refusal (Accepted x) e n = absurd (n x (judged-front s x e))
-    some-refusal (Refused r) e n = (r, e)
+    some-refusal : (j : Judged) → judge s ≡ j → ((x : Shape) → SetAtFront s x → ⊥) → (r : Refusal) × (judge s ≡ Err r)
+    some-refusal (Ok x) e n = absurd (n x (judged-front s x e))
+    some-refusal (Err r) e n = (r, e)
 
 -- the set at the front is one: its lines and what follows it
 pub one_set : (s : List ℕ) (t u : SetType) (fs gs : List Field) (a b : List ℕ) → Keeps s t fs a → Keeps s u gs b → parsed fs a ≡ parsed gs b

@@ -11,8 +11,6 @@ use lib.ListN.{length, drop, get_or, get_or-map, drop_of_length-le}
 use lib.Seq.{drop-cons}
 use borrow.Author.Tests.{eqb-true, eq-eqb}
 use Rattle.meaning.specs.declared.SetType.{SetType}
-use Rattle.meaning.specs.declared.Known.{Known}
-use Rattle.meaning.specs.declared.Known.TheVariants.{Of}
 use Rattle.meaning.specs.Limits.{type_number}
 use Rattle.meaning.specs.Digits.{digits}
 use Rattle.meaning.specs.Field.{Field, labels, no_field, label_at_line, content_at_line}
@@ -34,12 +32,14 @@ use Rattle.keeps.proofs.StateLaws.{role_behind, state_at}
 use Rattle.keeps.proofs.LabelLaws.{table_kept, groups-kept, odds-kept, none-repeated-in-set, none-repeated-in-groups, labels-fine}
 use Rattle.keeps.proofs.LackLaws.{ClearTo, clear-all, no-lack, lack-none-all, after-all, set-has, groups-have, values-have-units}
 use Rattle.keeps.proofs.LackLaws.{has-8437-with-8438, names-have-odds, set-lacks-none, groups-lack-none}
+use Rattle.meaning.specs.Results.{Known}
+use Rattle.std.specs.Prelude.{Some}
 
 -- ---- the type that line 1 names
 
 -- the profile of sets of a type
 abbrev pub typed : SetType → Profile
-typed t = record { set_type = Of t }
+typed t = record { set_type = Some t }
 
 pub profile-typed : (t : SetType) (fs : List Field) → content_at_line fs 0 ≡ digits 4 (type_number t) → profile fs ≡ typed t
 unfolding profile

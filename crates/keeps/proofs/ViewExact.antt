@@ -10,8 +10,6 @@ use native.Mathlib.Omega.{arith}
 use lib.Dec.{eqb, leb}
 use lib.ListN.{length, take, get_or, length-append}
 use borrow.Author.Tests.{eqb-true, eqb-false, eq-eqb, ne_eqb, leb-true, le-leb}
-use Rattle.meaning.specs.declared.Viewed.{Viewed}
-use Rattle.meaning.specs.declared.Viewed.TheVariants.{Sheet}
 use Rattle.meaning.specs.Field.{Field, field, no_field, label_at_line, content_at_line, is_nil}
 use Rattle.meaning.specs.Refusals.{done, then_to, verdict}
 use Rattle.meaning.specs.Entries.{entry_lead, entry_then}
@@ -31,6 +29,9 @@ use Rattle.keeps.specs.Makes.{entries_of, PendingFor, LastFor, Shown, of-sheet, 
 use Rattle.keeps.proofs.SevenExact.{has-seven, seven-has, plain_of, no-high-of}
 use Rattle.keeps.proofs.Exact.{every_of, accepted-keeps, keeps-accepted}
 use Rattle.keeps.proofs.CorrectionExact.{not-fixed, fixed-not}
+use Rattle.meaning.specs.Results.{Viewed, of_sheet}
+use Rattle.meaning.specs.declared.Shown.TheVariants.{Sheet}
+use Rattle.std.specs.Prelude.{Ok}
 
 -- ---- the last entry for a line
 
@@ -86,9 +87,9 @@ last-or-none (e ∷ es) n = go (last-or-none es n)
 -- ---- what is shown
 
 last-shown : (fs es : List Field) (n k : ℕ) → LastFor es n k
-    → shown_part fs n (latest n 0 es none) ≡ Sheet (record { place = length (entries_of (take k es)) + entry_lead; length = length (content_at_line es k) })
+    → shown_part fs n (latest n 0 es none) ≡ of_sheet (record { place = length (entries_of (take k es)) + entry_lead; length = length (content_at_line es k) })
 last-shown fs es n k h =
-    ap (shown_part fs n) (latest-last n 0 es none k h) ∙ ap (λ (p : ℕ). Sheet (record { place = p; length = length (content_at_line es k) })) (omega arith)
+    ap (shown_part fs n) (latest-last n 0 es none k h) ∙ ap (λ (p : ℕ). of_sheet (record { place = p; length = length (content_at_line es k) })) (omega arith)
 
 shown_of : (fs es : List Field) (n : ℕ) → Shown fs es n (shown_part fs n (latest n 0 es none))
 shown_of fs es n = go (last-or-none es n)

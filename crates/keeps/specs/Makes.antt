@@ -1,10 +1,8 @@
 -- What is made of a set: its index, its list, and what a view of it shows; which lists are written and which corrections are made, and what is made of them: the reasons of the paper,
 -- each by itself. Stated by the rules of Keeps. proofs/IndexExact, ListExact, WriterExact, CorrectionExact and ViewExact: exactly these are made.
-use Rattle.std.specs.Prelude.{◌≡◌, true, List, [], ◌∷◌, ◌≢◌, ◌⊎◌, ◌↔◌, ℕ, suc, pred, ◌+◌, ◌≤◌, ◌<◌, length, take, get_or}
+use Rattle.std.specs.Prelude.{◌≡◌, true, List, [], ◌∷◌, ◌≢◌, ◌⊎◌, ◌↔◌, ℕ, suc, pred, ◌+◌, ◌≤◌, ◌<◌, length, take, get_or, Ok}
 use Rattle.meaning.specs.declared.SetType.{SetType}
 use Rattle.meaning.specs.declared.Entry.{Entry}
-use Rattle.meaning.specs.declared.Viewed.{Viewed}
-use Rattle.meaning.specs.declared.Viewed.TheVariants.{Sheet, Set}
 use Rattle.meaning.specs.Limits.{max_entries, max_set_bytes}
 use Rattle.meaning.specs.Digits.{digits}
 use Rattle.meaning.specs.Field.{Field, field, no_field, label_at_line, content_at_line}
@@ -12,6 +10,8 @@ use Rattle.meaning.specs.Lines.{least_byte, line_lead, size, offset, render}
 use Rattle.meaning.specs.Entries.{entry_lead, entry_then}
 use Rattle.meaning.specs.FieldTable.{fits_label}
 use Rattle.keeps.specs.Keeps.{IsOdd, InGroup, HasSevenBits, NoHighByte, KeepsRules, Keeps}
+use Rattle.meaning.specs.Results.{Viewed, of_set, of_sheet}
+use Rattle.meaning.specs.declared.Shown.TheVariants.{Set, Sheet}
 
 -- "Content bytes are 20h to FFh.": none is under 20h; for the other end see `Keeps.NoHighByte`
 abbrev pub NoLowByte : List ℕ → Type 0
@@ -145,9 +145,9 @@ LastFor es n k = (k < length es) × (label_at_line es k ≡ n) × ((j : ℕ) →
 -- "the answer is the part of the sheet if the line has an entry there, else the part of the set"
 pub data Shown (lines es : List Field) (n : ℕ) (v : Viewed) : Type 0 where
   of-sheet : (k : ℕ) → LastFor es n k
-      → v ≡ Sheet (record { place = length (entries_of (take k es)) + entry_lead; length = length (content_at_line es k) }) → Shown lines es n v
+      → v ≡ of_sheet (record { place = length (entries_of (take k es)) + entry_lead; length = length (content_at_line es k) }) → Shown lines es n v
   of-set : ((k : ℕ) → k < length es → label_at_line es k ≢ n)
-      → v ≡ Set (record { place = offset lines (pred n) + line_lead; length = length (content_at_line lines (pred n)) }) → Shown lines es n v
+      → v ≡ of_set (record { place = offset lines (pred n) + line_lead; length = length (content_at_line lines (pred n)) }) → Shown lines es n v
 
 -- a view of line n of the set s under the sheet h shows v
 pub record Views (s h : List ℕ) (n : ℕ) (v : Viewed) : Type 0 where

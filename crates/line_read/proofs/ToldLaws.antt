@@ -14,12 +14,11 @@ use Rattle.meaning.specs.Lines.{length_digits, label_digits, line_lead, line_end
 use Rattle.meaning.proofs.Bools.{and_left, and_right, byte-then}
 use Rattle.meaning.proofs.LineLaws.{whole}
 use Rattle.byte_low.specs.Low.{first_low}
-use Rattle.line_read.specs.declared.Number.TheVariants.{Is}
-use Rattle.line_read.specs.declared.Line.TheVariants.{Read}
 use Rattle.line_read.specs.Number.{number_at}
-use Rattle.line_read.specs.Line.{must, must_read, labelled_line, sized_line, line_at}
-use Rattle.line_read.specs.Told.{three_bytes, three_zeros, four_bytes, four_zeros, told_length, told_label}
+use Rattle.line_read.specs.Line.{must, must_read, labelled_line, sized_line, line_at, a_line}
+use Rattle.line_read.specs.Told.{bytes_from, three_bytes, three_zeros, four_bytes, four_zeros, told_length, told_label}
 use Rattle.line_read.proofs.LineMeaning.{number_is, read_back}
+use Rattle.std.specs.Prelude.{Some}
 
 -- ---- the walks, by whether seven bytes stand at the offset
 
@@ -94,6 +93,14 @@ module _ (s : List ℕ) (i : ℕ) where
   four_are : i + 4 ≤ length s → all_digits (take 4 (drop i s)) ≡ true → four_bytes s i ≡ number (take 4 (drop i s)) + four_zeros
   four_are h e = rw (four-bytes h) (sym (four-so (get_or s i 0) (get_or s (i + 1) 0) (get_or s (i + 2) 0) (get_or s (i + 3) 0) (rw (four-bytes h) at e)))
 
+-- what `digits_at` makes of three bytes, and of four
+module _ (s : List ℕ) (i n : ℕ) where
+  pub three-made : i + 3 ≤ length s → n ≡ bytes_from 0 (take 3 (drop i s)) → n ≡ three_bytes s i
+  three-made h e = e ∙ rw (three-bytes s i h) (omega arith)
+
+  pub four-made : i + 4 ≤ length s → n ≡ bytes_from 0 (take 4 (drop i s)) → n ≡ four_bytes s i
+  four-made h e = e ∙ rw (four-bytes s i h) (omega arith)
+
 no-digits : (k : ℕ) → all_digits (take k []) ≡ true
 no-digits zero = refl
 no-digits (suc k) = refl
@@ -115,7 +122,7 @@ three-least s at h e = omega (arith, three-are s at (omega arith) (digits-split 
 -- ---- a line that is read
 
 -- A line that is read has seven bytes before its content. They come to its length and to its label, and to what zeros come to.
-pub read-bytes : (s : List ℕ) (at : ℕ) {l n : ℕ} → line_at s at ≡ Read l n
+pub read-bytes : (s : List ℕ) (at : ℕ) {l n : ℕ} → line_at s at ≡ a_line l n
     → (at + line_lead ≤ length s) × (three_bytes s at ≡ n + three_zeros) × (four_bytes s (at + length_digits) ≡ l + four_zeros)
 read-bytes s at {l} {n} e =
     let r = read_back s at e in
@@ -126,7 +133,7 @@ read-bytes s at {l} {n} e =
     (k, omega (arith, three-are s at (omega arith) w.three, r.size-so), omega (arith, four_are s (at + 3) (omega arith) four, label))
 
 -- It says the length of its content and its label.
-pub read_told : (s : List ℕ) (at : ℕ) {l n : ℕ} → line_at s at ≡ Read l n → (told_length s at ≡ n - (line_lead + line_end)) × (told_label s at ≡ l)
+pub read_told : (s : List ℕ) (at : ℕ) {l n : ℕ} → line_at s at ≡ a_line l n → (told_length s at ≡ n - (line_lead + line_end)) × (told_label s at ≡ l)
 read_told s at {l} {n} e =
     let b = read-bytes s at e in
     (omega (arith, length-told s at b.0 _ refl, b.1), omega (arith, label-told s at b.0 _ refl, b.2))
@@ -136,8 +143,8 @@ read_told s at {l} {n} e =
 module _ (s : List ℕ) (at : ℕ) where
   -- the rest of 2, then 3, 4, 5, 6
   sized-sound : (n l : ℕ) → min_line_bytes ≤ n → at + n ≤ length s → get_or s (at + (n - 2)) 0 ≡ cr → get_or s (at + (n - 1)) 0 ≡ lf
-      → number_at s (at + length_digits) label_digits ≡ Is l → first_low s (at + line_lead) (n - (line_lead + line_end)) ≡ at + line_lead + (n - (line_lead + line_end))
-      → sized_line s at n ≡ Read l n
+      → number_at s (at + length_digits) label_digits ≡ Some l → first_low s (at + line_lead) (n - (line_lead + line_end)) ≡ at + line_lead + (n - (line_lead + line_end))
+      → sized_line s at n ≡ a_line l n
   unfolding sized_line labelled_line must must_read
   sized-sound n l h g c f e q =
       let k : ℕ = at + line_lead + (n - (line_lead + line_end)) in
@@ -155,7 +162,7 @@ module _ (s : List ℕ) (at : ℕ) where
   pub line-sound : (n end : ℕ) → n ≡ three_bytes s at - three_zeros → min_line_bytes ≤ n → at + n ≤ length s → end + line_end ≡ at + n
       → all_digits (take line_lead (drop at s)) ≡ true → first_low s (at + line_lead) (end - (at + line_lead)) ≡ end
       → get_or s end 0 ≡ cr → get_or s (end + 1) 0 ≡ lf
-      → line_at s at ≡ Read (four_bytes s (at + length_digits) - four_zeros) n
+      → line_at s at ≡ a_line (four_bytes s (at + length_digits) - four_zeros) n
   unfolding line_at must_read
   line-sound n end e least within q seven clean c f =
       let l : ℕ = four_bytes s (at + 3) - four_zeros in
@@ -163,9 +170,9 @@ module _ (s : List ℕ) (at : ℕ) where
       let four : all_digits (take 4 (drop (at + 3) s)) ≡ true = rw (drop-drop 3 at s) at d.1 in
       let size-so : number (take 3 (drop at s)) ≡ n = omega (arith, three-are s at (omega arith) d.0) in
       let label-so : number (take 4 (drop (at + 3) s)) ≡ l = omega (arith, four_are s (at + 3) (omega arith) four) in
-      let size : number_at s at 3 ≡ Is n =
+      let size : number_at s at 3 ≡ Some n =
       number_is s at 3 (omega arith) (omega arith) ∙ rw (le-leb 3 (length (drop at s)) (omega (arith, length-drop at s)), d.0, size-so) in
-      let label : number_at s (at + 3) 4 ≡ Is l =
+      let label : number_at s (at + 3) 4 ≡ Some l =
       number_is s (at + 3) 4 (omega arith) (omega arith) ∙ rw (le-leb 4 (length (drop (at + 3) s)) (omega (arith, length-drop (at + 3) s)), four, label-so) in
       let i : at + (n - 2) ≡ end = omega arith in
       let j : at + (n - 1) ≡ end + 1 = omega arith in

@@ -1,8 +1,13 @@
 -- The walks of `told_length` and `told_label`: what the bytes of a line that was read before say, without a test of its digits, its end or its content.
 -- What they are for a line that is read is `read_told` in proofs/ToldLaws.
-use Rattle.std.specs.Prelude.{cond, List, ℕ, ◌+◌, ◌-◌, ◌*◌, length, get_or, leb}
+use Rattle.std.specs.Prelude.{cond, List, [], ◌∷◌, ℕ, ◌+◌, ◌-◌, ◌*◌, length, get_or, leb}
 use Rattle.meaning.specs.Digits.{digit_zero}
 use Rattle.meaning.specs.Lines.{length_digits, line_lead, line_end}
+
+-- what bytes come to after a number, each times the value of its digit
+abbrev pub bytes_from : ℕ → List ℕ → ℕ
+bytes_from n [] = n
+bytes_from n (b ∷ bs) = bytes_from (n * 10 + b) bs
 
 -- three bytes at an offset, each times the value of its digit, and what `000` comes to
 abbrev pub three_bytes : List ℕ → ℕ → ℕ

@@ -3,19 +3,15 @@
 // walk of specs/, and proofs/LineMeaning and proofs/ToldLaws say what the walks mean.
 #![tactic(auto)]
 
-ghost use Rattle.std.specs.Prelude.{◌≡◌, true, ◌+◌, ◌-◌, ◌*◌, ◌≤◌, ◌<◌, length, take, drop};
+ghost use Rattle.std.specs.Prelude.{◌≡◌, true, ◌+◌, ◌-◌, ◌*◌, ◌^◌, ◌≤◌, ◌<◌, length, take, drop, leb, eqb, ◌&&◌, Err};
 ghost use Rattle.meaning.specs.Digits.{digit, all_digits};
 ghost use Rattle.meaning.specs.Refusals.{refusal};
 ghost use Rattle.meaning.specs.Lines.{length_digits, label_digits, line_lead, min_line_bytes, cr, lf};
-ghost use Rattle.line_read.specs.declared.Line.TheVariants.{Read};
 ghost use Rattle.line_read.specs.Number.{number_at};
-ghost use Rattle.line_read.specs.Line.{labelled_line, sized_line, line_at};
-ghost use Rattle.line_read.specs.Told.{three_bytes, three_zeros, four_bytes, four_zeros, told_length, told_label};
+ghost use Rattle.line_read.specs.Line.{labelled_line, sized_line, line_at, a_line};
+ghost use Rattle.line_read.specs.Told.{bytes_from, three_bytes, three_zeros, four_bytes, four_zeros, told_length, told_label};
 
 use meaning::{CR, LABEL_DIGITS, LENGTH_DIGITS, LF, LINE_END, LINE_FRAME, LINE_LEAD, Refusal};
-
-// Both as one number, the first byte the lower.
-const CR_LF: usize = CR as usize + LF as usize * meaning::BYTE_VALUES;
 
 // "Content has 1 byte or more, so lengths run 010 to 999."
 const MIN_LINE_BYTES: usize = LINE_FRAME + 1;
@@ -31,65 +27,54 @@ const FOUR_ZEROS: usize = meaning::DIGIT_ZERO as usize * 1111;
 // This many digits write no number that is too large for a usize.
 const MOST_DIGITS: usize = 9;
 
-// What the bytes of a number write.
+// A line that keeps 2 to 6: its label and its whole length.
 #[derive(Drop)]
-pub enum Number {
-    // They are digits, and this is their number.
-    Is(usize),
-    // One of them is no digit, they are not all there, or they are too many.
-    None,
+pub struct Line {
+    pub label: usize,
+    pub size: usize,
 }
 
-// What reading one line finds.
-#[derive(Drop)]
-pub enum Line {
-    // The line keeps 2 to 6: its label and its whole length.
-    Read { label: usize, size: usize },
-    // The first of 2 to 6 that it breaks.
-    Refused(Refusal),
-}
-
-// The number that the k bytes at an offset write, for k up to nine.
-pub fn number_at(s: &[u8], at: usize, k: usize) -> Number
+// The number that the k bytes at an offset write, for k up to nine: none if one of them is no digit, they are not all there, or they are too many.
+pub fn number_at(s: &[u8], at: usize, k: usize) -> Option<usize>
     ensures { result ≡ number_at s.now at k }
 {
     if MOST_DIGITS < k {
-        return Number::None;
+        return None;
     }
-    if s.len() < at {
-        return Number::None;
-    }
-    if s.len() - at < k {
-        return Number::None;
-    }
-    let end = at + k;
-    let mut i = at;
+    let Some(rest) = s.get(at..) else {
+        return None;
+    };
+    let Some(bytes) = rest.get(..k) else {
+        return None;
+    };
     let mut number: usize = 0;
-    while i < end {
-        let b = s[i];
-        if b < meaning::DIGIT_ZERO {
-            return Number::None;
+    for b in bytes {
+        if !b.is_ascii_digit() {
+            return None;
         }
-        if meaning::DIGIT_NINE < b {
-            return Number::None;
-        }
-        number = number * 10 + (b as usize - meaning::DIGIT_ZERO as usize);
-        i += 1;
+        number = number * 10 + usize::from(*b - meaning::DIGIT_ZERO);
     }
-    Number::Is(number)
+    Some(number)
 }
 
 // ---- one line, rule by rule
 
 // A refusal of a line: "the label 0, unless said otherwise".
-fn refused(no: usize, place: usize) -> Line
-    ensures { result ≡ Line.Refused (refusal no place 0) }
+fn refused(no: usize, place: usize) -> Result<Line, Refusal>
+    ensures { result ≡ Err (refusal no place 0) }
 {
-    Line::Refused(Refusal::at(no, place))
+    Err(Refusal::at(no, place))
+}
+
+// Two bytes are the end of a line, asked at once.
+fn line_ends(a: u8, b: u8) -> bool
+    ensures { result ≡ eqb a cr && eqb b lf }
+{
+    u16::from_le_bytes([a, b]) == u16::from_le_bytes([CR, LF])
 }
 
 // The line at an offset whose length and label are read.
-fn labelled_line(s: &[u8], at: usize, size: usize, label: usize) -> Line
+fn labelled_line(s: &[u8], at: usize, size: usize, label: usize) -> Result<Line, Refusal>
     requires { (min_line_bytes ≤ size) × (at + size ≤ length s.now) }
     ensures { result ≡ labelled_line s.now at size label }
 {
@@ -100,11 +85,11 @@ fn labelled_line(s: &[u8], at: usize, size: usize, label: usize) -> Line
     if low < content + k {
         return refused(Refusal::BAD_BYTE, low);
     }
-    Line::Read { label, size }
+    Ok(Line { label, size })
 }
 
 // The line at an offset whose length is read.
-fn sized_line(s: &[u8], at: usize, size: usize) -> Line
+fn sized_line(s: &[u8], at: usize, size: usize) -> Result<Line, Refusal>
     requires { at ≤ length s.now }
     ensures { result ≡ sized_line s.now at size }
 {
@@ -117,73 +102,58 @@ fn sized_line(s: &[u8], at: usize, size: usize) -> Line
         return refused(Refusal::CUT_LINE, at);
     }
     // 4, BadEnd: "last two bytes are not 0Dh 0Ah"
-    if s[at + (size - LINE_END)] != CR {
-        return refused(Refusal::BAD_END, at);
-    }
-    if s[at + (size - 1)] != LF {
+    if !line_ends(s[at + (size - LINE_END)], s[at + (size - 1)]) {
         return refused(Refusal::BAD_END, at);
     }
     // 5, BadLabel: "label not four digits"
     match number_at(s, at + LENGTH_DIGITS, LABEL_DIGITS) {
-        Number::Is(label) => labelled_line(s, at, size, label),
-        Number::None => refused(Refusal::BAD_LABEL, at),
+        Some(label) => labelled_line(s, at, size, label),
+        None => refused(Refusal::BAD_LABEL, at),
     }
 }
 
 // The line at an offset: "each by .. 2, 3, 4, 5, 6".
-pub fn line_at(s: &[u8], at: usize) -> Line
+#[inline(always)]
+pub fn line_at(s: &[u8], at: usize) -> Result<Line, Refusal>
     ensures { result ≡ line_at s.now at }
 {
     // 2, BadLength: "under three bytes remain, not digits"
     match number_at(s, at, LENGTH_DIGITS) {
-        Number::Is(size) => sized_line(s, at, size),
-        Number::None => refused(Refusal::BAD_LENGTH, at),
+        Some(size) => sized_line(s, at, size),
+        None => refused(Refusal::BAD_LENGTH, at),
     }
 }
 
 // ---- what a line says that was read before: its bytes are taken as digits, and nothing is tested
 
-// Three bytes, each times the value of its digit.
-fn three_bytes(a: u8, b: u8, c: u8) -> usize
-    ensures { (result ≡ a * 100 + b * 10 + c) × (result < 65536) }
+// N bytes at an offset, each times the value of its digit.
+fn digits_at<const N: usize>(s: &[u8], at: usize) -> usize
+    requires { (N ≤ label_digits) × (at + N ≤ length s.now) }
+    ensures { (result ≡ bytes_from 0 (take N (drop at s.now))) × (result * 9 < 256 * 10 ^ N) }
 {
-    a as usize * 100 + b as usize * 10 + c as usize
+    let mut number: usize = 0;
+    for b in &s[at..at + N] {
+        number = number * 10 + usize::from(*b);
+    }
+    number
 }
 
-// Four bytes, each times the value of its digit.
-fn four_bytes(a: u8, b: u8, c: u8, d: u8) -> usize
-    ensures { result ≡ a * 1000 + b * 100 + c * 10 + d }
+// The bytes before the content stand at an offset. Two tests, since no difference may be under 0.
+pub fn has_lead(s: &[u8], at: usize) -> bool
+    ensures { result ≡ leb (at + line_lead) (length s.now) }
 {
-    a as usize * 1000 + b as usize * 100 + c as usize * 10 + d as usize
-}
-
-// The three bytes at an offset.
-fn three_at(s: &[u8], at: usize) -> usize
-    requires { at + length_digits ≤ length s.now }
-    ensures { (result ≡ three_bytes s.now at) × (result < 65536) }
-{
-    three_bytes(s[at], s[at + 1], s[at + 2])
-}
-
-// The four bytes at an offset.
-fn four_at(s: &[u8], at: usize) -> usize
-    requires { at + label_digits ≤ length s.now }
-    ensures { result ≡ four_bytes s.now at }
-{
-    four_bytes(s[at], s[at + 1], s[at + 2], s[at + 3])
+    LINE_LEAD <= s.len() && at <= s.len() - LINE_LEAD
 }
 
 // The length of the content that the line at an offset says in its first three bytes; 0 if it says none.
 pub fn told_length(s: &[u8], at: usize) -> usize
     ensures { (result ≡ told_length s.now at) × (result < 65536) }
 {
-    if s.len() < LINE_LEAD {
+    if !has_lead(s, at) {
         return 0;
     }
-    if s.len() - LINE_LEAD < at {
-        return 0;
-    }
-    let n = three_at(s, at);
+    let n = digits_at::<LENGTH_DIGITS>(s, at);
+    // A test of its own: a saturating subtraction takes an instruction more for each line.
     if n < THREE_ZEROS + LINE_FRAME {
         return 0;
     }
@@ -194,13 +164,10 @@ pub fn told_length(s: &[u8], at: usize) -> usize
 pub fn told_label(s: &[u8], at: usize) -> usize
     ensures { result ≡ told_label s.now at }
 {
-    if s.len() < LINE_LEAD {
+    if !has_lead(s, at) {
         return 0;
     }
-    if s.len() - LINE_LEAD < at {
-        return 0;
-    }
-    let n = four_at(s, at + LENGTH_DIGITS);
+    let n = digits_at::<LABEL_DIGITS>(s, at + LENGTH_DIGITS);
     if n < FOUR_ZEROS {
         return 0;
     }
@@ -214,7 +181,7 @@ pub fn size_at(s: &[u8], at: usize) -> usize
     requires { (at + length_digits ≤ length s.now) × (three_zeros ≤ three_bytes s.now at) }
     ensures { (result ≡ three_bytes s.now at - three_zeros) × (result < 65536) }
 {
-    let bytes = three_at(s, at) as u32;
+    let bytes = digits_at::<LENGTH_DIGITS>(s, at) as u32;
     (bytes - THREE_ZEROS as u32) as usize
 }
 
@@ -223,7 +190,7 @@ pub fn label_at(s: &[u8], at: usize) -> usize
     requires { (at + line_lead ≤ length s.now) × (four_zeros ≤ four_bytes s.now (at + length_digits)) }
     ensures { result ≡ four_bytes s.now (at + length_digits) - four_zeros }
 {
-    four_at(s, at + LENGTH_DIGITS) - FOUR_ZEROS
+    digits_at::<LABEL_DIGITS>(s, at + LENGTH_DIGITS) - FOUR_ZEROS
 }
 
 // ---- one line of many
@@ -235,27 +202,17 @@ fn usual_lead(s: &[u8], at: usize) -> bool
     ensures { result ≡ true → all_digits (take line_lead (drop at s.now)) ≡ true }
 {
     let before = s[at - 1];
-    let mut i: usize = 0;
     let mut fit = (LF - 1 <= before) & (before <= LF);
-    while i < LINE_LEAD {
-        let b = s[at + i];
-        fit &= (meaning::DIGIT_ZERO <= b) & (b <= meaning::DIGIT_NINE);
-        i += 1;
+    for b in &s[at..at + LINE_LEAD] {
+        fit &= (meaning::DIGIT_ZERO <= *b) & (*b <= meaning::DIGIT_NINE);
     }
     fit
-}
-
-// Two bytes are the end of a line, asked at once.
-fn line_ends(a: u8, b: u8) -> bool
-    ensures { result ≡ true → (a ≡ cr) × (b ≡ lf) }
-{
-    a as usize + b as usize * meaning::BYTE_VALUES == CR_LF
 }
 
 // The line at an offset keeps 2 to 6: it starts with digits, these say where it ends, and then the rest is tested. After `false` nothing is said of the line. One loop alone
 // calls it, so that it becomes a part of that loop.
 pub fn sound_at(s: &[u8], at: usize) -> bool
-    ensures { result ≡ true → line_at s.now at ≡ Read (four_bytes s.now (at + length_digits) - four_zeros) (three_bytes s.now at - three_zeros) }
+    ensures { result ≡ true → line_at s.now at ≡ a_line (four_bytes s.now (at + length_digits) - four_zeros) (three_bytes s.now at - three_zeros) }
 {
     if at < 1 {
         return false;

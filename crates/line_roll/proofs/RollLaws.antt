@@ -11,7 +11,6 @@ use lib.Dec.{eqb}
 use lib.ListN.{length, get_or, set, drop}
 use lib.Seq.{drop-cons, get_or-set_same, get_or-set_other}
 use Rattle.meaning.specs.declared.Shape.{Shape}
-use Rattle.meaning.specs.declared.Judged.TheVariants.{Accepted}
 use Rattle.meaning.specs.Limits.{max_lines}
 use Rattle.meaning.specs.Field.{Field, no_field, label_at_line}
 use Rattle.meaning.specs.Refusals.{done}
@@ -25,42 +24,42 @@ use Rattle.meaning.proofs.SetLaws.{accepted}
 use Rattle.meaning.proofs.Demands.{judge-read}
 use Rattle.line_read.proofs.LineMeaning.{read-line, read_back}
 use Rattle.line_read.proofs.ToldLaws.{length-told, told-there, read_told}
-use Rattle.line_read.specs.Line.{line_at}
-use Rattle.line_read.specs.declared.Line.TheVariants.{Read}
+use Rattle.line_read.specs.Line.{line_at, a_line}
 use Rattle.line_read.specs.Told.{three_bytes, three_zeros, told_length, told_label}
-use Rattle.line_roll.specs.Rolled.{line_start, label_values, Lined, no_roll, Rolled}
+use Rattle.line_roll.specs.Rolled.{line_start, label_values, Lined}
+use Rattle.std.specs.Prelude.{Ok}
 
 -- ---- one label more
 
-pub rolled-none : (s ls : List ℕ) → Rolled s ls no_roll
-unfolding line_start
-rolled-none s ls = record { at-so = refl; labels-so = λ k h. absurd (omega arith) }
-
-module _ (s ls : List ℕ) (n at : ℕ) (r : Rolled s ls (record { known = n; at = at })) where
-  pub rolled-next : (l : ℕ) → l ≡ told_label s at → (m : ℕ) → m ≡ told_length s at + (line_lead + line_end) → n < length ls
-      → Rolled s (set ls n l) (record { known = n + 1; at = at + m })
+-- the labels ls of the first n lines, of which the next one starts at `at`
+module _ (s ls : List ℕ) (n at : ℕ) (here : at ≡ line_start s n) where
+  pub start-next : (m : ℕ) → m ≡ told_length s at + (line_lead + line_end) → at + m ≡ line_start s (n + 1)
   unfolding line_start
-  rolled-next l p m q h = record { at-so = rw (add-one, q, r.at-so); labels-so = λ k g. go k g (eqb k n) refl }
+  start-next m q = rw (add-one, q, here)
+
+  pub labels-next : ((k : ℕ) → k < n → get_or ls k 0 ≡ told_label s (line_start s k)) → (l : ℕ) → l ≡ told_label s at → n < length ls
+      → (k : ℕ) → k < n + 1 → get_or (set ls n l) k 0 ≡ told_label s (line_start s k)
+  labels-next before l p h k g = go (eqb k n) refl
     where
-      go : (k : ℕ) → k < n + 1 → (b : Bool) → eqb k n ≡ b → get_or (set ls n l) k 0 ≡ told_label s (line_start s k)
-      go k g true e =
+      go : (b : Bool) → eqb k n ≡ b → get_or (set ls n l) k 0 ≡ told_label s (line_start s k)
+      go true e =
           let i : k ≡ n = eqb-true k n e in
-          rw (i, get_or-set_same ls n l 0 h, p, r.at-so)
-      go k g false e =
+          rw (i, get_or-set_same ls n l 0 h, p, here)
+      go false e =
           let i : k ≢ n = eqb-false k n e in
-          get_or-set_other ls n k l 0 i ∙ r.labels-so k (omega arith)
+          get_or-set_other ls n k l 0 i ∙ before k (omega arith)
 
   -- the next line, if it is one of the first lines of the set
   module _ (lines : ℕ) (d : Lined s lines) (h : n < lines) where
     pub next-labelled : told_label s at < label_values
-    next-labelled = rw r.at-so (d.labelled n h)
+    next-labelled = rw here (d.labelled n h)
 
     pub next-within : at + (told_length s at + (line_lead + line_end)) ≤ length s
     unfolding line_start
-    next-within = rw r.at-so (d.within n h)
+    next-within = rw here (d.within n h)
 
     next-sized : told_length s at ≢ 0
-    next-sized = rw r.at-so (d.sized n h)
+    next-sized = rw here (d.sized n h)
 
     -- its three digits say its whole length
     pub next-there : at + line_lead ≤ length s
@@ -94,7 +93,7 @@ module _ (s : List ℕ) (d : Parsed) (e : read s ≡ done d) where
   sound-at k h = every-at Sound fs k no_field h (accepted s d e).standing.sound
 
   -- the line at its offset is read
-  line_read : (k : ℕ) → k < length fs → line_at s (offset fs k) ≡ Read (label_at_line fs k) (line_size (get_or fs k no_field))
+  line_read : (k : ℕ) → k < length fs → line_at s (offset fs k) ≡ a_line (label_at_line fs k) (line_size (get_or fs k no_field))
   line_read k h =
       let w : drop (offset fs k) s ≡ line_then (get_or fs k no_field) (render (drop (suc k) fs) d.rest) =
       ap (drop (offset fs k)) (accepted s d e).bytes
@@ -124,7 +123,7 @@ module _ (s : List ℕ) (d : Parsed) (e : read s ≡ done d) where
   }
 
 -- so the lines of a set that is judged good, of which there are at most 512
-pub judged-lined : (s : List ℕ) (x : Shape) → judge s ≡ Accepted x → Lined s x.lines × (x.lines ≤ max_lines)
+pub judged-lined : (s : List ℕ) (x : Shape) → judge s ≡ Ok x → Lined s x.lines × (x.lines ≤ max_lines)
 judged-lined s x j =
     let d = judge-read s x j in
     rw (ap (λ (y : Shape). y.lines) d.2) (set-lined s d.0 d.1, (accepted s d.0 d.1).standing.few)

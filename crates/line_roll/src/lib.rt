@@ -3,53 +3,61 @@
 // proofs/RollLaws says what holds of an accepted set.
 #![tactic(auto)]
 
-ghost use Rattle.std.specs.Prelude.{◌≡◌, ◌-◌, ◌≤◌, length, get_or};
-ghost use Rattle.line_roll.specs.Rolled.{no_roll, Lined, Rolled};
+ghost use Rattle.std.specs.Prelude.{◌≡◌, ℕ, ◌-◌, ◌≤◌, ◌<◌, slice_index};
+ghost use Rattle.meaning.specs.Limits.{max_lines};
+ghost use Rattle.line_read.specs.Told.{told_label};
+ghost use Rattle.line_roll.specs.Rolled.{line_start, Lined};
 
-// How far the roll is read: this many labels are known, and the line after theirs stands at this offset.
+use meaning::SetType;
+
+// The labels of the first lines of a set, in order.
 #[derive(Drop)]
-pub struct Roll {
+pub struct Roll<'a> {
+    pub set: &'a [u8],
+    labels: [u16; SetType::LINES],
+    // This many labels are known, and the line after theirs stands at this offset.
     pub known: usize,
-    pub at: usize,
+    at: usize,
+    ghost few: { known ≤ max_lines },
+    ghost at_start: { at ≡ line_start set.now known },
+    ghost labelled: { (k : ℕ) → k < known → slice_index labels k ≡ told_label set.now (line_start set.now k) },
 }
 
-impl Roll {
+impl<'a> Roll<'a> {
     // No label is known.
-    pub fn none() -> Roll
-        ensures { result ≡ no_roll }
+    pub fn of(set: &'a [u8]) -> Roll<'a>
+        ensures { result.set.now ≡ set.now }
     {
-        Roll { known: 0, at: 0 }
+        Roll {
+            set,
+            labels: [0; SetType::LINES],
+            known: 0,
+            at: 0,
+        }
     }
-}
 
-// Reads on until the labels of this many lines are known.
-pub fn read_to(set: &[u8], labels: &mut [u16], roll: Roll, lines: usize) -> Roll
-    requires lined { Lined set.now lines }
-    requires rolled { Rolled set.now labels.old roll }
-    requires room { lines ≤ length labels.old }
-    ensures { Rolled set.now labels.new result × (lines ≤ result.known) }
-{
-    let mut known = roll.known;
-    let mut at = roll.at;
-    while known < lines {
-        labels[known] = line_read::told_label(set, at) as u16;
-        at += line_read::size_at(set, at);
-        known += 1;
+    // Reads on until the labels of this many lines are known.
+    pub fn read_to(&mut self, lines: usize)
+        requires lined { Lined self.old.set.now lines }
+        requires room { lines ≤ max_lines }
+        ensures { (self.new.set.now ≡ self.old.set.now) × (lines ≤ self.new.known) }
+    {
+        let mut at = self.at;
+        for line in self.known..lines {
+            self.labels[line] = line_read::told_label(self.set, at) as u16;
+            at += line_read::size_at(self.set, at);
+        }
+        if self.known < lines {
+            self.known = lines;
+            self.at = at;
+        }
     }
-    Roll { known, at }
-}
 
-// A label as a number.
-fn wide(label: u16) -> usize
-    ensures { result ≡ label }
-{
-    label as usize
-}
-
-// The label of the line with this number.
-pub fn label_of(labels: &[u16], line: usize) -> usize
-    requires { (1 ≤ line) × (line ≤ length labels.now) }
-    ensures { result ≡ get_or labels.now (line - 1) 0 }
-{
-    wide(labels[line - 1])
+    // The label of the line with this number.
+    pub fn label_of(&self, line: usize) -> usize
+        requires { (1 ≤ line) × (line ≤ self.now.known) }
+        ensures { result ≡ told_label self.now.set.now (line_start self.now.set.now (line - 1)) }
+    {
+        usize::from(self.labels[line - 1])
+    }
 }

@@ -19,16 +19,13 @@ use Rattle.meaning.specs.Reading.{scan}
 use Rattle.meaning.proofs.Bools.{and_left, and_right, end_is}
 use Rattle.meaning.proofs.DigitLaws.{digits_number}
 use Rattle.meaning.proofs.LineLaws.{whole, size_back}
-use Rattle.line_read.specs.declared.Number.TheVariants.{Is}
-use Rattle.line_read.specs.declared.Line.TheVariants.{Read}
 use Rattle.line_read.specs.Number.{number_at}
-use Rattle.line_read.specs.Line.{line_at}
+use Rattle.line_read.specs.Line.{line_at, a_line}
 use Rattle.line_read.proofs.LineWalkLaws.{number-within}
 use Rattle.line_read.proofs.LineMeaning.{as_number, number_is, line_by_faults, line-is, label-read}
-use Rattle.line_scan.specs.declared.Scan.{Scan}
-use Rattle.line_scan.specs.declared.Scan.TheVariants.{Done}
-use Rattle.line_scan.specs.Scan.{reads8000, ends_at, scan_after, scan_from, scan_set}
+use Rattle.line_scan.specs.Scan.{reads8000, ends_at, scan_after, scan_from, scan_set, Scanned, scanned}
 use Rattle.line_scan.proofs.ScanWalkLaws.{test-same}
+use Rattle.std.specs.Prelude.{Ok, Err, Some}
 
 -- ---- where a set ends
 
@@ -79,7 +76,7 @@ ends_is s at =
     (ap (λ (b : Bool). is_nil (drop at s) || b) (starts_is (drop at s)))
 
 -- once the bytes of a label are read, the set ends there exactly if they write 8000
-pub ends_label : (s : List ℕ) (at : ℕ) {l : ℕ} → number_at s (at + length_digits) label_digits ≡ Is l → ends_at s at ≡ eqb l 8000
+pub ends_label : (s : List ℕ) (at : ℕ) {l : ℕ} → number_at s (at + length_digits) label_digits ≡ Some l → ends_at s at ≡ eqb l 8000
 ends_label s at {l} q =
     let d : List ℕ = drop at s in
     let h : line_lead ≤ length d = omega (arith, number-within s (at + length_digits) label_digits q, length-drop at s) in
@@ -88,7 +85,7 @@ ends_label s at {l} q =
     ends_is s at ∙ (over d h b.0 ∙ ap (λ (x : ℕ). eqb x 8000) b.1)
   where
     -- what a number that was read says
-    back : (a b : Bool) (n : ℕ) → as_number (a && b) n ≡ Is l → (b ≡ true) × (n ≡ l)
+    back : (a b : Bool) (n : ℕ) → as_number (a && b) n ≡ Some l → (b ≡ true) × (n ≡ l)
     back true true n e = (refl, cc)
     back true false n e = let z : ◌≡◌ {A = ℕ} 0 1 = cc in absurd (omega arith)
     back false b n e = let z : ◌≡◌ {A = ℕ} 0 1 = cc in absurd (omega arith)
@@ -98,20 +95,32 @@ ends_label s at {l} q =
     over (b ∷ d) h f = rw (le-leb line_lead (length (b ∷ d)) h, f)
 
 -- so a line that is read starts another set if its label is 8000
-pub ends_read : (s : List ℕ) (at : ℕ) {l n : ℕ} → line_at s at ≡ Read l n → ends_at s at ≡ eqb l 8000
+pub ends_read : (s : List ℕ) (at : ℕ) {l n : ℕ} → line_at s at ≡ a_line l n → ends_at s at ≡ eqb l 8000
 ends_read s at q = ends_label s at (label-read s at q)
 
 -- ---- all lines
 
+-- what two scans say that are the same
+abbrev length_of : Scanned → ℕ
+length_of (Ok scan) = scan.length
+length_of (Err r) = 0
+
+abbrev lines_of : Scanned → ℕ
+lines_of (Ok scan) = scan.lines
+lines_of (Err r) = 0
+
+pub same-scan : {n k m j : ℕ} → scanned n k ≡ scanned m j → (n ≡ m) × (k ≡ j)
+same-scan e = (ap length_of e, ap lines_of e)
+
 -- what `scan_set` says of a scan: "the set's length" and its lines, or the refusal
-abbrev pub scan_summary : Reply Parsed → Scan
-scan_summary (refused r) = Scan.Refused r
-scan_summary (done d) = Done (size d.fields) (length d.fields)
+abbrev pub scan_summary : Reply Parsed → Scanned
+scan_summary (refused r) = Err r
+scan_summary (done d) = scanned (size d.fields) (length d.fields)
 
 -- the same of a scan that began at an offset, with n lines before it
-abbrev scan_summary_from : ℕ → ℕ → Reply Parsed → Scan
-scan_summary_from at n (refused r) = Scan.Refused r
-scan_summary_from at n (done d) = Done (at + size d.fields) (n + length d.fields)
+abbrev scan_summary_from : ℕ → ℕ → Reply Parsed → Scanned
+scan_summary_from at n (refused r) = Err r
+scan_summary_from at n (done d) = scanned (at + size d.fields) (n + length d.fields)
 
 summary-first : (r : Reply Parsed) → scan_summary_from 0 0 r ≡ scan_summary r
 summary-first (refused r) = refl
@@ -125,7 +134,7 @@ summary-before at n m f (done d) e =
     rw (p, q)
 
 -- one line, and then what is known of those after it
-line-then : (s : List ℕ) (at n : ℕ) (k : ℕ → List ℕ → Reply Parsed) (f : ℕ → Scan)
+line-then : (s : List ℕ) (at n : ℕ) (k : ℕ → List ℕ → Reply Parsed) (f : ℕ → Scanned)
     → ((m : ℕ) → f m ≡ scan_summary_from (at + m) (n + 1) (k (at + m) (drop (at + m) s)))
     → scan_after (line_at s at) f ≡ scan_summary_from at n (piece_then line_form (line_faults (drop at s)) at (drop at s) k)
 line-then s at n k f h = rw (line-is s at) (go (line_faults (drop at s)) refl)
@@ -133,14 +142,14 @@ line-then s at n k f h = rw (line-is s at) (go (line_faults (drop at s)) refl)
     d : List ℕ
     d = drop at s
 
-    go : (xs : List Fault) → line_faults d ≡ xs → scan_after (line_by_faults at xs (Read (label_at d) (size_at d))) f ≡ scan_summary_from at n (piece_then line_form xs at d k)
+    go : (xs : List Fault) → line_faults d ≡ xs → scan_after (line_by_faults at xs (a_line (label_at d) (size_at d))) f ≡ scan_summary_from at n (piece_then line_form xs at d k)
     go [] e =
         h (size_at d)
         ∙ rw (← drop-drop (size_at d) at s) (summary-before at n (size_at d) (field_at d) (k (at + size_at d) (drop (size_at d) d)) (size_back d (whole d e)))
     go (x ∷ xs) e = refl
 
-ends-or : (b : Bool) (at n : ℕ) (t : List ℕ) (x : Scan) (y : Reply Parsed) → x ≡ scan_summary_from at n y
-    → cond b (Done at n) x ≡ scan_summary_from at n (cond b (done (parsed [] t)) y)
+ends-or : (b : Bool) (at n : ℕ) (t : List ℕ) (x : Scanned) (y : Reply Parsed) → x ≡ scan_summary_from at n y
+    → cond b (scanned at n) x ≡ scan_summary_from at n (cond b (done (parsed [] t)) y)
 ends-or true at n t x y e = rw (add-zero at, add-zero n)
 ends-or false at n t x y e = e
 

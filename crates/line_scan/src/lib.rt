@@ -8,16 +8,13 @@ ghost use Rattle.meaning.specs.Limits.{max_lines};
 ghost use Rattle.meaning.specs.Lines.{label_digits};
 ghost use Rattle.line_scan.specs.Scan.{reads8000, ends_at, scan_from, GoesOn};
 
-use line_read::Line;
 use meaning::{Refusal, SetType};
 
-// What scanning the lines of a set finds.
+// A set whose lines all keep their rules: its length in bytes, and its lines.
 #[derive(Drop)]
-pub enum Scan {
-    // All lines keep their rules: the set's length in bytes, and its lines.
-    Done { length: usize, lines: usize },
-    // The first rule that is broken.
-    Refused(Refusal),
+pub struct Scan {
+    pub length: usize,
+    pub lines: usize,
 }
 
 // The four bytes at an offset read `8000`.
@@ -25,16 +22,8 @@ fn reads_8000(s: &[u8], i: usize) -> bool
     requires { i + label_digits ≤ length s.now }
     ensures { result ≡ reads8000 s.now i }
 {
-    if s[i] != b'8' {
-        return false;
-    }
-    if s[i + 1] != b'0' {
-        return false;
-    }
-    if s[i + 2] != b'0' {
-        return false;
-    }
-    s[i + 3] == b'0'
+    // As one number: a comparison of slices takes more instructions for a label that begins with 8.
+    u32::from_le_bytes([s[i], s[i + 1], s[i + 2], s[i + 3]]) == u32::from_le_bytes(*b"8000")
 }
 
 // The set ends before an offset: at the end of the input, or if "seven or more bytes remain and bytes four to seven read `8000`", whatever the three
@@ -65,34 +54,30 @@ fn goes_on(s: &[u8], at: usize, before: usize) -> bool
 }
 
 // The lines of a set from a line start on that has `before` lines before it, one by one: at each the set's end is asked first, then 7, then 2 to 6 (B2).
-fn scan_each(s: &[u8], start: usize, before: usize) -> Scan
+fn scan_each(s: &[u8], start: usize, before: usize) -> Result<Scan, Refusal>
     requires { (start ≤ length s.now) × (before ≤ max_lines) }
     ensures { result ≡ scan_from s.now start before (max_lines - before) }
 {
     let mut at = start;
-    let mut lines = before;
-    loop {
+    for lines in before..SetType::LINES {
         if ends_at(s, at) {
-            return Scan::Done { length: at, lines };
+            return Ok(Scan { length: at, lines });
         }
-        // 7, TooManyLines: "a 513th line starts"
-        if SetType::LINES <= lines {
-            return Scan::Refused(Refusal::at(Refusal::TOO_MANY_LINES, at));
-        }
-        match line_read::line_at(s, at) {
-            Line::Refused(r) => {
-                return Scan::Refused(r);
-            }
-            Line::Read { label: _, size } => {
-                at += size;
-                lines += 1;
-            }
-        }
+        let line = line_read::line_at(s, at)?;
+        at += line.size;
     }
+    if ends_at(s, at) {
+        return Ok(Scan {
+            length: at,
+            lines: SetType::LINES,
+        });
+    }
+    // 7, TooManyLines: "a 513th line starts"
+    Err(Refusal::at(Refusal::TOO_MANY_LINES, at))
 }
 
 // The same lines. Those without a fault are the rule, so they are passed over by a loop of their own that reads nothing else; where it stops, the lines are read one by one.
-pub fn scan_from(s: &[u8], start: usize, before: usize) -> Scan
+pub fn scan_from(s: &[u8], start: usize, before: usize) -> Result<Scan, Refusal>
     requires { (start ≤ length s.now) × (before ≤ max_lines) }
     ensures { result ≡ scan_from s.now start before (max_lines - before) }
 {

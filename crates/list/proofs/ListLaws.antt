@@ -5,14 +5,12 @@ use mathlib.Core.List.{List, [], ◌∷◌, ◌++◌, append_assoc, cons≢nil}
 use Prim.Native.Nat.{ℕ, ◌+◌, ◌-◌, ◌*◌, ◌≤◌, ◌<◌}
 use native.Mathlib.Omega.{arith}
 use lib.Dec.{leb}
-use lib.ListN.{length, take, drop, set, replicate, length-append, length-take}
+use lib.ListN.{length, take, drop, replicate, length-append, length-take}
 use lib.Seq.{drop-drop}
 use borrow.Author.Tests.{le-leb, lt-leb, eq-eqb, ne_eqb}
 use borrow.Rule.Slice.PartMut.{mid_of, put_mid}
 use Rattle.meaning.specs.declared.Refusal.{Refusal}
 use Rattle.meaning.specs.declared.Shape.{Shape}
-use Rattle.meaning.specs.declared.Judged.TheVariants.{Accepted, Refused}
-use Rattle.meaning.specs.declared.Made.TheVariants.{Done, Refused as NotMade}
 use Rattle.meaning.specs.Limits.{max_lines}
 use Rattle.meaning.specs.Field.{Field, field}
 use Rattle.meaning.specs.Refusals.{Reply, refused, done, then_to, with_room, refusal, no_room}
@@ -30,8 +28,7 @@ use Rattle.meaning.proofs.EntryLaws.{length-entries, lines-over-entries}
 use Rattle.meaning.proofs.RuleLaws.{ruled, begins-of}
 use Rattle.meaning.proofs.SetLaws.{Standing, accepted, sum_back}
 use Rattle.meaning.proofs.Demands.{judge-read}
-use Rattle.line_read.specs.declared.Line.TheVariants.{Read}
-use Rattle.line_read.specs.Line.{line_at, line_content}
+use Rattle.line_read.specs.Line.{line_at, line_content, a_line}
 use Rattle.line_read.specs.Told.{told_length, told_label}
 use Rattle.line_read.proofs.LineMeaning.{read-line, read_back, reads-content, reads_on}
 use Rattle.line_read.proofs.ToldLaws.{read_told}
@@ -40,13 +37,9 @@ use Rattle.byte_put.proofs.LendLaws.{mid-tail, put-tail}
 use Rattle.byte_put.proofs.OverLaws.{over_none, Turned, here-fits, turned, over-lent, front-then-zeros}
 use Rattle.list.specs.Listing.{AllRead, line_entry, listed_from}
 use Rattle.meaning.proofs.LeftLaws.{one-more, none_left}
+use Rattle.std.specs.Prelude.{Err, Ok}
 
 -- ---- one entry
-
-pub two-put : (b : List ℕ) (x y : ℕ) → 2 ≤ length b → set (set b 0 x) 1 y ≡ x ∷ y ∷ drop 2 b
-two-put [] x y h = absurd (omega arith)
-two-put (a ∷ []) x y h = absurd (omega arith)
-two-put (a ∷ c ∷ b) x y h = refl
 
 -- an entry and what follows it
 pub entry-then : (f : Field) (t : List ℕ) → entry_then f [] ++ t ≡ entry_then f t
@@ -101,18 +94,18 @@ module _ (k l : ℕ) (c : List ℕ) where
 -- ---- the walk over lines that are all read: no line is left, or the line gives its label and the length of its content
 
 module _ (s : List ℕ) (at k n : ℕ) where
-  first_read : k < n → AllRead s at (n - k) → (l : ℕ) × (m : ℕ) × (line_at s at ≡ Read l m) × AllRead s (at + m) (n - (k + 1))
+  first_read : k < n → AllRead s at (n - k) → (l : ℕ) × (m : ℕ) × (line_at s at ≡ a_line l m) × AllRead s (at + m) (n - (k + 1))
   unfolding AllRead
   first_read h a = rw (one-more h) at a
 
   pub all_told : k < n → AllRead s at (n - k) → (w l : ℕ) → w ≡ told_length s at → l ≡ told_label s at
-      → (line_at s at ≡ Read l (w + 9)) × AllRead s (at + (w + 9)) (n - (k + 1))
+      → (line_at s at ≡ a_line l (w + 9)) × AllRead s (at + (w + 9)) (n - (k + 1))
   all_told h a w l p q =
       let r = first_read h a in
       let t = read_told s at r.2 in
       let m : r.1 ≡ w + 9 = omega (arith, p, t.0, (read_back s at r.2).least) in
       let x : r.0 ≡ l = sym (q ∙ t.1) in
-      (r.2 ∙ ap₂ Read x m, subst (λ (i : ℕ). AllRead s (at + i) (n - (k + 1))) m r.3)
+      (r.2 ∙ ap₂ a_line x m, subst (λ (i : ℕ). AllRead s (at + i) (n - (k + 1))) m r.3)
 
   -- such a line lies within the set
   pub all-within : k < n → AllRead s at (n - k) → (w : ℕ) → w ≡ told_length s at → at + (w + 9) ≤ length s
@@ -122,7 +115,7 @@ module _ (s : List ℕ) (at k n : ℕ) where
   unfolding listed_from
   entries-end h = rw (none_left h)
 
-  pub entries-on : k < n → {l m : ℕ} → line_at s at ≡ Read l m → listed_from s at k (n - k) ≡ line_entry k l (line_content s at m) ++ listed_from s (at + m) (k + 1) (n - (k + 1))
+  pub entries-on : k < n → {l m : ℕ} → line_at s at ≡ a_line l m → listed_from s at k (n - k) ≡ line_entry k l (line_content s at m) ++ listed_from s (at + m) (k + 1) (n - (k + 1))
   unfolding listed_from
   entries-on h e = rw (one-more h, e)
 
@@ -131,7 +124,7 @@ pub content-length : (at n : ℕ) → at + 7 + n - (at + 7) ≡ n + 9 - 9
 content-length at n = omega arith
 
 -- one turn: the entry of one line, and what is left after it
-module _ (s : List ℕ) (at k n : ℕ) (h : k < n) {l m : ℕ} (e : line_at s at ≡ Read l m) (w : ℕ) (q : w ≡ m - 9) (out : List ℕ) (to : ℕ)
+module _ (s : List ℕ) (at k n : ℕ) (h : k < n) {l m : ℕ} (e : line_at s at ≡ a_line l m) (w : ℕ) (q : w ≡ m - 9) (out : List ℕ) (to : ℕ)
     (g : to + length (listed_from s at k (n - k)) ≤ length out) where
   abbrev here : List ℕ
   here = line_entry k l (take w (drop (at + 7) s))
@@ -223,7 +216,7 @@ module _ (s : List ℕ) (d : Parsed) (e : read s ≡ done d) where
       }
 
 -- A set that is accepted, by its shape.
-pub listed-are : (s : List ℕ) (x : Shape) → judge s ≡ Accepted x → Entries s x
+pub listed-are : (s : List ℕ) (x : Shape) → judge s ≡ Ok x → Entries s x
 listed-are s x e =
     let d = judge-read s x e in
     let a = accepted s d.0 d.1 in
@@ -233,20 +226,20 @@ listed-are s x e =
 -- ---- the answers
 
 -- a set that is refused: its list is refused alike
-list-refused : (s : List ℕ) (r : Refusal) (room : ℕ) → judge s ≡ Refused r → list s room ≡ refused r
+list-refused : (s : List ℕ) (r : Refusal) (room : ℕ) → judge s ≡ Err r → list s room ≡ refused r
 unfolding judge list
 list-refused s r room e = go (read s) e
   where
-    go : (x : Reply Parsed) → judged x ≡ Refused r
+    go : (x : Reply Parsed) → judged x ≡ Err r
         → then_to x (λ d. with_room (leb (list_size (without_sum d.fields)) room) (list_size (without_sum d.fields)) (put_all entry_form (without_sum d.fields) [])) ≡ refused r
     go (refused y) q = let z : y ≡ r = cc in ap refused z
     go (done y) q = let z : ◌≡◌ {A = ℕ} 0 1 = cc in absurd (omega arith)
 
-pub answer-refused : (s b : List ℕ) (r : Refusal) → judge s ≡ Refused r → (NotMade r ≡ (list_call s b).answer) × (b ≡ (list_call s b).buffer)
+pub answer-refused : (s b : List ℕ) (r : Refusal) → judge s ≡ Err r → (Err r ≡ (list_call s b).answer) × (b ≡ (list_call s b).buffer)
 answer-refused s b r e = let q = sym (list-refused s r (length b) e) in (ap made q, ap (λ (x : Reply (List ℕ)). bytes_left x b) q)
 
 -- an accepted set, whose list needs n bytes
-module _ (s : List ℕ) (x : Shape) (e : judge s ≡ Accepted x) (b : List ℕ) (n : ℕ) (q : n ≡ x.length - 14 - (x.lines - 1) * 5) where
+module _ (s : List ℕ) (x : Shape) (e : judge s ≡ Ok x) (b : List ℕ) (n : ℕ) (q : n ≡ x.length - 14 - (x.lines - 1) * 5) where
   abbrev es : List ℕ
   es = listed_from s 0 0 x.lines
 
@@ -254,7 +247,7 @@ module _ (s : List ℕ) (x : Shape) (e : judge s ≡ Accepted x) (b : List ℕ) 
   need-so = q ∙ (listed-are s x e).need
 
   -- there is no room for them
-  pub answer-full : length b < n → (NotMade (refusal no_room n 0) ≡ (list_call s b).answer) × (b ≡ (list_call s b).buffer)
+  pub answer-full : length b < n → (Err (refusal no_room n 0) ≡ (list_call s b).answer) × (b ≡ (list_call s b).buffer)
   answer-full h =
       let l : refused (refusal no_room n 0) ≡ list s (length b) =
       ap (λ (m : ℕ). refused (refusal no_room m 0)) need-so
@@ -263,8 +256,8 @@ module _ (s : List ℕ) (x : Shape) (e : judge s ≡ Accepted x) (b : List ℕ) 
 
   -- they were put at the front, and zeros after them
   pub answer-made : (b' y : List ℕ) → n ≤ length b → b' ≡ over 0 es b → y ≡ replicate (length (mid_of n (length b' - n) b')) 0
-      → (Done n ≡ (list_call s b).answer) × (put_mid n (length b' - n) b' y ≡ (list_call s b).buffer)
+      → (Ok n ≡ (list_call s b).answer) × (put_mid n (length b' - n) b' y ≡ (list_call s b).buffer)
   answer-made b' y h p z =
       let l : done es ≡ list s (length b) =
       sym ((listed-are s x e).listed (length b) ∙ ap (λ (t : Bool). with_room t (length es) es) (le-leb (length es) (length b) (omega (arith, need-so)))) in
-      (ap Done need-so ∙ ap made l, front-then-zeros b b' y es n p need-so z ∙ ap (λ (u : Reply (List ℕ)). bytes_left u b) l)
+      (ap Ok need-so ∙ ap made l, front-then-zeros b b' y es n p need-so z ∙ ap (λ (u : Reply (List ℕ)). bytes_left u b) l)

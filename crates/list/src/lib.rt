@@ -2,8 +2,7 @@
 // It has no `requires`. The other functions are its parts, with walks of specs/ in their contracts; proofs/ListLaws says what the walks mean.
 #![tactic(auto)]
 
-ghost use Rattle.std.specs.Prelude.{◌≡◌, ◌+◌, ◌≤◌, ◌<◌, length, drop};
-ghost use Rattle.meaning.specs.declared.Judged.TheVariants.{Accepted};
+ghost use Rattle.std.specs.Prelude.{◌≡◌, ◌+◌, ◌≤◌, ◌<◌, length, drop, Ok};
 ghost use Rattle.meaning.specs.Field.{field};
 ghost use Rattle.meaning.specs.Entries.{two_bytes, entry_lead, entry_then};
 ghost use Rattle.meaning.specs.Reading as Reading;
@@ -11,7 +10,7 @@ ghost use Rattle.meaning.specs.Answers.{list_call};
 ghost use Rattle.byte_put.specs.Places.{over};
 ghost use Rattle.list.specs.Listing.{AllRead, line_entry, listed_from};
 
-use meaning::{Judged, Made, Refusal, Shape};
+use meaning::{Refusal, Shape};
 
 // This many lines stand before that of 8100.
 const BEFORE_SUM: usize = 1;
@@ -21,8 +20,7 @@ fn put_two(n: usize, out: &mut [u8])
     requires { (n < 65536) × (2 ≤ length out.old) }
     ensures { out.new ≡ two_bytes n (drop 2 out.old) }
 {
-    out[0] = (n % meaning::BYTE_VALUES) as u8;
-    out[1] = (n / meaning::BYTE_VALUES) as u8;
+    out[..meaning::NUMBER_BYTES].copy_from_slice(&(n as u16).to_le_bytes());
 }
 
 // The entry of a field at the front of some bytes.
@@ -55,38 +53,34 @@ fn put_entries(set: &[u8], lines: usize, out: &mut [u8])
 {
     let mut at: usize = 0;
     let mut to: usize = 0;
-    let mut k: usize = 0;
-    while k < lines {
+    for k in 0..lines {
         let length = line_read::told_length(set, at);
         let label = line_read::told_label(set, at);
         let from = at + meaning::LINE_LEAD;
         to = put_listed(k, label, &set[from..from + length], out, to);
         at += length + meaning::LINE_FRAME;
-        k += 1;
     }
 }
 
 // The list of an accepted set: line 2 has no entry, and each other line loses its frame and gains an entry's lead.
-fn list_accepted(set: &[u8], shape: Shape, out: &mut [u8]) -> Made
-    requires { Reading.judge set.now ≡ Accepted shape }
+fn list_accepted(set: &[u8], shape: Shape, out: &mut [u8]) -> Result<usize, Refusal>
+    requires { Reading.judge set.now ≡ Ok shape }
     ensures { (result ≡ (list_call set.now out.old).answer) × (out.new ≡ (list_call set.now out.old).buffer) }
 {
     let need = shape.length - meaning::SUM_LINE - (shape.lines - 1) * meaning::LINE_OVER_ENTRY;
     // 22, NoRoom: "output needs more than is lent; place: the need"
     if out.len() < need {
-        return Made::Refused(Refusal::at(Refusal::NO_ROOM, need));
+        return Err(Refusal::at(Refusal::NO_ROOM, need));
     }
     put_entries(set, shape.lines, out);
     byte_put::clear(&mut out[need..]);
-    Made::Done(need)
+    Ok(need)
 }
 
 // The set at the front of some bytes as a field list: "list refuse[s] as the set does, then by 22".
-pub fn list(set: &[u8], out: &mut [u8]) -> Made
+pub fn list(set: &[u8], out: &mut [u8]) -> Result<usize, Refusal>
     ensures { (result ≡ (list_call set.now out.old).answer) × (out.new ≡ (list_call set.now out.old).buffer) }
 {
-    match judge::judge(set) {
-        Judged::Refused(r) => Made::Refused(r),
-        Judged::Accepted(shape) => list_accepted(set, shape, out),
-    }
+    let shape = judge::judge(set)?;
+    list_accepted(set, shape, out)
 }

@@ -10,8 +10,6 @@ use Rattle.meaning.specs.declared.Refusal.{Refusal}
 use Rattle.meaning.specs.declared.Shape.{Shape}
 use Rattle.meaning.specs.declared.Entry.{Entry}
 use Rattle.meaning.specs.declared.Part.{Part}
-use Rattle.meaning.specs.declared.Judged.{Judged}
-use Rattle.meaning.specs.declared.Viewed.{Viewed}
 use Rattle.meaning.specs.Field.{Field, field, is_nil}
 use Rattle.meaning.specs.Pieces.{put_all}
 use Rattle.meaning.specs.Lines.{render}
@@ -22,6 +20,7 @@ use Rattle.meaning.specs.Lists.{with_sum}
 use Rattle.meaning.specs.Views.{viewed, view}
 use Rattle.meaning.specs.Answers.{Call, index_call, list_call, write_call, correct_call, judged_refusal, judged_shape, made_refusal, made_count}
 use Rattle.meaning.specs.Answers.{viewed_refusal, viewed_flag, viewed_part}
+use Rattle.meaning.specs.Results.{Judged, Viewed}
 
 -- ---- how sets, lists and sheets are written here
 

@@ -7,9 +7,6 @@ use native.Mathlib.Omega.{arith}
 use lib.ListN.{length, take, replicate, length-take}
 use lib.Seq.{take-append_seam}
 use Rattle.meaning.specs.declared.Shape.{Shape}
-use Rattle.meaning.specs.declared.Judged.TheVariants.{Accepted}
-use Rattle.meaning.specs.declared.Made.{Made}
-use Rattle.meaning.specs.declared.Made.TheVariants.{Done}
 use Rattle.meaning.specs.Field.{Field}
 use Rattle.meaning.specs.Refusals.{Reply, refused, done}
 use Rattle.meaning.specs.Pieces.{parsed}
@@ -24,6 +21,8 @@ use Rattle.meaning.proofs.LineLaws.{length-render}
 use Rattle.meaning.proofs.SetLaws.{accepted}
 use Rattle.meaning.proofs.WriterLaws.{list_of}
 use Rattle.meaning.proofs.Demands.{judge-read, list-write, list-there, write-list, write-judge, both_replaced, either_order}
+use Rattle.meaning.specs.Results.{Made}
+use Rattle.std.specs.Prelude.{Ok}
 
 -- ---- a call that is done
 
@@ -33,7 +32,7 @@ pub record DoneCall (r : Reply (List ℕ)) (n : ℕ) : Type 0 where
   pub is-done : r ≡ done bytes
   pub so-many : length bytes ≡ n
 
-pub done-call : (r : Reply (List ℕ)) (n : ℕ) → Done n ≡ made r → DoneCall r n
+pub done-call : (r : Reply (List ℕ)) (n : ℕ) → Ok n ≡ made r → DoneCall r n
 done-call (refused q) n e = let z : ◌≡◌ {A = ℕ} 0 1 = cc in absurd (omega arith)
 done-call (done bs) n e = record { bytes = bs; is-done = refl; so-many = cc }
 
@@ -45,13 +44,13 @@ front-made bs b n e = rw (← e) (take-append_seam bs (replicate (length b - len
 
 -- "Given room, an accepted set turned into a field list and written again gives identical bytes": there is one list; `list` makes it if there is room for it, and `write`, given
 -- those bytes of the buffer and room for the set, makes the set
-pub set-list-set : (s : List ℕ) (x : Shape) → judge s ≡ Accepted x
+pub set-list-set : (s : List ℕ) (x : Shape) → judge s ≡ Ok x
     → (l : List ℕ) × ((list₀ list₁ out₀ out₁ : List ℕ) (listed written : Made)
     → length l ≤ length list₀ → x.length ≤ length out₀
     → listed ≡ (list_call s list₀).answer → list₁ ≡ (list_call s list₀).buffer
     → written ≡ (write_call (take (length l) list₁) out₀).answer → out₁ ≡ (write_call (take (length l) list₁) out₀).buffer
-    → ((listed ≡ Done (length l)) × (list₁ ≡ l ++ replicate (length list₀ - length l) 0))
-    × ((written ≡ Done x.length) × (out₁ ≡ take x.length s ++ replicate (length out₀ - x.length) 0)))
+    → ((listed ≡ Ok (length l)) × (list₁ ≡ l ++ replicate (length list₀ - length l) 0))
+    × ((written ≡ Ok x.length) × (out₁ ≡ take x.length s ++ replicate (length out₀ - x.length) 0)))
 set-list-set s x j = (l, λ list₀ list₁ out₀ out₁ listed written room room' p q u v. both list₀ list₁ out₀ out₁ listed written room room' p q u v)
   where
     l : List ℕ
@@ -66,8 +65,8 @@ set-list-set s x j = (l, λ list₀ list₁ out₀ out₁ listed written room ro
     both : (list₀ list₁ out₀ out₁ : List ℕ) (listed written : Made) → length l ≤ length list₀ → x.length ≤ length out₀
         → listed ≡ (list_call s list₀).answer → list₁ ≡ (list_call s list₀).buffer
         → written ≡ (write_call (take (length l) list₁) out₀).answer → out₁ ≡ (write_call (take (length l) list₁) out₀).buffer
-        → ((listed ≡ Done (length l)) × (list₁ ≡ l ++ replicate (length list₀ - length l) 0))
-        × ((written ≡ Done x.length) × (out₁ ≡ take x.length s ++ replicate (length out₀ - x.length) 0))
+        → ((listed ≡ Ok (length l)) × (list₁ ≡ l ++ replicate (length list₀ - length l) 0))
+        × ((written ≡ Ok x.length) × (out₁ ≡ take x.length s ++ replicate (length out₀ - x.length) 0))
     both list₀ list₁ out₀ out₁ listed written room room' p q u v =
         let e : list s (length list₀) ≡ done l = (list-there s x j).1 (length list₀) room in
         let left : list₁ ≡ bytes_left (done l) list₀ = q ∙ ap (λ (r : Reply (List ℕ)). bytes_left r list₀) e in
@@ -76,17 +75,17 @@ set-list-set s x j = (l, λ list₀ list₁ out₀ out₁ listed written room ro
         ap (λ (z : List ℕ). write z (length out₀)) f ∙ list-write s x l (length list₀) (length out₀) j e room' in (
           (p ∙ ap made e, left),
           (
-            u ∙ (ap made w ∙ ap Done m),
+            u ∙ (ap made w ∙ ap Ok m),
             v ∙ (ap (λ (r : Reply (List ℕ)). bytes_left r out₀) w ∙ ap (λ (k : ℕ). take x.length s ++ replicate (length out₀ - k) 0) m),
           ),
         )
 
 -- "a list that the writer accepts is read back unchanged": `write` makes n bytes in a buffer, they are an accepted set, and `list` is given them
 pub list-set-list : (l out₀ out₁ back₀ back₁ : List ℕ) (n : ℕ) (answer : Made) → Every Byte l
-    → Done n ≡ (write_call l out₀).answer → out₁ ≡ (write_call l out₀).buffer
+    → Ok n ≡ (write_call l out₀).answer → out₁ ≡ (write_call l out₀).buffer
     → length l ≤ length back₀
     → answer ≡ (list_call (take n out₁) back₀).answer → back₁ ≡ (list_call (take n out₁) back₀).buffer
-    → ((y : Shape) × (judge (take n out₁) ≡ Accepted y) × (y.length ≡ n)) × (answer ≡ Done (length l)) × (back₁ ≡ l ++ replicate (length back₀ - length l) 0)
+    → ((y : Shape) × (judge (take n out₁) ≡ Ok y) × (y.length ≡ n)) × (answer ≡ Ok (length l)) × (back₁ ≡ l ++ replicate (length back₀ - length l) 0)
 list-set-list l out₀ out₁ back₀ back₁ n answer b p q room u v =
     let x = done-call (write l (length out₀)) n p in
     let f : take n out₁ ≡ x.bytes = ap (take n) (q ∙ ap (λ (r : Reply (List ℕ)). bytes_left r out₀) x.is-done) ∙ front-made x.bytes out₀ n x.so-many in
@@ -100,12 +99,12 @@ list-set-list l out₀ out₁ back₀ back₁ n answer b p q room u v =
 -- replaced": each of the two is made in the buffer b, with answers u and v, and then in the buffer that the other left
 pub either-call : (b bx by : List ℕ) (used n m : ℕ) (c d : List ℕ) (fs : List Field) (u v : ℕ)
     → read (take used b) ≡ done (parsed fs []) → (n ≡ m → ⊥)
-    → Done u ≡ (correct_call b used n c).answer → bx ≡ (correct_call b used n c).buffer
-    → Done v ≡ (correct_call b used m d).answer → by ≡ (correct_call b used m d).buffer
+    → Ok u ≡ (correct_call b used n c).answer → bx ≡ (correct_call b used n c).buffer
+    → Ok v ≡ (correct_call b used m d).answer → by ≡ (correct_call b used m d).buffer
     → size (resum (both_replaced fs n c m d)) ≤ length b
-    → (k : ℕ) × ((correct_call bx u m d).answer ≡ Done k) × ((correct_call by v n c).answer ≡ Done k)
+    → (k : ℕ) × ((correct_call bx u m d).answer ≡ Ok k) × ((correct_call by v n c).answer ≡ Ok k)
     × ((correct_call bx u m d).buffer ≡ (correct_call by v n c).buffer)
-    × ((write_call (list_of (both_replaced fs n c m d)) b).answer ≡ Done k) × ((correct_call bx u m d).buffer ≡ (write_call (list_of (both_replaced fs n c m d)) b).buffer)
+    × ((write_call (list_of (both_replaced fs n c m d)) b).answer ≡ Ok k) × ((correct_call bx u m d).buffer ≡ (write_call (list_of (both_replaced fs n c m d)) b).buffer)
 either-call b bx by used n m c d fs u v r ne p bp q bq room =
     let x = done-call (correct b used n c) u p in
     let y = done-call (correct b used m d) v q in

@@ -8,9 +8,6 @@ use lib.ListN.{length, take}
 use Rattle.meaning.specs.declared.Refusal.{Refusal}
 use Rattle.meaning.specs.declared.Shape.{Shape}
 use Rattle.meaning.specs.declared.Entry.{Entry}
-use Rattle.meaning.specs.declared.Judged.TheVariants.{Accepted, Refused as RefusedSet}
-use Rattle.meaning.specs.declared.Made.TheVariants.{Refused}
-use Rattle.meaning.specs.declared.Viewed.TheVariants.{Refused as RefusedView}
 use Rattle.meaning.specs.Field.{Field}
 use Rattle.meaning.specs.Refusals.{Reply, refused, done, refusal}
 use Rattle.meaning.specs.Pieces.{Parsed, parsed, put_all}
@@ -29,6 +26,7 @@ use Rattle.meaning.proofs.SetLaws.{Standing, accepted, read-render}
 use Rattle.meaning.proofs.WriterLaws.{list_of, without-with, list-only, list-makes, write-makes, write-only}
 use Rattle.meaning.proofs.CorrectionLaws.{twice, recontent-comm, Change, change-same, not-second, upright, still-standing, alike-changed}
 use Rattle.meaning.proofs.CorrectionLaws.{Holds, holds-standing, same_lines, leaves, length-leaves, holds-leaves, correct-makes, correct-only}
+use Rattle.std.specs.Prelude.{Err, Ok}
 
 -- ---- every contract is an equation: two answers that meet it are equal
 
@@ -44,59 +42,59 @@ pub refused-keeps-entries : (r : Refusal) (b : List Entry) → entries_left (ref
 refused-keeps-entries r b = refl
 
 -- the same of the calls: one that answers a refusal has made nothing, its count is 0, and every byte or entry of its buffer is as it was
-pub refused-index : (s : List ℕ) (out : List Entry) (r : Refusal) → (index_call s out).answer ≡ Refused r
+pub refused-index : (s : List ℕ) (out : List Entry) (r : Refusal) → (index_call s out).answer ≡ Err r
     → (made_count (index_call s out).answer ≡ 0) × ((index_call s out).buffer ≡ out)
 refused-index s out r = go (index s (length out))
   where
-    go : (x : Reply (List Entry)) → made x ≡ Refused r → (made_count (made x) ≡ 0) × (entries_left x out ≡ out)
+    go : (x : Reply (List Entry)) → made x ≡ Err r → (made_count (made x) ≡ 0) × (entries_left x out ≡ out)
     go (refused q) e = (refl, refl)
     go (done es) e = let z : ◌≡◌ {A = ℕ} 0 1 = cc in absurd (omega arith)
 
-pub nothing-made : (x : Reply (List ℕ)) (b : List ℕ) (r : Refusal) → made x ≡ Refused r → (made_count (made x) ≡ 0) × (bytes_left x b ≡ b)
+pub nothing-made : (x : Reply (List ℕ)) (b : List ℕ) (r : Refusal) → made x ≡ Err r → (made_count (made x) ≡ 0) × (bytes_left x b ≡ b)
 nothing-made (refused q) b r e = (refl, refl)
 nothing-made (done bs) b r e = let z : ◌≡◌ {A = ℕ} 0 1 = cc in absurd (omega arith)
 
-pub refused-list : (s out : List ℕ) (r : Refusal) → (list_call s out).answer ≡ Refused r → (made_count (list_call s out).answer ≡ 0) × ((list_call s out).buffer ≡ out)
+pub refused-list : (s out : List ℕ) (r : Refusal) → (list_call s out).answer ≡ Err r → (made_count (list_call s out).answer ≡ 0) × ((list_call s out).buffer ≡ out)
 refused-list s out r = nothing-made (list s (length out)) out r
 
-pub refused-write : (l out : List ℕ) (r : Refusal) → (write_call l out).answer ≡ Refused r → (made_count (write_call l out).answer ≡ 0) × ((write_call l out).buffer ≡ out)
+pub refused-write : (l out : List ℕ) (r : Refusal) → (write_call l out).answer ≡ Err r → (made_count (write_call l out).answer ≡ 0) × ((write_call l out).buffer ≡ out)
 refused-write l out r = nothing-made (write l (length out)) out r
 
-pub refused-correct : (b : List ℕ) (used n : ℕ) (c : List ℕ) (r : Refusal) → (correct_call b used n c).answer ≡ Refused r
+pub refused-correct : (b : List ℕ) (used n : ℕ) (c : List ℕ) (r : Refusal) → (correct_call b used n c).answer ≡ Err r
     → (made_count (correct_call b used n c).answer ≡ 0) × ((correct_call b used n c).buffer ≡ b)
 refused-correct b used n c r = nothing-made (correct b used n c) b r
 
 -- a refused set has no length, no lines and no type
-pub refused-shape : (s : List ℕ) (r : Refusal) → judge s ≡ RefusedSet r → judged_shape (judge s) ≡ record { length = 0; lines = 0; settype = 0 }
+pub refused-shape : (s : List ℕ) (r : Refusal) → judge s ≡ Err r → judged_shape (judge s) ≡ record { length = 0; lines = 0; settype = 0 }
 refused-shape s r e = rw e
 
 -- "A refusal comes with an empty part of the set, flagged as the set's.": no byte is shown
-pub refused-view : (s h : List ℕ) (n : ℕ) (r : Refusal) → viewed s h n ≡ RefusedView r
+pub refused-view : (s h : List ℕ) (n : ℕ) (r : Refusal) → viewed s h n ≡ Err r
     → (viewed_flag (viewed s h n) ≡ 0) × (viewed_part (viewed s h n) ≡ record { place = 0; length = 0 }) × (view s h n ≡ [])
 unfolding view
 refused-view s h n r e = rw e (refl, refl, refl)
 
 -- "number, place and label; 0, 0, 0 if nothing is refused"
-pub accepted-no-refusal : (s : List ℕ) (x : Shape) → judge s ≡ Accepted x → judged_refusal (judge s) ≡ refusal 0 0 0
+pub accepted-no-refusal : (s : List ℕ) (x : Shape) → judge s ≡ Ok x → judged_refusal (judge s) ≡ refusal 0 0 0
 accepted-no-refusal s x e = rw e
 
 -- ---- demand 2
 
 -- what is accepted was read
-pub judge-read : (s : List ℕ) (x : Shape) → judge s ≡ Accepted x → (d : Parsed) × (read s ≡ done d) × (x ≡ shape d.fields)
+pub judge-read : (s : List ℕ) (x : Shape) → judge s ≡ Ok x → (d : Parsed) × (read s ≡ done d) × (x ≡ shape d.fields)
 unfolding judge
 judge-read s x e = go (read s) refl e
   where
-    go : (r : Reply Parsed) → read s ≡ r → judged r ≡ Accepted x → (d : Parsed) × (read s ≡ done d) × (x ≡ shape d.fields)
+    go : (r : Reply Parsed) → read s ≡ r → judged r ≡ Ok x → (d : Parsed) × (read s ≡ done d) × (x ≡ shape d.fields)
     go (refused r) q h = let z : ◌≡◌ {A = ℕ} 0 1 = cc in absurd (omega arith)
     go (done d) q h = (d, q, cc)
 
-pub read-judge : (s : List ℕ) (d : Parsed) → read s ≡ done d → judge s ≡ Accepted (shape d.fields)
+pub read-judge : (s : List ℕ) (d : Parsed) → read s ≡ done d → judge s ≡ Ok (shape d.fields)
 unfolding judge
 read-judge s d e = rw e
 
 -- "Given room, an accepted set turned into a field list and written again gives identical bytes"
-pub list-write : (s : List ℕ) (x : Shape) (l : List ℕ) (room room' : ℕ) → judge s ≡ Accepted x → list s room ≡ done l → x.length ≤ room'
+pub list-write : (s : List ℕ) (x : Shape) (l : List ℕ) (room room' : ℕ) → judge s ≡ Ok x → list s room ≡ done l → x.length ≤ room'
     → write l room' ≡ done (take x.length s)
 list-write s x l room room' j e h =
     let d = judge-read s x j in
@@ -113,7 +111,7 @@ list-write s x l room room' j e h =
     same_read y z q = cc
 
 -- and that list is there: one list, made as soon as there is room for it
-pub list-there : (s : List ℕ) (x : Shape) → judge s ≡ Accepted x
+pub list-there : (s : List ℕ) (x : Shape) → judge s ≡ Ok x
     → (l : List ℕ) × ((room : ℕ) → length l ≤ room → list s room ≡ done l)
 list-there s x j =
     let d = judge-read s x j in
@@ -131,7 +129,7 @@ write-list l x room room' b e h =
     ∙ ap done (ap (λ (es : List Field). put_all entry_form es []) k ∙ sym w.whole)
 
 -- and what the writer made is an accepted set, to its last byte
-pub write-judge : (l x : List ℕ) (room : ℕ) → Every Byte l → write l room ≡ done x → (y : Shape) × (judge x ≡ Accepted y) × (y.length ≡ length x)
+pub write-judge : (l x : List ℕ) (room : ℕ) → Every Byte l → write l room ≡ done x → (y : Shape) × (judge x ≡ Ok y) × (y.length ≡ length x)
 write-judge l x room b e =
     let w = write-only l room x b e in
     let fs : List Field = with_sum w.entries in

@@ -8,8 +8,6 @@ use lib.Seq.{drop_at}
 use borrow.Author.Tests.{le-leb}
 use Rattle.meaning.specs.declared.Entry.{Entry}
 use Rattle.meaning.specs.declared.Shape.{Shape}
-use Rattle.meaning.specs.declared.Judged.TheVariants.{Accepted}
-use Rattle.meaning.specs.declared.Made.TheVariants.{Done}
 use Rattle.meaning.specs.Field.{Field, label_at_line, content_at_line}
 use Rattle.meaning.specs.Refusals.{Reply, done}
 use Rattle.meaning.specs.Pieces.{Parsed}
@@ -22,6 +20,7 @@ use Rattle.meaning.specs.Answers.{made, entries_left, index_call}
 use Rattle.meaning.proofs.SetLaws.{accepted}
 use Rattle.meaning.proofs.PlaceLaws.{content-at, index-count, index-points}
 use Rattle.meaning.proofs.Demands.{judge-read}
+use Rattle.std.specs.Prelude.{Ok}
 
 -- ---- of the fields of a set
 
@@ -53,14 +52,14 @@ entry-shows fs rest k none h =
 -- the index of a set whose lines are fs, made in the buffer `out`
 pub record Indexed (s : List ℕ) (x : Shape) (fs : List Field) (out : List Entry) : Type 0 where
   pub lines_are : x.lines ≡ length fs
-  pub answer : (index_call s out).answer ≡ Done x.lines
+  pub answer : (index_call s out).answer ≡ Ok x.lines
   pub each : (k : ℕ) (none : Entry) → k < x.lines → Shows s fs k (get_or (index_call s out).buffer k none)
   pub others-stay : drop x.lines (index_call s out).buffer ≡ drop x.lines out
 
-pub index-shows : (s : List ℕ) (x : Shape) (out : List Entry) → judge s ≡ Accepted x → x.lines ≤ length out
+pub index-shows : (s : List ℕ) (x : Shape) (out : List Entry) → judge s ≡ Ok x → x.lines ≤ length out
     → (d : Parsed) × (read s ≡ done d) × Indexed s x d.fields out
 unfolding index
-index-shows s x out j room = (d, r, record { lines_are = n; answer = ap made i ∙ ap Done (count_of fs ∙ sym n); each = each; others-stay = after })
+index-shows s x out j room = (d, r, record { lines_are = n; answer = ap made i ∙ ap Ok (count_of fs ∙ sym n); each = each; others-stay = after })
   where
     d : Parsed
     d = (judge-read s x j).0

@@ -1,4 +1,5 @@
 -- The laws that the proofs of this crate and of later ones cite.
+pub mod ResultLaws
 pub mod Bools
 pub mod LeftLaws
 pub mod SameLaws

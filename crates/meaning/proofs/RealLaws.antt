@@ -7,7 +7,6 @@ use native.Mathlib.Omega.{arith}
 use lib.Dec.{leb, eqb}
 use lib.ListN.{take}
 use Rattle.meaning.specs.declared.Row.{Row}
-use Rattle.meaning.specs.declared.Known.TheVariants.{Of}
 use Rattle.meaning.specs.declared.SetType.{SetType}
 use Rattle.meaning.specs.Field.{Field, labels, elem}
 use Rattle.meaning.specs.Refusals.{Spot, Fault, at_line, at_byte, ask, no_start, unknown_set, no_sum, repeated, bad_content, other_version, missing, high_byte}
@@ -18,6 +17,7 @@ use Rattle.meaning.specs.Missing.{needed, rows_under, ascending, missing_label, 
 use Rattle.meaning.specs.Rules.{Profile, rows_of, role_in, fits, current, content_faults, content_rules, line_rules, rules_from, seven_bit, high_from, high_faults}
 use Rattle.meaning.specs.Answers.{no_refusal, or_else}
 use Rattle.meaning.proofs.FirstLaws.{first_of, Real, first-append, first_one, real-append, real-ask, real-rule}
+use Rattle.std.specs.Prelude.{Some}
 
 -- ---- 8 to 10
 
@@ -148,4 +148,4 @@ first-then-high pl p fs =
 
 -- what line 1 chooses if it names this type
 abbrev pub of_type : SetType → Profile
-of_type settype = record { set_type = Of settype }
+of_type settype = record { set_type = Some settype }

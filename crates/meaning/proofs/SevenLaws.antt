@@ -7,8 +7,6 @@ use native.Mathlib.Omega.{arith}
 use lib.Dec.{leb, eqb}
 use lib.ListN.{length, take, get_or}
 use borrow.Author.Tests.{eqb-true, eq-eqb, leb-true}
-use Rattle.meaning.specs.declared.Known.{Known}
-use Rattle.meaning.specs.declared.Known.TheVariants.{Of, Nothing}
 use Rattle.meaning.specs.declared.SetType.{SetType}
 use Rattle.meaning.specs.declared.SetType.TheVariants.{T6300, T6301, T6302, T6310, T6311}
 use Rattle.meaning.specs.Digits.{digits, digit_zero}
@@ -23,6 +21,8 @@ use Rattle.meaning.proofs.Bools.{and_left, and_right, Every}
 use Rattle.meaning.proofs.FaultLaws.{append-none}
 use Rattle.meaning.proofs.RuleLaws.{line-fits, not-seven}
 use Rattle.meaning.proofs.WriterLaws.{Single, role-at-set-level, once, top-keep, top-has}
+use Rattle.meaning.specs.Results.{Known}
+use Rattle.std.specs.Prelude.{None, Some}
 
 -- ---- "place of the first such byte": one fault at most, whatever the number of bytes over 7Fh
 
@@ -88,7 +88,7 @@ module _ (p : Profile) (s : Single 9206 (find (rows_of p) 9206)) where
       (seven-from (next (role_in p st f) st k f.label) (k + 1) fs (append-none (line_rules (role_in p st f) p st k f) _ h).1 j (omega arith) e)
 
 -- without a table no line keeps 11
-pub no_table : (fs : List Field) → rules_from (record { set_type = Nothing }) first 0 fs ≡ [] → (k : ℕ) → k < length fs → ⊥
+pub no_table : (fs : List Field) → rules_from (record { set_type = None }) first 0 fs ≡ [] → (k : ℕ) → k < length fs → ⊥
 unfolding rules_from line_rules label_faults role role_of find find_in
 no_table [] h k l = omega arith
 no_table (f ∷ fs) h k l = cons≢nil h
@@ -100,8 +100,8 @@ seven-once p fs = go p.set_type
   where
     go : (t : Known) → rules_from (record { set_type = t }) first 0 fs ≡ [] → (k : ℕ) → k < length fs → label_at_line fs k ≡ 9206
         → seven_bit fs ≡ same_bytes (content_at_line fs k) (digits 1 1)
-    go (Of t) h = seven-from (record { set_type = Of t }) (single-9206 t) first 0 fs h
-    go Nothing h = λ k l e. absurd (no_table fs h k l)
+    go (Some t) h = seven-from (record { set_type = Some t }) (single-9206 t) first 0 fs h
+    go None h = λ k l e. absurd (no_table fs h k l)
 
 -- ---- the content of 9206 is one byte
 

@@ -7,13 +7,13 @@ use mathlib.Core.List.{List, [], ◌∷◌, map}
 use Prim.Native.Nat.{ℕ}
 use lib.Dec.{eqb}
 use Rattle.meaning.specs.declared.Row.{Row}
-use Rattle.meaning.specs.declared.Known.TheVariants.{Of}
 use Rattle.meaning.specs.declared.SetType.{SetType}
 use Rattle.meaning.specs.declared.SetType.TheVariants.{T6300, T6301, T6302, T6310, T6311}
 use Rattle.meaning.specs.Limits.{limits, type_of, type_number}
 use Rattle.meaning.specs.Tables.{table, set_level}
 use Rattle.meaning.specs.Missing.{rows_under, ascending}
 use Rattle.meaning.specs.Computes.{computes}
+use Rattle.std.specs.Prelude.{Some}
 
 -- the labels of the rows that pass a test, lowest first
 abbrev labels_of : (Row → Bool) → List Row → List ℕ
@@ -83,7 +83,7 @@ unfolding computes
 plain-elsewhere = refl
 
 -- "Sets 6300, 6301, 6302, 6310 and 6311": the number of a type names it, and these are the numbers
-type-back : (t : SetType) → type_of (type_number t) ≡ Of t
+type-back : (t : SetType) → type_of (type_number t) ≡ Some t
 unfolding computes
 type-back T6300 = refl
 type-back T6301 = refl

@@ -10,8 +10,6 @@ use lib.Dec.{leb, eqb}
 use lib.ListN.{length}
 use borrow.Author.Tests.{leb-true, le-leb, eq-eqb}
 use Rattle.meaning.specs.declared.Row.{Row}
-use Rattle.meaning.specs.declared.Known.{Known}
-use Rattle.meaning.specs.declared.Known.TheVariants.{Of, Nothing}
 use Rattle.meaning.specs.declared.SetType.{SetType}
 use Rattle.meaning.specs.declared.SetType.TheVariants.{T6300, T6301, T6302, T6310, T6311}
 use Rattle.meaning.specs.Limits.{max_lines, max_entries, max_set_bytes}
@@ -35,6 +33,8 @@ use Rattle.meaning.proofs.RuleLaws.{Ruled, ruled, ruled-of, unruled, no-rule-fau
 use Rattle.meaning.proofs.SetLaws.{Standing, sum_back}
 use Rattle.meaning.proofs.SizeLaws.{all_short, ruled-total}
 use Rattle.meaning.proofs.CorrectionLaws.{sum-right, sum-sound}
+use Rattle.meaning.specs.Results.{Known}
+use Rattle.std.specs.Prelude.{None, Some}
 
 -- the list of the lines of a set
 abbrev pub list_of : List Field → List ℕ
@@ -105,8 +105,8 @@ single-8000 T6310 = record { known = _; is = refl; named-so = refl; top-level = 
 single-8000 T6311 = record { known = _; is = refl; named-so = refl; top-level = refl; one = refl }
 
 single-known : (k : Known) → is_known k ≡ true → Single 8000 (find (table_of k) 8000)
-single-known (Of t) e = single-8000 t
-single-known Nothing e = absurd (true≢false (sym e))
+single-known (Some t) e = single-8000 t
+single-known None e = absurd (true≢false (sym e))
 
 pub role-at-set-level : (o : Option Row) (r : Row) (h l : ℕ) → o ≡ some r → r.under ≡ 0 → role o h l ≡ at_set_level r
 unfolding role role_of

@@ -1,27 +1,23 @@
 -- The six calls of the base as a caller sees them: what each answers, and what the lent buffer holds afterwards. `judge` (Reading), `viewed` and `view` (Views) are lent nothing to write to.
 -- They determine the answer and every lent byte or entry, refusals too.
-use Rattle.std.specs.Prelude.{cond, List, ◌++◌, ℕ, ◌-◌, length, drop, replicate, eqb}
+use Rattle.std.specs.Prelude.{cond, List, ◌++◌, ℕ, ◌-◌, length, drop, replicate, eqb, Err, Ok}
 use Rattle.meaning.specs.declared.Refusal.{Refusal}
 use Rattle.meaning.specs.declared.Shape.{Shape}
 use Rattle.meaning.specs.declared.Entry.{Entry}
 use Rattle.meaning.specs.declared.Part.{Part}
-use Rattle.meaning.specs.declared.Judged.{Judged}
-use Rattle.meaning.specs.declared.Judged.TheVariants.{Accepted, Refused as RefusedSet}
-use Rattle.meaning.specs.declared.Made.{Made}
-use Rattle.meaning.specs.declared.Made.TheVariants.{Done, Refused}
-use Rattle.meaning.specs.declared.Viewed.{Viewed}
-use Rattle.meaning.specs.declared.Viewed.TheVariants.{Sheet, Set, Refused as RefusedView}
 use Rattle.meaning.specs.Refusals.{Reply, refused, done, refusal}
 use Rattle.meaning.specs.Index.{index}
 use Rattle.meaning.specs.Lists.{list, write}
 use Rattle.meaning.specs.Corrections.{correct}
+use Rattle.meaning.specs.Results.{Judged, Made, Viewed}
+use Rattle.meaning.specs.declared.Shown.TheVariants.{Set, Sheet}
 
 -- ---- the answer, and the lent buffer
 
 -- "Index, list, writer and correction answer the count or length of what they made."
 abbrev pub made : {A : Type 0} → Reply (List A) → Made
-made (refused r) = Refused r
-made (done xs) = Done (length xs)
+made (refused r) = Err r
+made (done xs) = Ok (length xs)
 
 -- "All lent buffers then keep every byte and entry"; else "bytes of the output buffer beyond the written length are zero", and of a corrected buffer "every byte past the
 -- new used length becomes zero"
@@ -64,36 +60,36 @@ unfoldable pub or_else : Refusal → Refusal → Refusal
 or_else r q = cond (eqb r.no 0) q r
 
 abbrev pub judged_refusal : Judged → Refusal
-judged_refusal (Accepted x) = no_refusal
-judged_refusal (RefusedSet r) = r
+judged_refusal (Ok x) = no_refusal
+judged_refusal (Err r) = r
 
 abbrev pub made_refusal : Made → Refusal
-made_refusal (Done n) = no_refusal
-made_refusal (Refused r) = r
+made_refusal (Ok n) = no_refusal
+made_refusal (Err r) = r
 
 abbrev pub viewed_refusal : Viewed → Refusal
-viewed_refusal (Sheet q) = no_refusal
-viewed_refusal (Set q) = no_refusal
-viewed_refusal (RefusedView r) = r
+viewed_refusal (Ok (Sheet q)) = no_refusal
+viewed_refusal (Ok (Set q)) = no_refusal
+viewed_refusal (Err r) = r
 
 -- the set's length, its lines, its type; 0, 0, 0 for a refusal
 abbrev pub judged_shape : Judged → Shape
-judged_shape (Accepted x) = x
-judged_shape (RefusedSet r) = record { length = 0; lines = 0; settype = 0 }
+judged_shape (Ok x) = x
+judged_shape (Err r) = record { length = 0; lines = 0; settype = 0 }
 
 -- how much was made; 0 for a refusal
 abbrev pub made_count : Made → ℕ
-made_count (Done n) = n
-made_count (Refused r) = 0
+made_count (Ok n) = n
+made_count (Err r) = 0
 
 -- the flag: 1 if the part is of the sheet, 0 if it is of the set
 abbrev pub viewed_flag : Viewed → ℕ
-viewed_flag (Sheet q) = 1
-viewed_flag (Set q) = 0
-viewed_flag (RefusedView r) = 0
+viewed_flag (Ok (Sheet q)) = 1
+viewed_flag (Ok (Set q)) = 0
+viewed_flag (Err r) = 0
 
 -- place and length of the part; 0 and 0, "an empty part of the set", for a refusal
 abbrev pub viewed_part : Viewed → Part
-viewed_part (Sheet q) = q
-viewed_part (Set q) = q
-viewed_part (RefusedView r) = record { place = 0; length = 0 }
+viewed_part (Ok (Sheet q)) = q
+viewed_part (Ok (Set q)) = q
+viewed_part (Err r) = record { place = 0; length = 0 }

@@ -1,4 +1,5 @@
 -- What has to be believed: the whole meaning, file by file as README.md lists them.
+pub mod Results
 pub mod Limits
 pub mod Refusals
 pub mod Digits

@@ -1,11 +1,10 @@
 -- "Limits of a set are named once, with the set's own type", and its five types by number.
 -- `SetType::limits`, `SetType::of` and `SetType::number` are proved to say the same as these definitions.
-use Rattle.std.specs.Prelude.{cond, ℕ, ◌-◌, eqb}
+use Rattle.std.specs.Prelude.{cond, ℕ, ◌-◌, eqb, None, Some}
 use Rattle.meaning.specs.declared.Limits.{Limits}
-use Rattle.meaning.specs.declared.Known.{Known}
-use Rattle.meaning.specs.declared.Known.TheVariants.{Of, Nothing}
 use Rattle.meaning.specs.declared.SetType.{SetType}
 use Rattle.meaning.specs.declared.SetType.TheVariants.{T6300, T6301, T6302, T6310, T6311}
+use Rattle.meaning.specs.Results.{Known}
 
 -- "512 lines"; "A set has at most 512 lines."
 abbrev pub max_lines : ℕ
@@ -29,10 +28,10 @@ max_entries = max_lines - 1
 -- "Sets 6300, 6301, 6302, 6310 and 6311"
 unfoldable pub type_of : ℕ → Known
 type_of n =
-    cond (eqb n 6300) (Of T6300)
-    (cond (eqb n 6301) (Of T6301)
-    (cond (eqb n 6302) (Of T6302)
-    (cond (eqb n 6310) (Of T6310) (cond (eqb n 6311) (Of T6311) Nothing))))
+    cond (eqb n 6300) (Some T6300)
+    (cond (eqb n 6301) (Some T6301)
+    (cond (eqb n 6302) (Some T6302)
+    (cond (eqb n 6310) (Some T6310) (cond (eqb n 6311) (Some T6311) None))))
 
 abbrev pub type_number : SetType → ℕ
 type_number T6300 = 6300

@@ -1,16 +1,13 @@
 -- Judging a set: "first 1; then all lines, in order, each by 7, 2, 3, 4, 5, 6; then" the rules (Rules). "Bytes after the set are not judged; a read answers the set's length."
-use Rattle.std.specs.Prelude.{cond, List, ℕ, ◌+◌, ◌-◌, length}
+use Rattle.std.specs.Prelude.{cond, List, ℕ, ◌+◌, ◌-◌, length, Err, None, Ok, Some}
 use Rattle.meaning.specs.declared.Shape.{Shape}
-use Rattle.meaning.specs.declared.Judged.{Judged}
-use Rattle.meaning.specs.declared.Judged.TheVariants.{Accepted, Refused}
-use Rattle.meaning.specs.declared.Known.{Known}
-use Rattle.meaning.specs.declared.Known.TheVariants.{Of, Nothing}
 use Rattle.meaning.specs.Limits.{max_lines, type_number}
 use Rattle.meaning.specs.Field.{Field, is_nil}
 use Rattle.meaning.specs.Refusals.{Spot, behind, Reply, refused, done, refusal, verdict, empty}
 use Rattle.meaning.specs.Pieces.{Parsed, piece_then, pieces}
 use Rattle.meaning.specs.Lines.{line_form, line_faults, line_lead, size, offset}
 use Rattle.meaning.specs.Rules.{profile, set_faults}
+use Rattle.meaning.specs.Results.{Judged, Known}
 
 -- "A set starts at the first byte given", whatever its first line's label is; 1, Empty: "a set or list of no bytes"; 7: "a 513th line starts"
 unfoldable pub scan : List ℕ → Reply Parsed
@@ -33,16 +30,16 @@ read s = by_rules (scan s)
 
 -- the number of a set type, 0 for none
 abbrev pub known_number : Known → ℕ
-known_number (Of t) = type_number t
-known_number Nothing = 0
+known_number (Some t) = type_number t
+known_number None = 0
 
 -- "a read answers the set's length", and its lines and type
 abbrev pub shape : List Field → Shape
 shape fs = record { length = size fs; lines = length fs; settype = known_number (profile fs).set_type }
 
 abbrev pub judged : Reply Parsed → Judged
-judged (refused r) = Refused r
-judged (done d) = Accepted (shape d.fields)
+judged (refused r) = Err r
+judged (done d) = Ok (shape d.fields)
 
 unfoldable pub judge : List ℕ → Judged
 judge s = judged (read s)

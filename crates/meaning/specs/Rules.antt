@@ -1,9 +1,7 @@
 -- "Numbered replies", 8 to 17, and 24 between 16 and 17, over the lines of a set, in the paper's order.
 -- 8 to 16 see three things only: the profile, the labels, and each content by itself. 24 sees what 9206 says and each content by itself, 17 line 2 and all lengths.
-use Rattle.std.specs.Prelude.{Bool, true, false, cond, not, ◌&&◌, ◌||◌, List, [], ◌∷◌, ◌++◌, ℕ, ◌+◌, length, take, get_or, eqb}
+use Rattle.std.specs.Prelude.{Bool, true, false, cond, not, ◌&&◌, ◌||◌, List, [], ◌∷◌, ◌++◌, ℕ, ◌+◌, length, take, get_or, eqb, None, Some}
 use Rattle.meaning.specs.declared.Row.{Row}
-use Rattle.meaning.specs.declared.Known.{Known}
-use Rattle.meaning.specs.declared.Known.TheVariants.{Of, Nothing}
 use Rattle.meaning.specs.Limits.{type_of}
 use Rattle.meaning.specs.Digits.{digits, number, all_digits}
 use Rattle.meaning.specs.Field.{Field, labels, content_at_line}
@@ -14,6 +12,7 @@ use Rattle.meaning.specs.FieldTable.{fits_label}
 use Rattle.meaning.specs.Tables.{table, find}
 use Rattle.meaning.specs.Groups.{State, first, Role, unknown, strayed, at_set_level, member, role, next, label_faults}
 use Rattle.meaning.specs.Missing.{missing_faults}
+use Rattle.meaning.specs.Results.{Known}
 
 -- ---- the profile: what the contents of the fixed lines choose
 
@@ -22,7 +21,7 @@ abbrev pub type_digits : ℕ
 type_digits = 4
 
 unfoldable pub type_named : List ℕ → Known
-type_named c = cond (eqb (length c) type_digits && all_digits c) (type_of (number c)) Nothing
+type_named c = cond (eqb (length c) type_digits && all_digits c) (type_of (number c)) None
 
 -- so far the set type alone
 pub record Profile : Type 0 where
@@ -33,8 +32,8 @@ profile fs = record { set_type = type_named (content_at_line fs 0) }
 
 -- the rows that a set of this profile is judged by; none if 9 is given
 abbrev pub table_of : Known → List Row
-table_of (Of t) = table t
-table_of Nothing = []
+table_of (Some t) = table t
+table_of None = []
 
 abbrev pub rows_of : Profile → List Row
 rows_of p = table_of p.set_type
@@ -46,8 +45,8 @@ abbrev pub label_is : List Field → ℕ → ℕ → Bool
 label_is fs k l = eqb (get_or (labels fs) k 0) l
 
 abbrev pub is_known : Known → Bool
-is_known (Of t) = true
-is_known Nothing = false
+is_known (Some t) = true
+is_known None = false
 
 abbrev pub type_known : List Field → Bool
 type_known fs = is_known (profile fs).set_type

@@ -1,10 +1,8 @@
 -- "A view shows a content as it would stand": a set, a sheet of pending corrections, and the number of a line.
 -- "entries as above, kind is the line number, the last for a line counts".
-use Rattle.std.specs.Prelude.{cond, List, [], ◌∷◌, ◌++◌, ℕ, pred, ◌+◌, length, take, drop, eqb}
+use Rattle.std.specs.Prelude.{cond, List, [], ◌∷◌, ◌++◌, ℕ, pred, ◌+◌, length, take, drop, eqb, Err, Ok}
 use Rattle.std.proofs.Math.Option.{Option, none, some}
 use Rattle.meaning.specs.declared.Part.{Part}
-use Rattle.meaning.specs.declared.Viewed.{Viewed}
-use Rattle.meaning.specs.declared.Viewed.TheVariants.{Sheet, Set, Refused}
 use Rattle.meaning.specs.Field.{Field, content_at_line, is_nil}
 use Rattle.meaning.specs.Refusals.{Fault, at_line, ask, Reply, refused, done, then_to, verdict, bad_list}
 use Rattle.meaning.specs.Pieces.{Form, Parsed, pieces}
@@ -12,6 +10,8 @@ use Rattle.meaning.specs.Lines.{line_lead, offset}
 use Rattle.meaning.specs.Entries.{entry_whole, entry_label, entry_content, entry_field, entry_width, entry_lead, entry_then}
 use Rattle.meaning.specs.Reading.{read, in_set}
 use Rattle.meaning.specs.Corrections.{alone_faults, line_number_faults, change_faults}
+use Rattle.meaning.specs.Results.{Viewed, of_set, of_sheet}
+use Rattle.meaning.specs.declared.Shown.TheVariants.{Set, Sheet}
 
 -- ---- the sheet
 
@@ -45,8 +45,8 @@ part p n = record { place = p; length = n }
 
 -- "the answer is the part of the sheet if the line has an entry there, else the part of the set, with a flag for which. Line 2 is shown as the set has it"
 abbrev pub shown_part : List Field → ℕ → Option Pending → Viewed
-shown_part fs n (some q) = Sheet (part q.place (length q.content))
-shown_part fs n none = Set (part (offset fs (pred n) + line_lead) (length (content_at_line fs (pred n))))
+shown_part fs n (some q) = of_sheet (part q.place (length q.content))
+shown_part fs n none = of_set (part (offset fs (pred n) + line_lead) (length (content_at_line fs (pred n))))
 
 -- "The set alone must fill its slice (18). Order: set, 18, the asked line (19), then each sheet entry"
 unfoldable pub viewing : List ℕ → List ℕ → ℕ → Reply Viewed
@@ -56,7 +56,7 @@ viewing s h n =
     then_to (sheet fs h) (λ e. done (shown_part fs n (latest n 0 e.fields none)))))
 
 abbrev pub view_answer : Reply Viewed → Viewed
-view_answer (refused r) = Refused r
+view_answer (refused r) = Err r
 view_answer (done v) = v
 
 unfoldable pub viewed : List ℕ → List ℕ → ℕ → Viewed
@@ -70,9 +70,9 @@ part_of q s = take q.length (drop q.place s)
 
 -- "A refusal comes with an empty part of the set, flagged as the set's."
 abbrev pub shown_bytes : List ℕ → List ℕ → Viewed → List ℕ
-shown_bytes s h (Sheet q) = part_of q h
-shown_bytes s h (Set q) = part_of q s
-shown_bytes s h (Refused r) = []
+shown_bytes s h (Ok (Sheet q)) = part_of q h
+shown_bytes s h (Ok (Set q)) = part_of q s
+shown_bytes s h (Err r) = []
 
 -- "Reply and part may be answered by two calls on the same input."
 unfoldable pub view : List ℕ → List ℕ → ℕ → List ℕ

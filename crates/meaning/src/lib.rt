@@ -4,8 +4,7 @@
 
 ghost use Rattle.std.specs.Prelude.{◌≡◌};
 ghost use Rattle.meaning.specs.Limits.{limits, type_of, type_number};
-ghost use Rattle.meaning.specs.Refusals.{numbers, refusal, tells_byte};
-ghost use Rattle.meaning.specs.Answers.{no_refusal};
+ghost use Rattle.meaning.specs.Refusals.{numbers, refusal};
 
 // A byte has this many values.
 pub const BYTE_VALUES: usize = 256;
@@ -114,13 +113,6 @@ pub enum SetType {
     T6311,
 }
 
-// The set type that a number names, or none of the five.
-#[derive(Drop)]
-pub enum Known {
-    Of(SetType),
-    Nothing,
-}
-
 // The limits of a set as values, for specs/ to cite.
 #[derive(Drop)]
 pub struct Limits {
@@ -150,17 +142,17 @@ impl SetType {
         }
     }
 
-    // The set type with this number.
-    pub fn of(number: usize) -> Known
+    // The set type with this number, or none of the five.
+    pub fn of(number: usize) -> Option<SetType>
         ensures { result ≡ type_of number }
     {
         match number {
-            6300 => Known::Of(SetType::T6300),
-            6301 => Known::Of(SetType::T6301),
-            6302 => Known::Of(SetType::T6302),
-            6310 => Known::Of(SetType::T6310),
-            6311 => Known::Of(SetType::T6311),
-            _ => Known::Nothing,
+            6300 => Some(SetType::T6300),
+            6301 => Some(SetType::T6301),
+            6302 => Some(SetType::T6302),
+            6310 => Some(SetType::T6310),
+            6311 => Some(SetType::T6311),
+            _ => None,
         }
     }
 
@@ -276,13 +268,6 @@ impl Refusal {
         ]
     }
 
-    // No refusal.
-    pub fn none() -> Refusal
-        ensures { result ≡ no_refusal }
-    {
-        Refusal::at(0, 0)
-    }
-
     // A refusal that carries no label.
     pub fn at(no: usize, place: usize) -> Refusal
         ensures { result ≡ refusal no place 0 }
@@ -291,17 +276,6 @@ impl Refusal {
             no,
             place,
             label: 0,
-        }
-    }
-
-    // Of what a correction or an entry of a sheet is refused by for its content, 6 and 24 are placed at a byte of it; 27 is given by recoding alone.
-    pub fn tells_byte(no: usize) -> bool
-        ensures { result ≡ tells_byte no }
-    {
-        match no {
-            Refusal::BAD_BYTE => true,
-            Refusal::HIGH_BYTE => true,
-            _ => false,
         }
     }
 }
@@ -316,7 +290,7 @@ pub struct Row {
 }
 
 // A content kind: which test a content must pass, beside its length.
-#[derive(Drop)]
+#[derive(Clone, Copy)]
 pub enum Kind {
     // Any content bytes.
     Alnum,
@@ -341,7 +315,7 @@ pub enum Kind {
 }
 
 // A row of the field table: a label, the least and the most bytes of its content, and the content's kind.
-#[derive(Drop)]
+#[derive(Clone, Copy)]
 pub struct FieldRow {
     pub label: usize,
     pub least: usize,
@@ -355,24 +329,6 @@ pub struct Shape {
     pub length: usize,
     pub lines: usize,
     pub settype: usize,
-}
-
-// What judging a set answers.
-#[derive(Drop)]
-pub enum Judged {
-    // The set at the front keeps every rule; bytes after it were not judged.
-    Accepted(Shape),
-    // The first fault in the paper's order.
-    Refused(Refusal),
-}
-
-// What index, list, writer, correction and the calls of a day file answer.
-#[derive(Drop)]
-pub enum Made {
-    // What was asked for stands in the lent buffer: this many entries, bytes or numbers.
-    Done(usize),
-    // Nothing was changed.
-    Refused(Refusal),
 }
 
 // A line of the index: its label, the place of its content, the content's length, and the number of its header's line or 0.
@@ -392,13 +348,11 @@ pub struct Part {
     pub length: usize,
 }
 
-// What a view answers: which slice holds the content that is shown, and where.
+// What a view shows: which slice holds the content, and where.
 #[derive(Drop)]
-pub enum Viewed {
+pub enum Shown {
     // A pending correction: the part of the sheet.
     Sheet(Part),
     // No pending correction for the line: the part of the set.
     Set(Part),
-    // Nothing is shown.
-    Refused(Refusal),
 }

@@ -9,25 +9,25 @@ use lib.Dec.{eqb}
 use lib.ListN.{length, take, drop, replicate}
 use Rattle.meaning.proofs.Asking.{text}
 use Rattle.meaning.specs.Computes.{computes}
-use Rattle.meaning.specs.declared.Made.{Made}
-use Rattle.meaning.specs.declared.Made.TheVariants.{Done as DoneMade, Refused as RefusedMade}
 use Rattle.meaning.specs.Refusals.{at_line, Reply, refused, done, refusal}
 use Rattle.meaning.specs.Answers.{Call}
 use Rattle.meaning_cable.specs.declared.Link.{Link}
 use Rattle.meaning_cable.specs.declared.Action.{Action}
+use Rattle.meaning_cable.specs.declared.Action.TheVariants.{Nothing, Send, Delivered, GivenUp}
 use Rattle.meaning_cable.specs.declared.Turned.{Turned}
-use Rattle.meaning_cable.specs.declared.Sent.{Sent}
-use Rattle.meaning_cable.specs.declared.Sent.TheVariants.{Next, Refused as RefusedSet}
-use Rattle.meaning_cable.specs.declared.BlockCount.TheVariants.{Of, Refused as RefusedCount}
+use Rattle.meaning_cable.specs.declared.BlockLabel.TheVariants.{B00, B01, B02}
+use Rattle.meaning_cable.specs.declared.BlockOutcome.TheVariants.{Taken, Again, Whole}
 use Rattle.meaning_cable.specs.declared.Receiver.{Receiver}
-use Rattle.meaning_cable.specs.declared.Received.TheVariants.{Done, Refused as RefusedBlock}
 use Rattle.meaning_cable.specs.Crc.{crc}
 use Rattle.meaning_cable.specs.Stream.{separator, restored}
-use Rattle.meaning_cable.specs.Blocks.{through_first, block_count, block_data, block_label, block_bytes, block_of, block, blocks_of}
-use Rattle.meaning_cable.specs.Sending.{ack1, ack0, is_ack, action, begun, turn_of, after, given_up}
+use Rattle.meaning_cable.specs.Blocks.{label_digit, through_first, block_count, block_data, block_label, block_bytes, block_of, block, blocks_of}
+use Rattle.meaning_cable.specs.Sending.{ack1, ack0, is_ack, what_number, block_number, count_number, begun, turn_of, after, given_up}
 use Rattle.meaning_cable.specs.Receiving.{block_faults, ReceiveCall, ack_of, keeping, receive}
-use Rattle.meaning_cable.specs.CableCalls.{SendCall, send_call, asked, counted, block_call, received_call, ack_by}
+use Rattle.meaning_cable.specs.CableCalls.{SendCall, send_call, asked, counted, block_call, outcome_number, outcome_of, received_call, ack_by}
 use Rattle.meaning_cable.specs.CableComputes.{cable_computes}
+use Rattle.meaning.specs.Results.{Made}
+use Rattle.meaning_cable.specs.CableResults.{Sent}
+use Rattle.std.specs.Prelude.{Err, Ok}
 
 -- ---- the CRC
 
@@ -168,9 +168,9 @@ sender-begins :
     ∷ begun (at 0 5 1 2 0 6) 3  -- 0 on an idle link, whatever its count (E3o)
     ∷ begun (at 9 5 1 2 0 6) 3  -- any other phase counts as idle (E3o)
     ∷ []
-    ≡ turned_to (at 1 3 1 0 0 0) (action 1 0 0) ∷ turned_to (at 1 3 1 0 0 1) (action 1 0 1) ∷ turned_to (at 1 3 1 0 0 0) (action 1 0 0)
-    ∷ turned_to (at 1 3 1 0 0 0) (action 1 0 0) ∷ turned_to (at 1 3 1 0 0 9) (action 1 0 9) ∷ turned_to (at 1 3 1 0 0 1) (action 1 0 1)
-    ∷ turned_to (at 1 3 1 0 0 0) (action 1 0 0) ∷ turned_to (at 1 3 1 0 0 0) (action 1 0 0) ∷ []
+    ≡ turned_to (at 1 3 1 0 0 0) (Send 0 0) ∷ turned_to (at 1 3 1 0 0 1) (Send 0 1) ∷ turned_to (at 1 3 1 0 0 0) (Send 0 0)
+    ∷ turned_to (at 1 3 1 0 0 0) (Send 0 0) ∷ turned_to (at 1 3 1 0 0 9) (Send 0 9) ∷ turned_to (at 1 3 1 0 0 1) (Send 0 1)
+    ∷ turned_to (at 1 3 1 0 0 0) (Send 0 0) ∷ turned_to (at 1 3 1 0 0 0) (Send 0 0) ∷ []
 unfolding computes cable_computes fresh_link at turned_to
 sender-begins = refl
 
@@ -193,12 +193,12 @@ sender-rows :
     ∷ turn_of (at 1 3 0 1 0 12) []  -- a block is asked for with the count as it is
     ∷ turn_of (at 1 3 9 1 5 12) []  -- attempt 9 is the second
     ∷ []
-    ≡ turned_to (at 1 3 1 1 0 1) (action 1 1 1) ∷ turned_to (at 1 3 1 2 0 5) (action 1 2 5) ∷ turned_to (at 2 3 1 2 0 4) (action 2 0 0)
-    ∷ turned_to (at 1 3 1 1 1 4) (action 1 1 4) ∷ turned_to (at 1 3 2 0 0 0) (action 1 0 0) ∷ turned_to (at 3 3 2 1 1 4) (action 3 0 0)
-    ∷ turned_to (at 2 3 1 2 0 4) (action 2 0 0) ∷ turned_to (at 3 3 2 1 1 4) (action 3 0 0) ∷ turned_to (at 7 3 2 1 1 4) (action 0 0 0) ∷ turned_to (at 0 3 2 1 1 4) (action 0 0 0)
-    ∷ turned_to (at 1 3 1 1 0 9) (action 1 1 9) ∷ turned_to (at 2 3 1 2 1 4) (action 2 0 0) ∷ turned_to (at 2 0 0 9 0 12) (action 2 0 0)
-    ∷ turned_to (at 1 3 2 0 0 0) (action 1 0 0) ∷ turned_to (at 1 3 0 1 0 1) (action 1 1 1) ∷ turned_to (at 1 3 0 1 1 12) (action 1 1 12)
-    ∷ turned_to (at 3 3 9 1 5 12) (action 3 0 0) ∷ []
+    ≡ turned_to (at 1 3 1 1 0 1) (Send 1 1) ∷ turned_to (at 1 3 1 2 0 5) (Send 2 5) ∷ turned_to (at 2 3 1 2 0 4) Delivered
+    ∷ turned_to (at 1 3 1 1 1 4) (Send 1 4) ∷ turned_to (at 1 3 2 0 0 0) (Send 0 0) ∷ turned_to (at 3 3 2 1 1 4) GivenUp
+    ∷ turned_to (at 2 3 1 2 0 4) Delivered ∷ turned_to (at 3 3 2 1 1 4) GivenUp ∷ turned_to (at 7 3 2 1 1 4) Nothing ∷ turned_to (at 0 3 2 1 1 4) Nothing
+    ∷ turned_to (at 1 3 1 1 0 9) (Send 1 9) ∷ turned_to (at 2 3 1 2 1 4) Delivered ∷ turned_to (at 2 0 0 9 0 12) Delivered
+    ∷ turned_to (at 1 3 2 0 0 0) (Send 0 0) ∷ turned_to (at 1 3 0 1 0 1) (Send 1 1) ∷ turned_to (at 1 3 0 1 1 12) (Send 1 12)
+    ∷ turned_to (at 3 3 9 1 5 12) GivenUp ∷ []
 unfolding computes cable_computes at turned_to
 sender-rows = refl
 
@@ -354,21 +354,37 @@ send-calls :
     ∷ send_call (at 2 2 1 1 0 1) true []  -- no set
     ∷ send_call (at 1 2 1 0 0 0) false ack1  -- a reply
     ∷ []
-    ≡ sent_to (Next (turned_to (at 1 2 1 0 0 0) (action 1 0 0))) (at 1 2 1 0 0 0)
-    ∷ sent_to (Next (turned_to (at 1 2 1 0 0 2) (action 1 0 2))) (at 1 2 1 0 0 2)
-    ∷ sent_to (RefusedSet (refusal 18 51 0)) (at 2 2 1 1 0 1)
-    ∷ sent_to (RefusedSet (refusal 1 0 0)) (at 2 2 1 1 0 1)
-    ∷ sent_to (Next (turned_to (at 1 2 1 1 0 1) (action 1 1 1))) (at 1 2 1 1 0 1) ∷ []
+    ≡ sent_to (Ok (turned_to (at 1 2 1 0 0 0) (Send 0 0))) (at 1 2 1 0 0 0)
+    ∷ sent_to (Ok (turned_to (at 1 2 1 0 0 2) (Send 0 2))) (at 1 2 1 0 0 2)
+    ∷ sent_to (Err (refusal 18 51 0)) (at 2 2 1 1 0 1)
+    ∷ sent_to (Err (refusal 1 0 0)) (at 2 2 1 1 0 1)
+    ∷ sent_to (Ok (turned_to (at 1 2 1 1 0 1) (Send 1 1))) (at 1 2 1 1 0 1) ∷ []
 unfolding computes cable_computes fresh_link p at turned_to sent_to
 send-calls = refl
 
 -- what an answer asks for: nothing if the set is refused
 asked-decided : map asked ((send_call fresh_link true p).answer ∷ (send_call (at 1 2 1 0 1 8) false ack1).answer ∷ (send_call (at 1 2 1 0 0 0) true []).answer ∷ [])
-    ≡ action 1 0 0 ∷ action 1 1 9 ∷ action 0 0 0 ∷ []
+    ≡ Send 0 0 ∷ Send 1 9 ∷ Nothing ∷ []
 unfolding computes cable_computes fresh_link p at
 asked-decided = refl
 
-counts-decided : map counted (blocks_of p ∷ blocks_of [] ∷ []) ≡ Of 2 ∷ RefusedCount (refusal 1 0 0) ∷ []
+-- the numbers of what has to be done next: 1 with the block and its count, and 0, 2 or 3 with 0 and 0
+actions-decided : map (λ (x : Action). what_number x ∷ block_number x ∷ count_number x ∷ []) (Nothing ∷ Send 4 7 ∷ Delivered ∷ GivenUp ∷ [])
+    ≡ (0 ∷ 0 ∷ 0 ∷ []) ∷ (1 ∷ 4 ∷ 7 ∷ []) ∷ (2 ∷ 0 ∷ 0 ∷ []) ∷ (3 ∷ 0 ∷ 0 ∷ []) ∷ []
+actions-decided = refl
+
+-- the numbers of what became of a block, there and back
+outcomes-decided : map outcome_number (Taken ∷ Again ∷ Whole ∷ []) ≡ 1 ∷ 2 ∷ 3 ∷ []
+outcomes-decided = refl
+
+outcomes-back : map outcome_of (1 ∷ 2 ∷ 3 ∷ []) ≡ Taken ∷ Again ∷ Whole ∷ []
+outcomes-back = refl
+
+-- the last digits of the labels
+digits-of-labels : map label_digit (B00 ∷ B01 ∷ B02 ∷ []) ≡ 0 ∷ 1 ∷ 2 ∷ []
+digits-of-labels = refl
+
+counts-decided : map counted (blocks_of p ∷ blocks_of [] ∷ []) ≡ Ok 2 ∷ Err (refusal 1 0 0) ∷ []
 unfolding computes cable_computes p
 counts-decided = refl
 
@@ -381,13 +397,13 @@ block-calls :
     ∷ block_call p 0 10 (replicate 24 7)  -- a count over 9 (E3h)
     ∷ block_call (p ++ p) 0 10 (replicate 24 7)  -- the set is judged first (E3h)
     ∷ []
-    ≡ made_so (DoneMade 21) (text "9B0001380006300" ++ (separator ∷ text "5313\r") ++ replicate 3 0) ∷ made_so (DoneMade 0) (replicate 24 0)
-    ∷ made_so (DoneMade 0) (replicate 24 0) ∷ made_so (RefusedMade (refusal 18 51 0)) (replicate 24 7) ∷ []
+    ≡ made_so (Ok 21) (text "9B0001380006300" ++ (separator ∷ text "5313\r") ++ replicate 3 0) ∷ made_so (Ok 0) (replicate 24 0)
+    ∷ made_so (Ok 0) (replicate 24 0) ∷ made_so (Err (refusal 18 51 0)) (replicate 24 7) ∷ []
 unfolding computes cable_computes p made_so
 block-calls = refl
 
 receive-calls : map received_call (called fresh_receiver 0 0 "a|b" ∷ called fresh_receiver 1 0 "ab" ∷ [])
-    ≡ Done (record { what = 1; receiver = state 1 0 1 4 }) ∷ RefusedBlock (refusal 25 0 0) ∷ []
+    ≡ Ok (record { what = Taken; receiver = state 1 0 1 4 }) ∷ Err (refusal 25 0 0) ∷ []
 unfolding computes cable_computes fresh_receiver state piped called
 receive-calls = refl
 

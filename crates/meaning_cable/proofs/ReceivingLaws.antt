@@ -13,11 +13,11 @@ use Rattle.meaning.specs.declared.Refusal.{Refusal}
 use Rattle.meaning.specs.Digits.{digit}
 use Rattle.meaning_cable.specs.Stream.{all_data}
 use Rattle.meaning.proofs.Bools.{and_left, and_right, and_both, not-true}
-use Rattle.meaning.proofs.FaultLaws.{ask-none, ask-last}
+use Rattle.meaning.proofs.FaultLaws.{ask-none, ask-last, refused-done, done-same}
 use Rattle.meaning_cable.specs.declared.Receiver.{Receiver}
 use Rattle.meaning_cable.specs.Blocks.{b00, b02}
 use Rattle.meaning_cable.specs.Sending.{next_count, ack_bytes}
-use Rattle.meaning_cable.specs.CableCalls.{received, received_call, kept_by, ack_by}
+use Rattle.meaning_cable.specs.CableCalls.{outcome_number, outcome_of, received, received_call, kept_by, ack_by}
 use Rattle.meaning_cable.specs.Receiving.{count_of, label_of, data_of, length_ok, head_ok, end_ok, form_ok, crc_ok, block_faults, ReceiveCall, is_taken, is_again, is_whole, ack_number, ack_of}
 use Rattle.meaning_cable.specs.Receiving.{keeping, refusing, max_place, written, answer_by, taking, without_room, IsNext, TakenAt, afresh, goes-on, ends, next-set, put_of, used_to, Takes, bad-form}
 use Rattle.meaning_cable.specs.Receiving.{bad-crc, zero-other, last-again, label-in-set, label-no-set, other-count, fitted, no-room, is_last, is_next, put_at, in_turn, turned, by_faults, receive}
@@ -269,6 +269,16 @@ kept-by st buf b = go (receive st buf b) (receive-outcome st buf b)
     go r (kept x n e) = rw e
     go r (once-more e) = rw e
     go r (took w n e l) = rw e
+
+-- what became of a block says the number of the call's answer, and no other
+pub outcome-told : (st : Receiver) (buf b : List ℕ) (w : ℕ) → (receive st buf b).answer ≡ done w → outcome_number (outcome_of w) ≡ w
+outcome-told st buf b w e = go (receive st buf b) (receive-outcome st buf b) e
+  where
+    go : (r : ReceiveCall) → Outcome st buf r → r.answer ≡ done w → outcome_number (outcome_of w) ≡ w
+    go r (kept x n q) a = refused-done (sym (ap (λ (c : ReceiveCall). c.answer) q) ∙ a)
+    go r (once-more q) a = let y : is_again ≡ w = done-same (sym (ap (λ (c : ReceiveCall). c.answer) q) ∙ a) in subst (λ (n : ℕ). outcome_number (outcome_of n) ≡ n) y refl
+    go r (took v (inl h) q l) a = subst (λ (n : ℕ). outcome_number (outcome_of n) ≡ n) (sym h ∙ done-same (sym q ∙ a)) refl
+    go r (took v (inr h) q l) a = subst (λ (n : ℕ). outcome_number (outcome_of n) ≡ n) (sym h ∙ done-same (sym q ∙ a)) refl
 
 -- ---- the reply
 

@@ -13,12 +13,14 @@ use Rattle.meaning.specs.Refusals.{refused, done}
 use Rattle.meaning.proofs.Bools.{and_left, and_right}
 use Rattle.meaning_cable.specs.declared.Link.{Link}
 use Rattle.meaning_cable.specs.declared.Action.{Action}
+use Rattle.meaning_cable.specs.declared.Action.TheVariants.{Nothing, Delivered, GivenUp}
 use Rattle.meaning_cable.specs.declared.Turned.{Turned}
 use Rattle.meaning.specs.declared.Refusal.{Refusal}
 use Rattle.meaning_cable.specs.Blocks.{blocks_of}
 use Rattle.meaning_cable.proofs.OneSetLaws.{two_blocks}
-use Rattle.meaning_cable.specs.Sending.{send, link_left, under_way, delivered, given_up, next_count, ack1, is_ack, action, sends, end_of, opened, on_to, once_more, second_attempt, Begins}
-use Rattle.meaning_cable.specs.Sending.{goes-on, from_zero, Follows, taken, last_taken, again, afresh, over, ended, goes, stops, first_count, begun, acked, failed, turn_of, after, Ended}
+use Rattle.meaning_cable.specs.Sending.{send, link_left, under_way, delivered, given_up, next_count, ack1, is_ack, sends, end_of, opened, on_to, once_more, second_attempt, Begins, goes-on}
+use Rattle.meaning_cable.specs.Sending.{what_number, block_number, count_number}
+use Rattle.meaning_cable.specs.Sending.{from_zero, Follows, taken, last_taken, again, afresh, over, ended, goes, stops, first_count, begun, acked, failed, turn_of, after, Ended}
 
 -- ---- ACK 1 is just 06h 31h
 
@@ -52,7 +54,7 @@ module _ (s : Link) where
     acked-follows p a = go (leb s.blocks (s.block + 1)) refl
       where
         go : (b : Bool) → leb s.blocks (s.block + 1) ≡ b
-            → Follows s r (cond b (stops delivered s) (goes (on_to s))).link (cond b (stops delivered s) (goes (on_to s))).action
+            → Follows s r (cond b (stops delivered Delivered s) (goes (on_to s))).link (cond b (stops delivered Delivered s) (goes (on_to s))).action
         go true e = last_taken p a (leb-true s.blocks (s.block + 1) e)
         go false e = taken p a (leb-false s.blocks (s.block + 1) e)
 
@@ -61,8 +63,8 @@ module _ (s : Link) where
     failed-follows p a = go (eqb s.errors 0) (leb s.attempt 1) refl refl
       where
         go : (b c : Bool) → eqb s.errors 0 ≡ b → leb s.attempt 1 ≡ c
-            → Follows s r (cond b (goes (once_more s)) (cond c (goes (second_attempt s)) (stops given_up s))).link
-            (cond b (goes (once_more s)) (cond c (goes (second_attempt s)) (stops given_up s))).action
+            → Follows s r (cond b (goes (once_more s)) (cond c (goes (second_attempt s)) (stops given_up GivenUp s))).link
+            (cond b (goes (once_more s)) (cond c (goes (second_attempt s)) (stops given_up GivenUp s))).action
         go true c e f = again p a (eqb-true s.errors 0 e)
         go false true e f = afresh p a (eqb-false s.errors 0 e) (leb-true s.attempt 1 f)
         go false false e f = over p a (eqb-false s.errors 0 e) (leb-false s.attempt 1 f)
@@ -167,13 +169,18 @@ stays-over s [] e = refl
 stays-over s (r ∷ rs) e =
     ap (λ (t : Link). after t rs) (follows-one (turn-follows s r) (ended {s = s} {r = r} (not-under_way s e))).0 ∙ stays-over s rs e
 
-pub over-told : (s : Link) (r : List ℕ) → Ended s → (turn_of s r).action ≡ action s.phase 0 0
+-- as a number: the end that it came to, with block and count 0
+pub over-told : (s : Link) (r : List ℕ) → Ended s
+    → (what_number (turn_of s r).action ≡ s.phase) × (block_number (turn_of s r).action ≡ 0) × (count_number (turn_of s r).action ≡ 0)
 unfolding end_of
-over-told s r e = (follows-one (turn-follows s r) (ended {s = s} {r = r} (not-under_way s e))).1 ∙ go e
+over-told s r e = rw (follows-one (turn-follows s r) (ended {s = s} {r = r} (not-under_way s e))).1 (go e)
   where
-    go : Ended s → cond (eqb s.phase delivered) (action delivered 0 0) (cond (eqb s.phase given_up) (action given_up 0 0) (action 0 0 0)) ≡ action s.phase 0 0
-    go (inl x) = rw x
-    go (inr x) = rw x
+    go : Ended s
+        → (what_number (cond (eqb s.phase delivered) Delivered (cond (eqb s.phase given_up) GivenUp Nothing)) ≡ s.phase)
+        × (block_number (cond (eqb s.phase delivered) Delivered (cond (eqb s.phase given_up) GivenUp Nothing)) ≡ 0)
+        × (count_number (cond (eqb s.phase delivered) Delivered (cond (eqb s.phase given_up) GivenUp Nothing)) ≡ 0)
+    go (inl x) = rw x (refl, refl, refl)
+    go (inr x) = rw x (refl, refl, refl)
 
 then : (n : ℕ) (s t : Link) (rs : List (List ℕ)) → Next n s t → (Going n t → left n t < left n s → Ended (after t rs)) → Ended (after t rs)
 then n s t rs (now-over e) f = subst Ended (sym (stays-over t rs e)) e

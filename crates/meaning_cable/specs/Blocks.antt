@@ -6,6 +6,8 @@ use Rattle.meaning.specs.Refusals.{Reply, done, then_to, verdict}
 use Rattle.meaning.specs.Lines.{cr}
 use Rattle.meaning.specs.Reading.{in_set, read}
 use Rattle.meaning.specs.Corrections.{alone_faults}
+use Rattle.meaning_cable.specs.declared.BlockLabel.{BlockLabel}
+use Rattle.meaning_cable.specs.declared.BlockLabel.TheVariants.{B00, B01, B02}
 use Rattle.meaning_cable.specs.Crc.{crc}
 use Rattle.meaning_cable.specs.Stream.{separator, stream}
 
@@ -54,6 +56,12 @@ b01 = 1
 -- the last block
 abbrev pub b02 : ℕ
 b02 = 2
+
+-- the last digit of a label
+abbrev pub label_digit : BlockLabel → ℕ
+label_digit B00 = b00
+label_digit B01 = b01
+label_digit B02 = b02
 
 -- the label of block i of n
 unfoldable pub block_label : ℕ → ℕ → ℕ

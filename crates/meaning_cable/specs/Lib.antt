@@ -4,5 +4,6 @@ pub mod Stream
 pub mod Blocks
 pub mod Sending
 pub mod Receiving
+pub mod CableResults
 pub mod CableCalls
 pub mod CableComputes

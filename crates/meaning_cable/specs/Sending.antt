@@ -6,6 +6,7 @@ use Rattle.meaning.specs.Digits.{digit_zero}
 use Rattle.meaning.specs.Refusals.{Reply, refused, done, then_to}
 use Rattle.meaning_cable.specs.declared.Link.{Link}
 use Rattle.meaning_cable.specs.declared.Action.{Action}
+use Rattle.meaning_cable.specs.declared.Action.TheVariants.{Nothing, Send, Delivered, GivenUp}
 use Rattle.meaning_cable.specs.declared.Turned.{Turned}
 use Rattle.meaning_cable.specs.Blocks.{max_count, blocks_of}
 
@@ -47,20 +48,37 @@ is_ack r = eqb (length r) 2 && (eqb (get_or r 0 0) ack_byte && eqb (get_or r 1 0
 
 -- ---- what the sender has to do next
 
--- `what` of an action that asks to send a block
+-- its number: 0 nothing is under way, 1 send this block with this count, 2 the set is delivered, 3 it is given up
+abbrev pub what_number : Action → ℕ
+what_number Nothing = 0
+what_number (Send i c) = 1
+what_number Delivered = 2
+what_number GivenUp = 3
+
+-- the number of an action that asks to send a block
 abbrev pub to_send : ℕ
 to_send = 1
 
-abbrev pub action : ℕ → ℕ → ℕ → Action
-action w i c = record { what = w; block = i; count = c }
+-- the block and its count: 0 unless a block is to be sent
+abbrev pub block_number : Action → ℕ
+block_number Nothing = 0
+block_number (Send i c) = i
+block_number Delivered = 0
+block_number GivenUp = 0
+
+abbrev pub count_number : Action → ℕ
+count_number Nothing = 0
+count_number (Send i c) = c
+count_number Delivered = 0
+count_number GivenUp = 0
 
 -- send the block that the link names, with the link's count
 abbrev pub sends : Link → Action
-sends s = action to_send s.block s.count
+sends s = Send s.block s.count
 
--- the end that the link has come to; 0 if nothing is under way
+-- the end that the link has come to; nothing if none is under way
 unfoldable pub end_of : Link → Action
-end_of s = cond (eqb s.phase delivered) (action delivered 0 0) (cond (eqb s.phase given_up) (action given_up 0 0) (action 0 0 0))
+end_of s = cond (eqb s.phase delivered) Delivered (cond (eqb s.phase given_up) GivenUp Nothing)
 
 -- ---- the links that the rows lead to
 
@@ -97,13 +115,13 @@ pub data Follows : Link → List ℕ → Link → Action → Type 0 where
   -- ACK 1 and blocks are left: the next block, with the next count
   taken : {s : Link} {r : List ℕ} → s.phase ≡ under_way → is_ack r ≡ true → s.block + 1 < s.blocks → Follows s r (on_to s) (sends (on_to s))
   -- ACK 1 for the last block
-  last_taken : {s : Link} {r : List ℕ} → s.phase ≡ under_way → is_ack r ≡ true → s.blocks ≤ s.block + 1 → Follows s r (with_phase delivered s) (action delivered 0 0)
+  last_taken : {s : Link} {r : List ℕ} → s.phase ≡ under_way → is_ack r ≡ true → s.blocks ≤ s.block + 1 → Follows s r (with_phase delivered s) Delivered
   -- the first error on a block: the same block with the same count
   again : {s : Link} {r : List ℕ} → s.phase ≡ under_way → is_ack r ≡ false → s.errors ≡ 0 → Follows s r (once_more s) (sends (once_more s))
   -- "a second error in a row on a block starts again from B00 with count 0"
   afresh : {s : Link} {r : List ℕ} → s.phase ≡ under_way → is_ack r ≡ false → s.errors ≢ 0 → s.attempt ≤ 1 → Follows s r (second_attempt s) (sends (second_attempt s))
   -- "a second failed attempt ends it"
-  over : {s : Link} {r : List ℕ} → s.phase ≡ under_way → is_ack r ≡ false → s.errors ≢ 0 → 1 < s.attempt → Follows s r (with_phase given_up s) (action given_up 0 0)
+  over : {s : Link} {r : List ℕ} → s.phase ≡ under_way → is_ack r ≡ false → s.errors ≢ 0 → 1 < s.attempt → Follows s r (with_phase given_up s) GivenUp
   -- "calls after the end answer so"; on an idle link nothing is under way
   ended : {s : Link} {r : List ℕ} → s.phase ≢ under_way → Follows s r s (end_of s)
 
@@ -112,8 +130,8 @@ pub data Follows : Link → List ℕ → Link → Action → Type 0 where
 abbrev pub goes : Link → Turned
 goes s = record { link = s; action = sends s }
 
-abbrev pub stops : ℕ → Link → Turned
-stops p s = record { link = with_phase p s; action = action p 0 0 }
+abbrev pub stops : ℕ → Action → Link → Turned
+stops p x s = record { link = with_phase p s; action = x }
 
 -- the count that the next set begins with
 unfoldable pub first_count : Link → ℕ
@@ -125,11 +143,11 @@ begun s n = goes (opened n (first_count s))
 
 -- after ACK 1
 unfoldable pub acked : Link → Turned
-acked s = cond (leb s.blocks (s.block + 1)) (stops delivered s) (goes (on_to s))
+acked s = cond (leb s.blocks (s.block + 1)) (stops delivered Delivered s) (goes (on_to s))
 
 -- after an error
 unfoldable pub failed : Link → Turned
-failed s = cond (eqb s.errors 0) (goes (once_more s)) (cond (leb s.attempt 1) (goes (second_attempt s)) (stops given_up s))
+failed s = cond (eqb s.errors 0) (goes (once_more s)) (cond (leb s.attempt 1) (goes (second_attempt s)) (stops given_up GivenUp s))
 
 -- a reply comes
 unfoldable pub turn_of : Link → List ℕ → Turned

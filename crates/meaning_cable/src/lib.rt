@@ -1,8 +1,6 @@
 // The serial cable of appendix A: the records of sender and receiver, what their calls answer, and the limits. The definitions are in specs/, their laws in proofs/.
 #![tactic(auto)]
 
-use meaning::Refusal;
-
 // "Up to 128 data bytes".
 pub const DATA: usize = 128;
 
@@ -20,12 +18,16 @@ pub const SEPARATOR: u8 = 0x1C;
 // The greatest sequence count: "count 1 to 9 then 1 again".
 pub const COUNT: usize = 9;
 
-// The labels by their last digit: the first block of a set, one between, the last.
-pub const B00: usize = 0;
-
-pub const B01: usize = 1;
-
-pub const B02: usize = 2;
+// The label of a block, which is named by its last digit.
+#[derive(Clone, Copy, PartialEq, Eq)]
+pub enum BlockLabel {
+    // The first block of a set.
+    B00,
+    // One between the first and the last.
+    B01,
+    // The last block.
+    B02,
+}
 
 // The sender's one state record, six numbers. Six zeros are a fresh link.
 #[repr(C)]
@@ -55,12 +57,17 @@ impl Link {
     pub const GIVEN_UP: usize = 3;
 }
 
-// What the sender has to do next: 0 nothing is under way, 1 send this block with this count, 2 the set is delivered, 3 it is given up. Block and count are 0 unless `what` is 1.
-#[derive(Drop)]
-pub struct Action {
-    pub what: usize,
-    pub block: usize,
-    pub count: usize,
+// What the sender has to do next.
+#[derive(Clone, Copy)]
+pub enum Action {
+    // No set is under way.
+    Nothing,
+    // Send this block, from 0, with this sequence count.
+    Send { block: usize, count: usize },
+    // The set is delivered.
+    Delivered,
+    // The set is given up.
+    GivenUp,
 }
 
 // The link after a call, and what has to be done next.
@@ -68,22 +75,6 @@ pub struct Action {
 pub struct Turned {
     pub link: Link,
     pub action: Action,
-}
-
-// What the sender's call answers.
-#[derive(Drop)]
-pub enum Sent {
-    // The link's record is updated.
-    Next(Turned),
-    // The set that should have begun is refused: the record stays as it was.
-    Refused(Refusal),
-}
-
-// How many blocks a set has.
-#[derive(Drop)]
-pub enum BlockCount {
-    Of(usize),
-    Refused(Refusal),
 }
 
 // The receiver's state, four numbers. Four zeros are a fresh receiver.
@@ -100,27 +91,19 @@ pub struct Receiver {
     pub used: usize,
 }
 
-// What became of a block that was not refused, and the receiver's state after it.
+// What became of a block that was not refused.
+#[derive(Clone, Copy)]
+pub enum BlockOutcome {
+    Taken,
+    // Acknowledged again: nothing moved.
+    Again,
+    // Taken, and the set is whole.
+    Whole,
+}
+
+// The same, and the receiver's state after it.
 #[derive(Drop)]
 pub struct Taken {
-    pub what: usize,
+    pub what: BlockOutcome,
     pub receiver: Receiver,
-}
-
-impl Taken {
-    pub const TAKEN: usize = 1;
-
-    // Acknowledged again: nothing moved.
-    pub const AGAIN: usize = 2;
-
-    // Taken, and the set is whole.
-    pub const WHOLE: usize = 3;
-}
-
-// What the receiver's call answers.
-#[derive(Drop)]
-pub enum Received {
-    Done(Taken),
-    // State and buffer stay as they were.
-    Refused(Refusal),
 }

@@ -14,8 +14,6 @@ use lib.Seq.{drop-append_seam, take_at, length-take-le}
 use borrow.Author.Tests.{leb-true, leb-false, le-leb}
 use Rattle.meaning.specs.declared.Refusal.{Refusal}
 use Rattle.meaning.specs.declared.Shape.{Shape}
-use Rattle.meaning.specs.declared.Judged.TheVariants.{Accepted}
-use Rattle.meaning.specs.declared.Made.TheVariants.{Done}
 use Rattle.meaning.specs.Field.{Field, is_nil}
 use Rattle.meaning.specs.Refusals.{Reply, refused, done, then_to, refusal, with_room, too_many_sets}
 use Rattle.meaning.specs.Pieces.{Parsed, parsed}
@@ -33,13 +31,14 @@ use Rattle.meaning_day.proofs.DayLaws.{accepted-starts, starts-over, starts-some
 use Rattle.meaning_day.proofs.DayLaws.{no_more, first-set, built-sets, append_set, append-only}
 use Rattle.meaning_day.proofs.GrownLaws.{sets-grown}
 use Rattle.meaning_day.proofs.DayDemands.{front-columns, done-build, done-append}
+use Rattle.std.specs.Prelude.{Ok}
 
 -- ---- one accepted set, to its last byte
 
 -- s is one accepted set: judged by itself, and its length is that of s
 pub record OneSet (s : List ℕ) : Type 0 where
   pub shape_of : Shape
-  pub is-accepted : judge s ≡ Accepted shape_of
+  pub is-accepted : judge s ≡ Ok shape_of
   pub whole_length : shape_of.length ≡ length s
 
 -- then its lines are read, and nothing after them
@@ -150,14 +149,14 @@ refused-by-both f s room room' es r h some e = go (starts_set s) refl
 
 -- So whatever starts a set, and holds no second one if it is accepted, is appended or refused just as building does it.
 pub append-alike : (f s : List ℕ) (room : ℕ) (es lent : List DayEntry) → build f room ≡ done es → (length es < length lent → take (length es) lent ≡ es) → starts_set s ≡ true
-    → ((x : Shape) → judge s ≡ Accepted x → x.length ≡ length s)
+    → ((x : Shape) → judge s ≡ Ok x → x.length ≡ length s)
     → append (f ++ s) (length f) lent (length es) ≡ build (f ++ s) (length lent)
 append-alike f s room es lent h front st alone = go (read s) refl
   where
     go : (r : Reply Parsed) → read s ≡ r → append (f ++ s) (length f) lent (length es) ≡ build (f ++ s) (length lent)
     go (refused r) e = let z = refused-alike f s room (length lent) es lent (length es) r h st e in z.0 ∙ sym z.1
     go (done d) e =
-        let j : judge s ≡ Accepted (shape d.fields) = read-judge s d e in
+        let j : judge s ≡ Ok (shape d.fields) = read-judge s d e in
         append-as-built f s room es lent h front (record { shape_of = shape d.fields; is-accepted = j; whole_length = alone (shape d.fields) j })
 
 -- ---- the same on calls
@@ -165,11 +164,11 @@ append-alike f s room es lent h front st alone = go (read s) refl
 -- The numbers lent now start with an index of f with n sets: `build_call`, with any lent numbers, answered n, and those of n entries stand at the front.
 pub record Built (f index : List ℕ) (n : ℕ) : Type 0 where
   pub lent : List ℕ
-  pub answered : (build_call f lent).answer ≡ Done n
+  pub answered : (build_call f lent).answer ≡ Ok n
   pub front : take (n * 4) index ≡ take (n * 4) (build_call f lent).buffer
 
 -- as they do after building
-pub built-by-call : (f b : List ℕ) (n : ℕ) → (build_call f b).answer ≡ Done n → Built f (build_call f b).buffer n
+pub built-by-call : (f b : List ℕ) (n : ℕ) → (build_call f b).answer ≡ Ok n → Built f (build_call f b).buffer n
 built-by-call f b n e = record { lent = b; answered = e; front = refl }
 
 -- then the entries are there, and the numbers at the front are theirs
@@ -205,7 +204,7 @@ pub append-takes-joined : (f s : List ℕ) (lent : List DayEntry) (count : ℕ) 
 append-takes-joined f s lent count xs e = rw (drop-append_seam f s) at (append-takes-one-set (f ++ s) (length f) lent count xs e)
 
 -- So an append that is done is always what building gives, answer and every number, if the old index was built: here for a file f of which the first `old` bytes are the old file.
-pub append-call-done-as-built : (f : List ℕ) (old : ℕ) (index : List ℕ) (n m : ℕ) → Built (take old f) index n → (append_call f old index n).answer ≡ Done m
+pub append-call-done-as-built : (f : List ℕ) (old : ℕ) (index : List ℕ) (n m : ℕ) → Built (take old f) index n → (append_call f old index n).answer ≡ Ok m
     → append_call f old index n ≡ build_call f index
 append-call-done-as-built f old index n m b e =
     let a = done-append f old index n m e in
@@ -215,7 +214,7 @@ append-call-done-as-built f old index n m b e =
     ∙ (append-call-as-built (take old f) (drop old f) index n b (read-one-set (drop old f) a.lines a.was_read) ∙ ap (λ (g : List ℕ). build_call g index) w)
 
 -- The numbers after it start with an index of the whole file. So it may go on: an index that was built once and then appended to, set after set, is always that of the file.
-pub append-stays-built : (f : List ℕ) (old : ℕ) (index : List ℕ) (n m : ℕ) → Built (take old f) index n → (append_call f old index n).answer ≡ Done m
+pub append-stays-built : (f : List ℕ) (old : ℕ) (index : List ℕ) (n m : ℕ) → Built (take old f) index n → (append_call f old index n).answer ≡ Ok m
     → Built f (append_call f old index n).buffer m
 append-stays-built f old index n m b e =
     let same = append-call-done-as-built f old index n m b e in

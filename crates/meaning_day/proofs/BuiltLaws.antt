@@ -6,9 +6,6 @@ use native.Mathlib.Omega.{arith}
 use native.Mathlib.Numerals.{add-one}
 use lib.ListN.{length, take, drop, get_or, replicate, length-take}
 use lib.Seq.{take_all, drop-drop}
-use Rattle.meaning.specs.declared.Judged.TheVariants.{Accepted}
-use Rattle.meaning.specs.declared.Made.{Made}
-use Rattle.meaning.specs.declared.Made.TheVariants.{Done}
 use Rattle.meaning.specs.Field.{Field}
 use Rattle.meaning.specs.Refusals.{done}
 use Rattle.meaning.specs.Pieces.{Parsed, parsed}
@@ -24,6 +21,8 @@ use Rattle.meaning.proofs.CallLaws.{set-list-set}
 use Rattle.meaning_day.specs.declared.DayEntry.{DayEntry}
 use Rattle.meaning_day.specs.Days.{max_sets, day_entry, sets_from, build}
 use Rattle.meaning_day.proofs.DayLaws.{drop-lines, read_length, no-sets, no_more, FirstSet, first-set, built-sets}
+use Rattle.meaning.specs.Results.{Made}
+use Rattle.std.specs.Prelude.{Ok}
 
 -- ---- the sets fill the file
 
@@ -156,7 +155,7 @@ pub record IsSet (f : List ℕ) (e : DayEntry) : Type 0 where
   pub lines : List Field
   pub was_read : read (part_of f e) ≡ done (parsed lines [])
   pub is-entry : e ≡ day_entry e.offset lines
-  pub is-accepted : judge (part_of f e) ≡ Accepted (shape lines)
+  pub is-accepted : judge (part_of f e) ≡ Ok (shape lines)
   pub length-so : (shape lines).length ≡ e.length
   pub settype-so : (shape lines).settype ≡ e.settype
   pub within : e.offset + e.length ≤ length f
@@ -191,8 +190,8 @@ pub set-list-set-in-file : (f : List ℕ) (e : DayEntry) → IsSet f e
     → length l ≤ length list₀ → e.length ≤ length out₀
     → listed ≡ (list_call (part_of f e) list₀).answer → list₁ ≡ (list_call (part_of f e) list₀).buffer
     → written ≡ (write_call (take (length l) list₁) out₀).answer → out₁ ≡ (write_call (take (length l) list₁) out₀).buffer
-    → ((listed ≡ Done (length l)) × (list₁ ≡ l ++ replicate (length list₀ - length l) 0))
-    × ((written ≡ Done e.length) × (out₁ ≡ part_of f e ++ replicate (length out₀ - e.length) 0)))
+    → ((listed ≡ Ok (length l)) × (list₁ ≡ l ++ replicate (length list₀ - length l) 0))
+    × ((written ≡ Ok e.length) × (out₁ ≡ part_of f e ++ replicate (length out₀ - e.length) 0)))
 set-list-set-in-file f e h =
     let n : ℕ = (shape h.lines).length in
     let c = set-list-set (part_of f e) (shape h.lines) h.is-accepted in
@@ -200,5 +199,5 @@ set-list-set-in-file f e h =
       c.0,
       λ list₀ list₁ out₀ out₁ listed written room room' p q u v.
           let r = c.1 list₀ list₁ out₀ out₁ listed written room (omega (arith, h.length-so)) p q u v in
-          (r.0, (r.1.0 ∙ ap Done h.length-so, r.1.1 ∙ ap₂ (λ (s : List ℕ) (k : ℕ). s ++ replicate (length out₀ - k) 0) t h.length-so)),
+          (r.0, (r.1.0 ∙ ap Ok h.length-so, r.1.1 ∙ ap₂ (λ (s : List ℕ) (k : ℕ). s ++ replicate (length out₀ - k) 0) t h.length-so)),
     )

@@ -6,7 +6,6 @@ use native.Mathlib.Omega.{arith}
 use lib.ListN.{length, take, drop, length-append, length-take, length-drop}
 use lib.Seq.{take-append_seam}
 use Rattle.meaning.specs.declared.Refusal.{Refusal}
-use Rattle.meaning.specs.declared.Made.TheVariants.{Done, Refused}
 use Rattle.meaning.specs.Field.{Field}
 use Rattle.meaning.specs.Refusals.{Reply, refused, done}
 use Rattle.meaning.specs.Pieces.{parsed}
@@ -18,33 +17,34 @@ use Rattle.meaning_day.specs.Days.{day_entry, build, append, lookup}
 use Rattle.meaning_day.specs.DayCalls.{columns, entries_in, index_left, build_call, append_call, lookup_call}
 use Rattle.meaning_day.proofs.ColumnLaws.{length-columns, entries-within, columns-append, entries-columns, take-columns}
 use Rattle.meaning_day.proofs.DayLaws.{built-sets, append-only}
+use Rattle.std.specs.Prelude.{Err, Ok}
 
 -- ---- a refused call has made nothing: its count is 0, and every lent number is as it was
 
-kept-index : (x : Reply (List DayEntry)) (index : List ℕ) (r : Refusal) → made x ≡ Refused r → (made_count (made x) ≡ 0) × (index_left x index ≡ index)
+kept-index : (x : Reply (List DayEntry)) (index : List ℕ) (r : Refusal) → made x ≡ Err r → (made_count (made x) ≡ 0) × (index_left x index ≡ index)
 kept-index (refused q) index r e = (refl, refl)
 kept-index (done es) index r e = refused-made (sym e)
 
-pub refused-build : (f index : List ℕ) (r : Refusal) → (build_call f index).answer ≡ Refused r
+pub refused-build : (f index : List ℕ) (r : Refusal) → (build_call f index).answer ≡ Err r
     → (made_count (build_call f index).answer ≡ 0) × ((build_call f index).buffer ≡ index)
 refused-build f index r = kept-index (build f (length (entries_in index))) index r
 
-pub refused-append : (f : List ℕ) (old : ℕ) (index : List ℕ) (count : ℕ) (r : Refusal) → (append_call f old index count).answer ≡ Refused r
+pub refused-append : (f : List ℕ) (old : ℕ) (index : List ℕ) (count : ℕ) (r : Refusal) → (append_call f old index count).answer ≡ Err r
     → (made_count (append_call f old index count).answer ≡ 0) × ((append_call f old index count).buffer ≡ index)
 refused-append f old index count r = kept-index (append f old (entries_in index) count) index r
 
-pub refused-lookup : (f index c out : List ℕ) (r : Refusal) → (lookup_call f index c out).answer ≡ Refused r
+pub refused-lookup : (f index c out : List ℕ) (r : Refusal) → (lookup_call f index c out).answer ≡ Err r
     → (made_count (lookup_call f index c out).answer ≡ 0) × ((lookup_call f index c out).buffer ≡ out)
 refused-lookup f index c out r = go (lookup f (entries_in index) c (length out))
   where
-    go : (x : Reply (List ℕ)) → made x ≡ Refused r → (made_count (made x) ≡ 0) × (entries_left x out ≡ out)
+    go : (x : Reply (List ℕ)) → made x ≡ Err r → (made_count (made x) ≡ 0) × (entries_left x out ≡ out)
     go (refused q) e = (refl, refl)
     go (done ns) e = refused-made (sym e)
 
 -- ---- a call that is done
 
 -- what was made, and how many they are
-pub made-done : {A : Type 0} (x : Reply (List A)) (n : ℕ) → made x ≡ Done n → (xs : List A) × (x ≡ done xs) × (length xs ≡ n)
+pub made-done : {A : Type 0} (x : Reply (List A)) (n : ℕ) → made x ≡ Ok n → (xs : List A) × (x ≡ done xs) × (length xs ≡ n)
 made-done (refused q) n e = refused-made e
 made-done (done xs) n e = (xs, refl, made-same e)
 
@@ -83,7 +83,7 @@ index-made x index n es p q h =
     }
 
 -- building answers how many sets the file has, and holds their entries at the front
-pub done-build : (f index : List ℕ) (n : ℕ) → (build_call f index).answer ≡ Done n → IndexMade (build f (length (entries_in index))) index n
+pub done-build : (f index : List ℕ) (n : ℕ) → (build_call f index).answer ≡ Ok n → IndexMade (build f (length (entries_in index))) index n
 done-build f index n e =
     let y = made-done (build f (length (entries_in index))) n e in
     index-made (build f (length (entries_in index))) index n y.0 y.1 y.2 (built-sets f (length (entries_in index)) y.0 y.1).1
@@ -103,7 +103,7 @@ after-old : (index : List ℕ) (count : ℕ) (new : List DayEntry) → count + 1
     → columns (take count (entries_in index) ++ new) ≡ take (count * 4) index ++ columns new
 after-old index count new h = columns-append (take count (entries_in index)) new ∙ ap (λ (ns : List ℕ). ns ++ columns new) (sym (take-columns count index (omega arith)))
 
-pub done-append : (f : List ℕ) (old : ℕ) (index : List ℕ) (count n : ℕ) → (append_call f old index count).answer ≡ Done n → SetAppended f old index count n
+pub done-append : (f : List ℕ) (old : ℕ) (index : List ℕ) (count n : ℕ) → (append_call f old index count).answer ≡ Ok n → SetAppended f old index count n
 done-append f old index count n e =
     let x : Reply (List DayEntry) = append f old (entries_in index) count in
     let y = made-done x n e in

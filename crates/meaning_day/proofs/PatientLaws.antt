@@ -10,8 +10,6 @@ use lib.Dec.{eqb}
 use lib.ListN.{length}
 use borrow.Author.Tests.{eqb-true, eq-eqb}
 use Rattle.meaning.specs.declared.Row.{Row}
-use Rattle.meaning.specs.declared.Known.{Known}
-use Rattle.meaning.specs.declared.Known.TheVariants.{Of, Nothing}
 use Rattle.meaning.specs.declared.SetType.{SetType}
 use Rattle.meaning.specs.declared.SetType.TheVariants.{T6300, T6301, T6302, T6310, T6311}
 use Rattle.meaning.specs.Field.{Field, labels, label_at_line, elem}
@@ -26,6 +24,8 @@ use Rattle.meaning.proofs.FaultLaws.{append-none, ask-none}
 use Rattle.meaning.proofs.RowLaws.{all_rows, found}
 use Rattle.meaning.proofs.RuleLaws.{Ruled, ruled, begins-of}
 use Rattle.meaning_day.specs.Days.{patient_label, lines_before}
+use Rattle.meaning.specs.Results.{Known}
+use Rattle.std.specs.Prelude.{None, Some}
 
 -- ---- what is required is there
 
@@ -151,8 +151,8 @@ patient-there fs e = line-there patient_label fs (go (profile fs).set_type (begi
     by-top rs (inr q) = q
 
     go : (t : Known) → is_known t ≡ true → missing_faults (table_of t) (labels fs) ≡ [] → elem patient_label (labels fs) ≡ true
-    go Nothing k m = absurd (true≢false (sym k))
-    go (Of t) k m =
+    go None k m = absurd (true≢false (sym k))
+    go (Some t) k m =
         let rs : List Row = table t in
         let top = among (after rs first 0 (labels fs)).top in
         let none-lacking = append-none (lacking_of (ascending (rows_under rs set_level)) set_level 0 top) _ m in

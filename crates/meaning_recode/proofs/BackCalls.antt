@@ -5,7 +5,6 @@ use mathlib.Core.List.{List, [], ◌++◌, map}
 use Prim.Native.Nat.{ℕ, ◌+◌, ◌-◌, ◌≤◌}
 use native.Mathlib.Omega.{arith}
 use lib.ListN.{length, take, replicate, length-take}
-use Rattle.meaning.specs.declared.Made.TheVariants.{Done}
 use Rattle.meaning.specs.Field.{Field}
 use Rattle.meaning.specs.Refusals.{Reply, done}
 use Rattle.meaning.specs.Pieces.{parsed}
@@ -27,6 +26,7 @@ use Rattle.meaning_recode.proofs.CodeLaws.{other}
 use Rattle.meaning_recode.proofs.StandLaws.{says-has, recoded-stands, size-kept}
 use Rattle.meaning_recode.proofs.RecodeLaws.{recode-only, recode-makes}
 use Rattle.meaning_recode.proofs.BackLaws.{Becomes, stays, twice, there_and_back, from-seven, seven-and-back, line-and-back, gained_bytes, line-size, named-gains-none}
+use Rattle.std.specs.Prelude.{Ok}
 
 -- ---- the bytes that a buffer holds
 
@@ -52,7 +52,7 @@ pub record FirstDone (b b' : List ℕ) (used n : ℕ) (w : Code) (fs : List Fiel
   pub left : b' ≡ leaves (recode_lines w fs) b
 
 pub first_done : (b b' : List ℕ) (used n : ℕ) (w : Code) (fs : List Field) → read (take used b) ≡ done (parsed fs [])
-    → Done n ≡ (recode_call b used w).answer → b' ≡ (recode_call b used w).buffer → FirstDone b b' used n w fs
+    → Ok n ≡ (recode_call b used w).answer → b' ≡ (recode_call b used w).buffer → FirstDone b b' used n w fs
 first_done b b' used n w fs r p q =
     let x = done-call (recode b used w) n p in
     let m = recode-only b used w x.bytes x.is-done in
@@ -78,17 +78,17 @@ left-length b b' hs room left = ap length left ∙ length-leaves hs b room
 
 -- a recoding that has no fault and gains no line is done, in any buffer
 kept-done : (b : List ℕ) (used : ℕ) (w : Code) (fs ks : List Field) → Holds b used fs → Becomes w fs ks
-    → ((recode_call b used w).answer ≡ Done used) × ((recode_call b used w).buffer ≡ leaves ks b)
+    → ((recode_call b used w).answer ≡ Ok used) × ((recode_call b used w).buffer ≡ leaves ks b)
 kept-done b used w fs ks h k =
     let same : size (recode_lines w fs) ≡ used = size-kept w fs (holds-standing b used fs h) k.without-gain ∙ held-size b used fs h in
     let is : recode b used w ≡ done (render ks []) =
     recode-makes b used w fs h k.without-fault (omega (arith, h.fits_in)) ∙ ap (λ (l : List Field). done (render l [])) k.lines-so in
     let size-so : size ks ≡ used = ap size (sym k.lines-so) ∙ same in
-    (ap made is ∙ ap Done (length-render ks [] ∙ omega arith), ap (λ (y : Reply (List ℕ)). bytes_left y b) is)
+    (ap made is ∙ ap Ok (length-render ks [] ∙ omega arith), ap (λ (y : Reply (List ℕ)). bytes_left y b) is)
 
 -- and so is one of the buffer that another left
 next-done : (b b' : List ℕ) (used n : ℕ) (w v : Code) (fs ks : List Field) → FirstDone b b' used n w fs → Becomes v (recode_lines w fs) ks
-    → ((recode_call b' n v).answer ≡ Done n) × ((recode_call b' n v).buffer ≡ leaves ks b)
+    → ((recode_call b' n v).answer ≡ Ok n) × ((recode_call b' n v).buffer ≡ leaves ks b)
 next-done b b' used n w v fs ks d k =
     let hs : List Field = recode_lines w fs in
     let st : Standing hs = recoded-stands w fs (holds-standing b used fs d.held) d.no-faults in
@@ -100,15 +100,15 @@ next-done b b' used n w v fs ks d k =
 
 -- it is never refused, and the bytes after it become zero
 pub stays-call : (b : List ℕ) (used : ℕ) (w : Code) (fs : List Field) → used ≤ length b → read (take used b) ≡ done (parsed fs []) → in_code w fs ≡ true
-    → ((recode_call b used w).answer ≡ Done used) × ((recode_call b used w).buffer ≡ take used b ++ replicate (length b - used) 0)
+    → ((recode_call b used w).answer ≡ Ok used) × ((recode_call b used w).buffer ≡ take used b ++ replicate (length b - used) 0)
 stays-call b used w fs l r i =
     let h : Holds b used fs = record { fits_in = l; front = r } in
     let x = kept-done b used w fs fs h (stays w fs i) in
     (x.0, x.1 ∙ held-alone b used fs h)
 
 -- recoding twice to the same code page is recoding once: the second call answers the same, and leaves the same buffer
-pub twice-call : (b b' : List ℕ) (used n : ℕ) (w : Code) → Done n ≡ (recode_call b used w).answer → b' ≡ (recode_call b used w).buffer
-    → ((recode_call b' n w).answer ≡ Done n) × ((recode_call b' n w).buffer ≡ b')
+pub twice-call : (b b' : List ℕ) (used n : ℕ) (w : Code) → Ok n ≡ (recode_call b used w).answer → b' ≡ (recode_call b used w).buffer
+    → ((recode_call b' n w).answer ≡ Ok n) × ((recode_call b' n w).buffer ≡ b')
 twice-call b b' used n w p q =
     let e = done-call (recode b used w) n p in
     let m = recode-only b used w e.bytes e.is-done in
@@ -121,19 +121,19 @@ twice-call b b' used n w p q =
 
 -- a set that named the other code page: if it is recoded, it is recoded back, to the bytes that it had
 pub back-call : (b b' : List ℕ) (used n : ℕ) (w : Code) (fs : List Field) → read (take used b) ≡ done (parsed fs []) → names_code (other w) fs ≡ true
-    → Done n ≡ (recode_call b used w).answer → b' ≡ (recode_call b used w).buffer
-    → ((recode_call b' n (other w)).answer ≡ Done used) × ((recode_call b' n (other w)).buffer ≡ take used b ++ replicate (length b - used) 0)
+    → Ok n ≡ (recode_call b used w).answer → b' ≡ (recode_call b used w).buffer
+    → ((recode_call b' n (other w)).answer ≡ Ok used) × ((recode_call b' n (other w)).buffer ≡ take used b ++ replicate (length b - used) 0)
 back-call b b' used n w fs r s p q =
     let d = first_done b b' used n w fs r p q in
     let st : Standing fs = holds-standing b used fs d.held in
     let x = next-done b b' used n w (other w) fs fs d (there_and_back w fs st s d.no-faults) in
     let same : n ≡ used = d.count ∙ (size-kept w fs st (named-gains-none w fs (says-has (other w) fs s)) ∙ held-size b used fs d.held) in
-    (x.0 ∙ ap Done same, x.1 ∙ held-alone b used fs d.held)
+    (x.0 ∙ ap Ok same, x.1 ∙ held-alone b used fs d.held)
 
 -- a set without 9206: if it is recoded to 1252, it is ten bytes longer, and recoded back it has `2` in the line that it gained
 pub line-call : (b b' : List ℕ) (used n : ℕ) (fs : List Field) → read (take used b) ≡ done (parsed fs []) → has_charset fs ≡ false
-    → Done n ≡ (recode_call b used Page1252).answer → b' ≡ (recode_call b used Page1252).buffer
-    → (n ≡ used + gained_bytes) × ((recode_call b' n Page437).answer ≡ Done n) × ((recode_call b' n Page437).buffer ≡ leaves (resum (with_charset Page437 fs)) b)
+    → Ok n ≡ (recode_call b used Page1252).answer → b' ≡ (recode_call b used Page1252).buffer
+    → (n ≡ used + gained_bytes) × ((recode_call b' n Page437).answer ≡ Ok n) × ((recode_call b' n Page437).buffer ≡ leaves (resum (with_charset Page437 fs)) b)
 line-call b b' used n fs r s p q =
     let d = first_done b b' used n Page1252 fs r p q in
     let st : Standing fs = holds-standing b used fs d.held in
@@ -143,8 +143,8 @@ line-call b b' used n fs r s p q =
 -- a set that said seven bits: it is recoded, and back, without a refusal; then 9206 names the code page, and all else is as it was
 pub seven-call : (b b' : List ℕ) (used : ℕ) (w : Code) (fs : List Field) → used ≤ length b → read (take used b) ≡ done (parsed fs []) → seven_bit fs ≡ true
     → b' ≡ (recode_call b used w).buffer
-    → ((recode_call b used w).answer ≡ Done used) × (b' ≡ leaves (map (charset_field w) fs) b)
-    × ((recode_call b' used (other w)).answer ≡ Done used) × ((recode_call b' used (other w)).buffer ≡ leaves (map (charset_field (other w)) fs) b)
+    → ((recode_call b used w).answer ≡ Ok used) × (b' ≡ leaves (map (charset_field w) fs) b)
+    × ((recode_call b' used (other w)).answer ≡ Ok used) × ((recode_call b' used (other w)).buffer ≡ leaves (map (charset_field (other w)) fs) b)
 seven-call b b' used w fs l r s q =
     let h : Holds b used fs = record { fits_in = l; front = r } in
     let st : Standing fs = holds-standing b used fs h in

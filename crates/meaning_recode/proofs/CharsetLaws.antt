@@ -5,8 +5,6 @@ use mathlib.Core.List.{List, [], ◌∷◌, map}
 use Prim.Native.Nat.{ℕ, ◌+◌}
 use lib.Dec.{eqb}
 use borrow.Author.Tests.{eqb-true}
-use Rattle.meaning.specs.declared.Known.{Known}
-use Rattle.meaning.specs.declared.Known.TheVariants.{Of, Nothing}
 use Rattle.meaning.specs.Digits.{digits}
 use Rattle.meaning.specs.Field.{Field, elem}
 use Rattle.meaning.specs.Kinds.{same_bytes}
@@ -26,6 +24,8 @@ use Rattle.meaning_recode.proofs.CodeLaws.{other}
 use Rattle.meaning_recode.proofs.InsertLaws.{NoCharset}
 use Rattle.meaning_recode.proofs.MapLaws.{pick}
 use Rattle.meaning_recode.proofs.StandLaws.{has-later, says-9206, says-has, seven-9206, seven-has}
+use Rattle.meaning.specs.Results.{Known}
+use Rattle.std.specs.Prelude.{None, Some}
 
 -- ---- at most one
 
@@ -43,8 +43,8 @@ pub one-charset : (fs : List Field) → Ruled fs → OneCharset fs
 one-charset fs r = go (profile fs).set_type (begins-of fs r.begins).type-known r.each-line
   where
     go : (t : Known) → is_known t ≡ true → rules_from (record { set_type = t }) first 0 fs ≡ [] → OneCharset fs
-    go (Of t) q e = one_from (record { set_type = Of t }) (single-9206 t) first 0 fs e
-    go Nothing q e = absurd (true≢false (sym q))
+    go (Some t) q e = one_from (record { set_type = Some t }) (single-9206 t) first 0 fs e
+    go None q e = absurd (true≢false (sym q))
 
 none_has : (fs : List Field) → NoCharset fs → has_charset fs ≡ false
 unfolding elem

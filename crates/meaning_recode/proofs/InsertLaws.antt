@@ -13,7 +13,6 @@ use borrow.Author.Tests.{eqb-true, eqb-false, eq-eqb, ne_eqb}
 use Rattle.meaning.specs.declared.Row.{Row}
 use Rattle.meaning.specs.declared.SetType.{SetType}
 use Rattle.meaning.specs.declared.SetType.TheVariants.{T6300, T6301, T6302, T6310, T6311}
-use Rattle.meaning.specs.declared.Known.{Known}
 use Rattle.meaning.specs.Field.{Field, field, labels, elem}
 use Rattle.meaning.specs.Refusals.{Fault, at_line, ask, repeated, missing, other_version, bad_content}
 use Rattle.meaning.specs.Tables.{table, set_level, is_pair_label, row_label, find_in, find}
@@ -32,6 +31,7 @@ use Rattle.meaning.proofs.SevenLaws.{seven-none, every-none, single-9206}
 use Rattle.meaning_recode.specs.declared.Code.{Code}
 use Rattle.meaning_recode.specs.declared.Code.TheVariants.{Page437, Page1252}
 use Rattle.meaning_recode.specs.Recoding.{charset_of, has_charset, with_charset}
+use Rattle.meaning.specs.Results.{Known}
 
 -- ---- labels that nothing stands under
 

@@ -7,7 +7,6 @@ use native.Mathlib.Omega.{arith}
 use lib.Dec.{leb, eqb}
 use lib.ListN.{length, drop, get_or, length-map, get_or-map}
 use borrow.Author.Tests.{leb-true, leb-false, lt-leb, eqb-true, eqb-false, ne_eqb}
-use Rattle.meaning.specs.declared.Known.TheVariants.{Nothing}
 use Rattle.meaning.specs.Limits.{type_of}
 use Rattle.meaning.specs.Digits.{digits, number, all_digits}
 use Rattle.meaning.specs.Field.{Field, field, labels, elem, no_field, label_at_line, content_at_line}
@@ -31,6 +30,7 @@ use Rattle.meaning_recode.specs.Codes.{recoded}
 use Rattle.meaning_recode.specs.Recoding.{charset_of, recode_field, charset_field}
 use Rattle.meaning_recode.proofs.CodeLaws.{low-stays, high-stays}
 use Rattle.meaning_recode.proofs.KindLaws.{all-digits-kept, digits-stay, length-kept, fits_kept, same_kept, current-kept, high-kept}
+use Rattle.std.specs.Prelude.{None}
 
 -- ---- a line that keeps the rules has a content that fits and is current
 
@@ -152,7 +152,7 @@ module _ (w : Code) where
   unfolding type_named
   type-kept c = rw (length-kept w c, all-digits-kept w c) (go (eqb (length c) type_digits) (all_digits c) refl)
     where
-      go : (s t : Bool) → all_digits c ≡ t → cond (s && t) (type_of (number (map (recoded w) c))) Nothing ≡ cond (s && t) (type_of (number c)) Nothing
+      go : (s t : Bool) → all_digits c ≡ t → cond (s && t) (type_of (number (map (recoded w) c))) None ≡ cond (s && t) (type_of (number c)) None
       go true true e = rw (digits-stay w c e) refl
       go true false e = refl
       go false t e = refl

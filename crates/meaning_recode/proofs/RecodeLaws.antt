@@ -10,8 +10,6 @@ use lib.Seq.{take_all}
 use borrow.Author.Tests.{leb-true, le-leb}
 use Rattle.meaning.specs.declared.Refusal.{Refusal}
 use Rattle.meaning.specs.declared.Shape.{Shape}
-use Rattle.meaning.specs.declared.Judged.TheVariants.{Accepted}
-use Rattle.meaning.specs.declared.Made.TheVariants.{Done, Refused}
 use Rattle.meaning.specs.Limits.{max_set_bytes}
 use Rattle.meaning.specs.Field.{Field, is_nil}
 use Rattle.meaning.specs.Refusals.{Fault, Reply, done, then_to, verdict, refusal, bad_use}
@@ -35,6 +33,7 @@ use Rattle.meaning_recode.specs.declared.Code.TheVariants.{Page1252}
 use Rattle.meaning_recode.specs.Recoding.{has_charset, in_code, recode_faults, recode_lines, recode_set, recode}
 use Rattle.meaning_recode.specs.RecodeCalls.{recode_call}
 use Rattle.meaning_recode.proofs.StandLaws.{recoded-stands, recoded-in-code, in-1252}
+use Rattle.std.specs.Prelude.{Err, Ok}
 
 -- ---- a recoding that was done has no faults, and had room
 
@@ -98,7 +97,7 @@ module _ (b : List ℕ) (used : ℕ) (w : Code) (x : List ℕ) (e : recode b use
       (new, r, recoded-in-code w m.lines st, omega (arith, ap length m.made, length-render new []))
 
   -- "Demand 2 holds before and after": the set that was made is accepted, to its last byte
-  pub recode-judged : (y : Shape) × (judge x ≡ Accepted y) × (y.length ≡ length x)
+  pub recode-judged : (y : Shape) × (judge x ≡ Ok y) × (y.length ≡ length x)
   recode-judged = let r = recode-read in (shape r.0, read-judge x (parsed r.0 []) r.1, r.3)
 
   -- "Given room, an accepted set turned into a field list and written again gives identical bytes"
@@ -117,8 +116,8 @@ module _ (b : List ℕ) (used : ℕ) (w : Code) (x : List ℕ) (e : recode b use
   recode-wanted = let r = recode-read in (r.0, r.1, r.2, λ q. in-1252 r.0 (subst (λ (c : Code). in_code c r.0 ≡ true) q r.2))
 
 -- the same of the call: what it answers is the length of the accepted set in the buffer that it leaves
-pub judged-call : (b b' : List ℕ) (used n : ℕ) (w : Code) → Done n ≡ (recode_call b used w).answer → b' ≡ (recode_call b used w).buffer
-    → (y : Shape) × (judge (take n b') ≡ Accepted y) × (y.length ≡ n)
+pub judged-call : (b b' : List ℕ) (used n : ℕ) (w : Code) → Ok n ≡ (recode_call b used w).answer → b' ≡ (recode_call b used w).buffer
+    → (y : Shape) × (judge (take n b') ≡ Ok y) × (y.length ≡ n)
 judged-call b b' used n w p q =
     let x = done-call (recode b used w) n p in
     let f : take n b' ≡ x.bytes = ap (take n) (q ∙ ap (λ (r : Reply (List ℕ)). bytes_left r b) x.is-done) ∙ front-made x.bytes b n x.so-many in
@@ -127,6 +126,6 @@ judged-call b b' used n w p q =
 
 -- ---- "After a refusal every lent buffer holds what it held before."
 
-pub refused-recode : (b : List ℕ) (used : ℕ) (w : Code) (r : Refusal) → (recode_call b used w).answer ≡ Refused r
+pub refused-recode : (b : List ℕ) (used : ℕ) (w : Code) (r : Refusal) → (recode_call b used w).answer ≡ Err r
     → (made_count (recode_call b used w).answer ≡ 0) × ((recode_call b used w).buffer ≡ b)
 refused-recode b used w r = nothing-made (recode b used w) b r

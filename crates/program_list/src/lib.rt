@@ -2,11 +2,8 @@
 // Here are its words and what it reads; `program_status::list_bytes` lists what was read, and `program_out` has all that is written. Every function is proved safe and ending.
 #![tactic(auto)]
 
-ghost use Rattle.std.specs.Prelude.{◌≡◌};
-ghost use Rattle.meaning.specs.Kinds.{same_bytes};
-
-use program_out::{tell, tell_failed};
-use program_status::{LISTED, REFUSED, TROUBLE};
+use program_out::{tell, tell_failed, tell_unwritten};
+use program_status::Status;
 use std::env::{Env, FillError};
 use std::fs::File;
 use std::io::{Error, ErrorKind, Read};
@@ -35,15 +32,14 @@ enum Request {
 
 // ---- reading
 
-// All that can be read, until it ends or the room is full: this many bytes were read.
+// All that can be read, until it ends or the room is full: this many bytes were read. A read gives any number of them, so no count of turns is known before.
 fn read_input(input: &mut impl Read, room: &mut [u8]) -> io::Result<usize> {
-    let mut at: usize = 0;
+    let mut at = 0;
     while at < room.len() {
-        let n = input.read(&mut room[at..])?;
-        if n == 0 {
-            return Ok(at);
+        match input.read(&mut room[at..])? {
+            0 => break,
+            n => at += n,
         }
-        at += n;
     }
     Ok(at)
 }
@@ -51,36 +47,36 @@ fn read_input(input: &mut impl Read, room: &mut [u8]) -> io::Result<usize> {
 // ---- the list
 
 // "longer prints only `too long`"
-fn list_too_long(rt: &HostRuntime) -> i32 {
-    let failed = rt.stdout().write_all(b"too long\n").err();
-    if !program_out::finish(&rt.stderr(), failed) {
-        return TROUBLE;
+fn list_too_long(rt: &HostRuntime) -> Status {
+    if let Err(error) = rt.stdout().write_all(b"too long\n") {
+        tell_unwritten(&rt.stderr(), error);
+        return Status::Trouble;
     }
     tell(
         &rt.stderr(),
         b"gdtlist: the input has more than 65536 bytes\n",
     );
-    REFUSED
+    Status::Refused
 }
 
 // The sets of all that can be read of an input; `name` is what the reader of a message calls it.
-fn list_input(rt: &HostRuntime, input: &mut impl Read, name: &[u8]) -> i32 {
+fn list_input(rt: &HostRuntime, input: &mut impl Read, name: &[u8]) -> Status {
     let mut room = [0u8; ROOM];
     match read_input(input, &mut room) {
         Err(error) => {
             tell_failed(&rt.stderr(), b"read ", name, error);
-            TROUBLE
+            Status::Trouble
         }
         Ok(n) => {
             if MOST_BYTES < n {
                 return list_too_long(rt);
             }
-            program_status::list_bytes(&rt.stdout(), &rt.stderr(), &room[..n])
+            program_status::list_bytes(rt.stdout(), &rt.stderr(), &room[..n])
         }
     }
 }
 
-fn list_standard_input(rt: &HostRuntime) -> i32 {
+fn list_standard_input(rt: &HostRuntime) -> Status {
     list_input(rt, &mut rt.stdin(), b"standard input")
 }
 
@@ -93,68 +89,41 @@ fn open(rt: &HostRuntime, path: &[u8]) -> io::Result<File> {
 }
 
 // It is closed at the end: nothing is written to it, so closing cannot lose anything.
-fn list_file(rt: &HostRuntime, path: &[u8]) -> i32 {
+fn list_file(rt: &HostRuntime, path: &[u8]) -> Status {
     match open(rt, path) {
         Ok(mut file) => list_input(rt, &mut file, path),
         Err(error) => {
             tell_failed(&rt.stderr(), b"open ", path, error);
-            TROUBLE
+            Status::Trouble
         }
     }
 }
 
 // ---- the words
 
-// Whether two words are the same.
-fn same(a: &[u8], b: &[u8]) -> bool
-    ensures { result ≡ same_bytes a.now b.now }
-{
-    if a.len() != b.len() {
-        return false;
-    }
-    let mut i = 0;
-    while i < a.len() {
-        if a[i] != b[i] {
-            return false;
-        }
-        i += 1;
-    }
-    true
-}
-
 // An empty word is a file's name, which no file has.
 fn request_of(word: &[u8]) -> Request {
-    if same(word, b"--help") {
-        return Request::Help;
+    match word {
+        b"--help" | b"-h" => Request::Help,
+        b"-" => Request::StandardInput,
+        [b'-', ..] => Request::Unknown,
+        _ => Request::File,
     }
-    if same(word, b"-h") {
-        return Request::Help;
-    }
-    if same(word, b"-") {
-        return Request::StandardInput;
-    }
-    if word.len() == 0 {
-        return Request::File;
-    }
-    if word[0] == b'-' {
-        return Request::Unknown;
-    }
-    Request::File
 }
 
 fn tell_usage(rt: &HostRuntime) {
     tell(&rt.stderr(), b"usage: gdtlist [FILE]\n");
 }
 
-fn unknown(rt: &HostRuntime, word: &[u8]) -> i32 {
+fn unknown(rt: &HostRuntime, word: &[u8]) -> Status {
     tell(&rt.stderr(), b"gdtlist: ");
     tell(&rt.stderr(), word);
     tell(&rt.stderr(), b" is no option\n");
     tell_usage(rt);
-    TROUBLE
+    Status::Trouble
 }
 
-fn help(rt: &HostRuntime) -> i32 {
+fn help(rt: &HostRuntime) -> Status {
     let written = rt.stdout().write_all(
         b"usage: gdtlist [FILE]\n\
 Lists the GDT 2.1 sets of FILE, or of standard input if FILE is - or not given.\n\
@@ -167,13 +136,14 @@ too long                          an input of more than 65536 bytes: nothing els
 A place counts from the start of its set. The status is 0 if every set is listed,\n\
 1 if a set is refused or the input is too long, 2 if something failed.\n",
     );
-    if !program_out::finish(&rt.stderr(), written.err()) {
-        return TROUBLE;
+    if let Err(error) = written {
+        tell_unwritten(&rt.stderr(), error);
+        return Status::Trouble;
     }
-    LISTED
+    Status::Listed
 }
 
-fn run_word(rt: &HostRuntime, word: &[u8]) -> i32 {
+fn run_word(rt: &HostRuntime, word: &[u8]) -> Status {
     match request_of(word) {
         Request::Help => help(rt),
         Request::StandardInput => list_standard_input(rt),
@@ -188,11 +158,11 @@ fn has_word(rt: &HostRuntime, i: usize) -> bool {
 }
 
 // The program, by the words that it was started with; answers its exit status.
-pub fn gdtlist_run(rt: &HostRuntime) -> i32 {
+pub fn gdtlist_run(rt: &HostRuntime) -> Status {
     if has_word(rt, 2) {
         tell(&rt.stderr(), b"gdtlist: more than one word\n");
         tell_usage(rt);
-        return TROUBLE;
+        return Status::Trouble;
     }
     let mut word = [0u8; MOST_WORD];
     match rt.arg(1, &mut word) {
@@ -201,7 +171,7 @@ pub fn gdtlist_run(rt: &HostRuntime) -> i32 {
         Err(FillError::TooLong) => {
             let error = Error::from_raw_os_error(NAME_TOO_LONG);
             tell_failed(&rt.stderr(), b"take ", b"the file name", error);
-            TROUBLE
+            Status::Trouble
         }
     }
 }

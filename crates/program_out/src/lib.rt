@@ -1,180 +1,95 @@
 // What the program gdtlist writes: standard output, gathered in a block that is written when it is full, and messages on standard error. What is printed of a set is what
-// `face_replies::judged_reply` and `index_walk::next_entry` answer. No contract says what is written; they say that the block stays whole.
+// `judge::judge` and `index_walk::next_entry` answer. No contract says what is written; they say that the block stays whole.
 #![tactic(auto)]
 
-ghost use Rattle.std.specs.Prelude.{◌≡◌, true, None, ◌+◌, ◌≤◌, length};
-ghost use Rattle.program_out.specs.OutBlock.{block_size, Holds};
+ghost use Rattle.std.specs.Prelude.{◌≡◌, ◌≤◌, None};
+ghost use Rattle.std.specs.Io.KnownBytes.{Keeps};
+ghost use Rattle.program_out.specs.declared.TheConstants.{BLOCK};
 
-use face_replies::JudgedReply;
-use meaning::Entry;
+use meaning::{Refusal, Shape};
+use std::io;
 use std::io::{Error, Write};
 
-pub const BLOCK: usize = 4096;
-
-// The most digits of a number.
-const MOST_DIGITS: usize = 20;
+// The bytes of the block.
+const BLOCK: usize = 4096;
 
 // The most bytes that std prints of an error: the system's words, of 256 bytes at most, and their number.
 const MOST_WORDS: usize = 320;
 
-// How many bytes of the block are still to be written, and why a write failed, if one did. After a write that failed none is tried.
-#[derive(Clone, Copy)]
-pub struct Out {
-    pub used: usize,
-    pub failed: Option<Error>,
+// A stream, and the block that gathers what is put: so many of its bytes are still to be written. std's BufWriter has its block on the heap.
+#[derive(Drop)]
+pub struct Out<W: Write + Drop> {
+    to: W,
+    block: [u8; BLOCK],
+    used: usize,
+    ghost within: { used ≤ BLOCK },
 }
 
-// ---- the block
-
-// Nothing was put yet.
-pub fn start() -> Out
-    ensures { result.used ≡ 0 }
-{
-    Out {
-        used: 0,
-        failed: None,
-    }
-}
-
-// All that was put is written, unless a write failed.
-pub fn flush(to: &impl Print, block: &[u8], out: Out) -> Out
-    requires { Holds block.now out }
-    ensures { (result.used ≡ 0) × (result.failed ≡ None → out.failed ≡ None) }
-{
-    if out.failed.is_some() {
-        return Out {
+impl<W: Write + Drop> Out<W> {
+    // Nothing was put yet.
+    pub fn new(to: W) -> Self
+        ensures { result.used ≡ 0 }
+    {
+        Out {
+            to,
+            block: [0; BLOCK],
             used: 0,
-            failed: out.failed,
-        };
+        }
     }
-    let used = out.used;
-    Out {
-        used: 0,
-        failed: to.write_all(&block[..used]).err(),
+
+    // "A refusal prints `refused`, number, place, label."
+    pub fn put_refusal(&mut self, refusal: &Refusal) -> io::Result<()> {
+        writeln!(
+            self,
+            "refused {} {} {}",
+            refusal.no, refusal.place, refusal.label
+        )
+    }
+
+    // The set of this shape at the front of some bytes. "First line: type, bytes, lines. Then line number, label, content place, content length, header."
+    pub fn put_set(&mut self, set: &[u8], shape: Shape) -> io::Result<()> {
+        writeln!(
+            self,
+            "set {} {} {}",
+            shape.settype, shape.length, shape.lines
+        )?;
+        let mut walk = index_walk::start();
+        for number in 1..=shape.lines {
+            let next = index_walk::next_entry(set, walk);
+            let entry = next.entry;
+            walk = next.walk;
+            writeln!(
+                self,
+                "{number} {} {} {} {}",
+                entry.label, entry.place, entry.length, entry.header
+            )?;
+        }
+        Ok(())
     }
 }
 
-// Room in the block for this many bytes more.
-fn room_for(to: &impl Print, block: &[u8], out: Out, more: usize) -> Out
-    requires { Holds block.now out × (more ≤ block_size) }
-    ensures { result.used + more ≤ block_size }
-{
-    if BLOCK - out.used < more {
-        return flush(to, block, out);
+impl<W: Write + Drop> Write for Out<W> {
+    // What the block has no room for comes after all that was put before.
+    fn write(&mut self, text: &[u8]) -> io::Result<usize> {
+        if BLOCK - self.used < text.len() {
+            self.flush()?;
+        }
+        let room = &mut self.block[self.used..];
+        let n = text.len().min(room.len());
+        room[..n].copy_from_slice(&text[..n]);
+        self.used += n;
+        Ok(n)
     }
-    out
-}
 
-// A text after what was put.
-fn put(to: &impl Print, block: &mut [u8], out: Out, text: &[u8]) -> Out
-    requires { Holds block.old out × (length text.now ≤ block_size) }
-    ensures { Holds block.new result }
-{
-    let roomy = room_for(to, block, out, text.len());
-    let used = roomy.used;
-    byte_put::copy_front(&mut block[used..], text);
-    Out {
-        used: used + text.len(),
-        failed: roomy.failed,
+    // All that was put is written, unless a write fails.
+    fn flush(&mut self) -> io::Result<()>
+        ensures bytes { Keeps None None }
+        ensures empty { self.new.used ≡ 0 }
+    {
+        let used = self.used;
+        self.used = 0;
+        self.to.write_all(&self.block[..used])
     }
-}
-
-// A number in plain digits: label 0102 is printed as 102.
-fn put_number(to: &impl Print, block: &mut [u8], out: Out, n: usize) -> Out
-    requires { Holds block.old out }
-    ensures { Holds block.new result }
-{
-    let mut digits = [0u8; MOST_DIGITS];
-    let k = io::decimal(n as u64, &mut digits);
-    put(to, block, out, &digits[..k])
-}
-
-// A number after another word of the line.
-fn put_next(to: &impl Print, block: &mut [u8], out: Out, n: usize) -> Out
-    requires { Holds block.old out }
-    ensures { Holds block.new result }
-{
-    let parted = put(to, block, out, b" ");
-    put_number(to, block, parted, n)
-}
-
-// The last three numbers of a line.
-fn put_last(
-    to: &impl Print,
-    block: &mut [u8],
-    out: Out,
-    first: usize,
-    second: usize,
-    third: usize,
-) -> Out
-    requires { Holds block.old out }
-    ensures { Holds block.new result }
-{
-    let one = put_next(to, block, out, first);
-    let two = put_next(to, block, one, second);
-    let three = put_next(to, block, two, third);
-    put(to, block, three, b"\n")
-}
-
-// ---- a set
-
-// "A refusal prints `refused`, number, place, label."
-fn put_refusal(to: &impl Print, block: &mut [u8], out: Out, reply: JudgedReply) -> Out
-    requires { Holds block.old out }
-    ensures { Holds block.new result }
-{
-    let word = put(to, block, out, b"refused");
-    put_last(to, block, word, reply.no, reply.place, reply.label)
-}
-
-// "First line: type, bytes, lines."
-fn put_shape(to: &impl Print, block: &mut [u8], out: Out, reply: JudgedReply) -> Out
-    requires { Holds block.old out }
-    ensures { Holds block.new result }
-{
-    let word = put(to, block, out, b"set");
-    put_last(to, block, word, reply.settype, reply.length, reply.lines)
-}
-
-// "Then line number, label, content place, content length, header."
-fn put_entry(to: &impl Print, block: &mut [u8], out: Out, number: usize, entry: Entry) -> Out
-    requires { Holds block.old out }
-    ensures { Holds block.new result }
-{
-    let count = put_number(to, block, out, number);
-    let label = put_next(to, block, count, entry.label);
-    put_last(to, block, label, entry.place, entry.length, entry.header)
-}
-
-// The n lines of the set at the front of some bytes.
-fn put_entries(to: &impl Print, block: &mut [u8], out: Out, s: &[u8], n: usize) -> Out
-    requires { Holds block.old out }
-    ensures { Holds block.new result }
-{
-    let mut held = out;
-    let mut walk = index_walk::start();
-    let mut k: usize = 0;
-    while k < n {
-        let next = index_walk::next_entry(s, walk);
-        let entry = next.entry;
-        let after = next.walk;
-        k += 1;
-        held = put_entry(to, block, held, k, entry);
-        walk = after;
-    }
-    held
-}
-
-// The set at the front of some bytes, or its refusal, by what judging it answered.
-pub fn put_set(to: &impl Print, block: &mut [u8], out: Out, s: &[u8], reply: JudgedReply) -> Out
-    requires { Holds block.old out }
-    ensures { Holds block.new result }
-{
-    if reply.no != 0 {
-        return put_refusal(to, block, out, reply);
-    }
-    let headed = put_shape(to, block, out, reply);
-    put_entries(to, block, headed, s, reply.lines)
 }
 
 // ---- messages on standard error
@@ -184,7 +99,7 @@ pub fn tell(to: &impl Print, text: &[u8]) {
     let _ = to.write_all(text);
 }
 
-// The system's words for an error, without their number, which std prints after them.
+// The system's words for an error, without their number, which std prints after them. They go into a room of their own: nothing is on the heap.
 fn tell_reason(to: &impl Print, error: Error) {
     let mut room = [0u8; MOST_WORDS];
     let mut rest = &mut room[..];
@@ -209,20 +124,12 @@ pub fn tell_failed(to: &impl Print, what: &[u8], name: &[u8], error: Error) {
     tell(to, b"\n");
 }
 
+// Standard output could not be written.
+pub fn tell_unwritten(to: &impl Print, error: Error) {
+    tell_failed(to, b"write to ", b"standard output", error);
+}
+
 // Places of the list count from the start of its set: so this says where that is.
 pub fn tell_refused(to: &impl Print, no: usize, at: usize) {
     let _ = println!(to; "gdtlist: refused by {no}, in the set at byte {at} of the input");
-}
-
-// ---- the end
-
-// After the last write, which failed or not. Answers whether all went well, and else tells why.
-pub fn finish(to: &impl Print, failed: Option<Error>) -> bool
-    ensures { result ≡ true → failed ≡ None }
-{
-    let Some(error) = failed else {
-        return true;
-    };
-    tell_failed(to, b"write to ", b"standard output", error);
-    false
 }

@@ -1,2 +1,3 @@
 -- The definitions that the contracts of this crate cite beside the meaning.
 pub mod Stops
+pub mod Statuses

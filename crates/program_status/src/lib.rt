@@ -1,69 +1,96 @@
 // The sets of some bytes, listed by the program gdtlist, and its exit status: that of the set that was judged last. Contracts cite specs/Stops.
 #![tactic(auto)]
 
-ghost use Rattle.std.specs.Prelude.{◌≡◌, None, length};
-ghost use Rattle.program_out.specs.OutBlock.{block_size, Holds};
-ghost use Rattle.program_status.specs.Stops.{stop, trouble, status_of};
+ghost use Rattle.std.specs.Prelude.{◌≡◌, pos, IfOk};
+ghost use Rattle.std.specs.Process.{exit_status};
+ghost use Rattle.program_status.specs.Stops.{trouble, status_of};
+ghost use Rattle.program_status.specs.Statuses.{number_of, StopsThere};
 
-use face_replies::judged_reply;
-use program_out::{BLOCK, Out};
+use meaning::Refusal;
+use program_out::Out;
+use std::io;
+use std::io::Write;
+use std::process::ExitCode;
 
-// The exit statuses: every set is listed; a set is refused, or the input is too long; something else went wrong.
-pub const LISTED: i32 = 0;
+// How the program ends: every set is listed; a set is refused, or the input is too long; something else went wrong.
+#[derive(Clone, Copy, Debug, PartialEq, Eq)]
+pub enum Status {
+    Listed,
+    Refused,
+    Trouble,
+}
 
-pub const REFUSED: i32 = 1;
+impl From<Status> for ExitCode {
+    ghost from_gives = { λ status code. pos (exit_status code) ≡ number_of status };
 
-pub const TROUBLE: i32 = 2;
+    fn from(status: Status) -> ExitCode {
+        match status {
+            Status::Listed => ExitCode::SUCCESS,
+            Status::Refused => ExitCode::FAILURE,
+            Status::Trouble => ExitCode::from(2),
+        }
+    }
+}
 
-// Some bytes: where the set starts that was judged last, and the number of its refusal, 0 if every set is listed.
+// Where the set starts that was judged last, and why it is refused, if it is.
 #[derive(Drop)]
-struct Listed {
+struct Stopped {
     at: usize,
-    no: usize,
-    out: Out,
+    refused: Option<Refusal>,
 }
 
 // "prints each set in turn until a refusal"; "after the last set nothing more is printed". An empty input is judged once, and refused.
-fn list_sets(to: &impl Print, block: &mut [u8], s: &[u8]) -> Listed
-    requires { length block.old ≡ block_size }
-    ensures holds { Holds block.new result.out }
-    ensures at_value { result.out.failed ≡ None → (result.at ≡ (stop s.now).at) × (result.no ≡ (stop s.now).no) }
+fn list_sets<W: Write + Drop>(out: &mut Out<W>, input: &[u8]) -> io::Result<Stopped>
+    ensures { IfOk result (StopsThere input.now) }
 {
-    let mut at: usize = 0;
-    let mut held = program_out::start();
+    let mut at = 0;
     loop {
-        let set = &s[at..];
-        let reply = judged_reply(judge::judge(set));
-        let no = reply.no;
-        let length = reply.length;
-        let out = program_out::put_set(to, block, held, set, reply);
-        if length == 0 {
-            return Listed { at, no, out };
+        let set = &input[at..];
+        match judge::judge(set) {
+            Err(refusal) => {
+                out.put_refusal(&refusal)?;
+                return Ok(Stopped {
+                    at,
+                    refused: Some(refusal),
+                });
+            }
+            Ok(shape) => {
+                out.put_set(set, shape)?;
+                if set.len() <= shape.length {
+                    return Ok(Stopped { at, refused: None });
+                }
+                at += shape.length;
+            }
         }
-        if s.len() - at <= length {
-            return Listed { at, no, out };
-        }
-        if out.failed.is_some() {
-            return Listed { at, no, out };
-        }
-        at += length;
-        held = out;
     }
 }
 
-// The sets of some bytes, on standard output, with messages on standard error: unless there is trouble, the status says whether a set is refused.
-pub fn list_bytes(to: &impl Print, err: &impl Print, s: &[u8]) -> i32
-    ensures { (result ≡ trouble → ⊥) → result ≡ status_of s.now }
+// The same, on a stream, with all that is put written.
+fn list_all<W: Write + Drop>(to: W, input: &[u8]) -> io::Result<Stopped>
+    ensures { IfOk result (StopsThere input.now) }
 {
-    let mut block = [0u8; BLOCK];
-    let listed = list_sets(to, &mut block, s);
-    let last = program_out::flush(to, &block, listed.out);
-    if !program_out::finish(err, last.failed) {
-        return TROUBLE;
+    let mut out = Out::new(to);
+    let stopped = list_sets(&mut out, input)?;
+    out.flush()?;
+    Ok(stopped)
+}
+
+// The sets of some bytes, on standard output, with messages on standard error: unless there is trouble, the status says whether a set is refused.
+pub fn list_bytes<W: Write + Drop>(to: W, err: &impl Print, input: &[u8]) -> Status
+    ensures { (number_of result ≡ trouble → ⊥) → number_of result ≡ status_of input.now }
+{
+    let stopped = match list_all(to, input) {
+        Ok(stopped) => stopped,
+        Err(error) => {
+            program_out::tell_unwritten(err, error);
+            return Status::Trouble;
+        }
+    };
+    match stopped.refused {
+        None => Status::Listed,
+        Some(refusal) => {
+            program_out::tell_refused(err, refusal.no, stopped.at);
+            Status::Refused
+        }
     }
-    if listed.no == 0 {
-        return LISTED;
-    }
-    program_out::tell_refused(err, listed.no, listed.at);
-    REFUSED
 }

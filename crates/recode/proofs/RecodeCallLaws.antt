@@ -10,8 +10,6 @@ use lib.ListN.{length, take}
 use lib.Seq.{length-take-le}
 use borrow.Author.Tests.{le-leb, lt-leb, leb-true}
 use Rattle.meaning.specs.declared.Refusal.{Refusal}
-use Rattle.meaning.specs.declared.Judged.TheVariants.{Refused as RefusedSet}
-use Rattle.meaning.specs.declared.Made.TheVariants.{Done, Refused as NotMade}
 use Rattle.meaning.specs.Limits.{max_set_bytes}
 use Rattle.meaning.specs.Field.{Field, is_nil}
 use Rattle.meaning.specs.Refusals.{Fault, Reply, refused, done, then_to, verdict, refusal, empty, bad_use}
@@ -37,13 +35,13 @@ use Rattle.byte_high.specs.High.{plain_front}
 use Rattle.line_find.proofs.FirstPlaceLaws.{FirstLine, NoLine, first_or_none, place_is}
 use Rattle.correct_plan.proofs.TotalLaws.{Headed, headed, size-at}
 use Rattle.correct.proofs.CorrectLaws.{refused-read}
-use Rattle.recode_plan.specs.declared.Plan.{Plan}
-use Rattle.recode_plan.specs.declared.Plan.TheVariants.{Refused, Stays, Marks, Recodes, Gains}
-use Rattle.recode_plan.specs.RecodePlans.{charset_place, plain_bytes, doing, unless, planned_by, planned}
+use Rattle.recode_plan.specs.RecodePlans.{charset_place, plain_bytes, doing, unless, planned_by, planned, RecodePlan, of_gains, of_marks, of_recodes}
 use Rattle.recode_plan.proofs.CharsetPlaceLaws.{has-none}
 use Rattle.recode_plan.proofs.RecodedLaws.{one-byte, size-gained, size-recoded, size-marked, one-byte-recoded}
 use Rattle.recode_put.specs.Recoded.{line_three, gained_bytes, zeroed_after, remarked, mapped_front, with_line}
 use Rattle.recode.proofs.RecodedLines.{OnlyLine, only-line, leaves-same, leaves-marked, leaves-recoded, leaves-gained}
+use Rattle.recode_plan.specs.declared.Plan.TheVariants.{Gains, Marks, Recodes, Stays}
+use Rattle.std.specs.Prelude.{Err, Ok}
 
 -- ---- refusals
 
@@ -59,46 +57,46 @@ recode-empty b used w e = rw (e, le-leb 0 (length b) (omega arith)) refl
 
 -- a refusal leaves every byte
 pub kept : (b : List ℕ) (used : ℕ) (w : Code) (r : Refusal) → recode b used w ≡ refused r
-    → (NotMade r ≡ made (recode b used w)) × (b ≡ bytes_left (recode b used w) b)
+    → (Err r ≡ made (recode b used w)) × (b ≡ bytes_left (recode b used w) b)
 kept b used w r e = (ap made (sym e), ap (λ (y : Reply (List ℕ)). bytes_left y b) (sym e))
 
 -- a plan that is no refusal
-abbrev pub Goes : Plan → Type 0
-Goes (Refused r) = ⊥
-Goes Stays = Unit
-Goes (Marks p) = Unit
-Goes (Recodes n p) = Unit
-Goes (Gains n) = Unit
+abbrev pub Goes : RecodePlan → Type 0
+Goes (Err r) = ⊥
+Goes (Ok Stays) = Unit
+Goes (Ok (Marks p)) = Unit
+Goes (Ok (Recodes n p)) = Unit
+Goes (Ok (Gains n)) = Unit
 
 doing-goes : (w : Code) (fs : List Field) → Goes (doing w fs)
 doing-goes w fs = go (in_code w fs) (seven_bit fs) (has_charset fs)
   where
-    go : (a v h : Bool) → Goes (cond a Stays (cond v (Marks (charset_place fs)) (cond h (Recodes (plain_bytes fs) (charset_place fs)) (Gains (plain_bytes fs)))))
+    go : (a v h : Bool) → Goes (cond a (Ok Stays) (cond v (of_marks (charset_place fs)) (cond h (of_recodes (plain_bytes fs) (charset_place fs)) (of_gains (plain_bytes fs)))))
     go true v h = tt
     go false true h = tt
     go false false true = tt
     go false false false = tt
 
-unless-refused : (y : Reply (List ℕ)) (p : Plan) (r : Refusal) → Goes p → unless y p ≡ Refused r → y ≡ refused r
+unless-refused : (y : Reply (List ℕ)) (p : RecodePlan) (r : Refusal) → Goes p → unless y p ≡ Err r → y ≡ refused r
 unless-refused (refused x) p r g e = ap refused cc
 unless-refused (done bs) p r g e = absurd (subst Goes e g)
 
-pub plan-refused : (b : List ℕ) (used : ℕ) (w : Code) (r : Refusal) → used ≤ length b → planned (take used b) (length b) w ≡ Refused r → recode b used w ≡ refused r
+pub plan-refused : (b : List ℕ) (used : ℕ) (w : Code) (r : Refusal) → used ≤ length b → planned (take used b) (length b) w ≡ Err r → recode b used w ≡ refused r
 unfolding recode planned
 plan-refused b used w r h e = rw (le-leb used (length b) h) (go (read (take used b)) e)
   where
-    go : (x : Reply Parsed) → planned_by w (length b) x ≡ Refused r → then_to x (λ d. recode_set w (length b) d) ≡ refused r
+    go : (x : Reply Parsed) → planned_by w (length b) x ≡ Err r → then_to x (λ d. recode_set w (length b) d) ≡ refused r
     go (refused y) q = ap refused cc
     go (done d) q = unless-refused (recode_set w (length b) d) (doing w d.fields) r (doing-goes w d.fields) q
 
 -- ---- what was planned and is made
 
-unless-goes : (y : Reply (List ℕ)) (p q : Plan) → Goes q → unless y p ≡ q → (bs : List ℕ) × (y ≡ done bs) × (p ≡ q)
+unless-goes : (y : Reply (List ℕ)) (p q : RecodePlan) → Goes q → unless y p ≡ q → (bs : List ℕ) × (y ≡ done bs) × (p ≡ q)
 unless-goes (refused x) p q g e = absurd (subst Goes (sym e) g)
 unless-goes (done bs) p q g e = (bs, refl, e)
 
 -- the lines that the buffer holds, that nothing speaks against them, what is made of them, and what was planned for them
-pub record Going (b : List ℕ) (used : ℕ) (w : Code) (p : Plan) : Type 0 where
+pub record Going (b : List ℕ) (used : ℕ) (w : Code) (p : RecodePlan) : Type 0 where
   pub lines : List Field
   pub bytes : take used b ≡ render lines []
   pub used-so : used ≡ size lines
@@ -108,7 +106,7 @@ pub record Going (b : List ℕ) (used : ℕ) (w : Code) (p : Plan) : Type 0 wher
   pub made-so : recode b used w ≡ done (render (recode_lines w lines) [])
   pub plan-so : doing w lines ≡ p
 
-pub going : (b : List ℕ) (used : ℕ) (w : Code) (p : Plan) → used ≤ length b → Goes p → planned (take used b) (length b) w ≡ p → Going b used w p
+pub going : (b : List ℕ) (used : ℕ) (w : Code) (p : RecodePlan) → used ≤ length b → Goes p → planned (take used b) (length b) w ≡ p → Going b used w p
 unfolding recode planned
 going b used w p h g e = go (read (take used b)) refl e
   where
@@ -141,18 +139,18 @@ going b used w p h g e = go (read (take used b)) refl e
 
 -- ---- what each plan says of the lines
 
-abbrev Why : Code → List Field → Plan → Type 0
-Why w fs (Refused r) = Unit
-Why w fs Stays = in_code w fs ≡ true
-Why w fs (Marks p) = (in_code w fs ≡ false) × (seven_bit fs ≡ true) × (p ≡ charset_place fs)
-Why w fs (Recodes n p) = (in_code w fs ≡ false) × (seven_bit fs ≡ false) × (has_charset fs ≡ true) × (n ≡ plain_bytes fs) × (p ≡ charset_place fs)
-Why w fs (Gains n) = (in_code w fs ≡ false) × (seven_bit fs ≡ false) × (has_charset fs ≡ false) × (n ≡ plain_bytes fs)
+abbrev Why : Code → List Field → RecodePlan → Type 0
+Why w fs (Err r) = Unit
+Why w fs (Ok Stays) = in_code w fs ≡ true
+Why w fs (Ok (Marks p)) = (in_code w fs ≡ false) × (seven_bit fs ≡ true) × (p ≡ charset_place fs)
+Why w fs (Ok (Recodes n p)) = (in_code w fs ≡ false) × (seven_bit fs ≡ false) × (has_charset fs ≡ true) × (n ≡ plain_bytes fs) × (p ≡ charset_place fs)
+Why w fs (Ok (Gains n)) = (in_code w fs ≡ false) × (seven_bit fs ≡ false) × (has_charset fs ≡ false) × (n ≡ plain_bytes fs)
 
 why : (w : Code) (fs : List Field) → Why w fs (doing w fs)
 why w fs = go (in_code w fs) (seven_bit fs) (has_charset fs) refl refl refl
   where
     go : (a v h : Bool) → in_code w fs ≡ a → seven_bit fs ≡ v → has_charset fs ≡ h
-        → Why w fs (cond a Stays (cond v (Marks (charset_place fs)) (cond h (Recodes (plain_bytes fs) (charset_place fs)) (Gains (plain_bytes fs)))))
+        → Why w fs (cond a (Ok Stays) (cond v (of_marks (charset_place fs)) (cond h (of_recodes (plain_bytes fs) (charset_place fs)) (of_gains (plain_bytes fs)))))
     go true v h p q r = p
     go false true h p q r = (p, q, refl)
     go false false true p q r = (p, q, r, refl, refl)
@@ -175,26 +173,26 @@ all_known w fs e a v = sym (rw (a, v) refl) ∙ (append-none (added_faults w fs)
 
 -- as the definition says: this many bytes, and these in the buffer
 abbrev pub Called : List ℕ → ℕ → Code → ℕ → List ℕ → Type 0
-Called b used w total x = (Done total ≡ made (recode b used w)) × (x ≡ bytes_left (recode b used w) b)
+Called b used w total x = (Ok total ≡ made (recode b used w)) × (x ≡ bytes_left (recode b used w) b)
 
-called-by : (b : List ℕ) (used : ℕ) (w : Code) (p : Plan) (g : Going b used w p) (gs : List Field) (total : ℕ) (x : List ℕ)
+called-by : (b : List ℕ) (used : ℕ) (w : Code) (p : RecodePlan) (g : Going b used w p) (gs : List Field) (total : ℕ) (x : List ℕ)
     → recode_lines w g.lines ≡ gs → total ≡ size gs → x ≡ leaves gs b → Called b used w total x
 called-by b used w p g gs total x e n l =
     let d : recode b used w ≡ done (render gs []) = g.made-so ∙ ap (λ (y : List Field). done (render y [])) e in
-    (ap Done (n ∙ sym (length-render gs [] ∙ omega arith)) ∙ ap made (sym d), l ∙ ap (λ (y : Reply (List ℕ)). bytes_left y b) (sym d))
+    (ap Ok (n ∙ sym (length-render gs [] ∙ omega arith)) ∙ ap made (sym d), l ∙ ap (λ (y : Reply (List ℕ)). bytes_left y b) (sym d))
 
 module _ (b : List ℕ) (used : ℕ) (w : Code) (h : used ≤ length b) where
-  pub stays-made : planned (take used b) (length b) w ≡ Stays → Called b used w used (zeroed_after used b)
+  pub stays-made : planned (take used b) (length b) w ≡ (Ok Stays) → Called b used w used (zeroed_after used b)
   unfolding recode_lines
   stays-made e =
-      let g : Going b used w Stays = going b used w Stays h tt e in
+      let g : Going b used w (Ok Stays) = going b used w (Ok Stays) h tt e in
       let a : in_code w g.lines ≡ true = subst (Why w g.lines) g.plan-so (why w g.lines) in
-      called-by b used w Stays g g.lines used (zeroed_after used b) (rw a refl) g.used-so (leaves-same b used g.lines g.bytes g.used-so w)
+      called-by b used w (Ok Stays) g g.lines used (zeroed_after used b) (rw a refl) g.used-so (leaves-same b used g.lines g.bytes g.used-so w)
 
   -- the content of 9206 changes: where it stands
-  module _ (place : ℕ) (e : planned (take used b) (length b) w ≡ Marks place) where
-    marking : Going b used w (Marks place)
-    marking = going b used w (Marks place) h tt e
+  module _ (place : ℕ) (e : planned (take used b) (length b) w ≡ of_marks place) where
+    marking : Going b used w (Ok (Marks place))
+    marking = going b used w (Ok (Marks place)) h tt e
 
     abbrev marked : List Field
     marked = marking.lines
@@ -215,13 +213,13 @@ module _ (b : List ℕ) (used : ℕ) (w : Code) (h : used ≤ length b) where
     unfolding recode_lines
     marks-made =
         let one = one-byte (profile marked) marked (ruled marked marking.stand.right).0.each-line in
-        called-by b used w (Marks place) marking (map (charset_field w) marked) used (zeroed_after used (remarked place w b)) (rw (why-marks.0, why-marks.1) refl)
+        called-by b used w (Ok (Marks place)) marking (map (charset_field w) marked) used (zeroed_after used (remarked place w b)) (rw (why-marks.0, why-marks.1) refl)
         (marking.used-so ∙ sym (size-marked w marked one))
         (ap (λ (p : ℕ). zeroed_after used (remarked p w b)) place-marks ∙ leaves-marked b used marked marking.bytes marking.used-so w has-9206.0 has-9206.1 one)
 
-  module _ (plain place : ℕ) (e : planned (take used b) (length b) w ≡ Recodes plain place) where
-    recoding : Going b used w (Recodes plain place)
-    recoding = going b used w (Recodes plain place) h tt e
+  module _ (plain place : ℕ) (e : planned (take used b) (length b) w ≡ of_recodes plain place) where
+    recoding : Going b used w (Ok (Recodes plain place))
+    recoding = going b used w (Ok (Recodes plain place)) h tt e
 
     abbrev lines_now : List Field
     lines_now = recoding.lines
@@ -247,15 +245,15 @@ module _ (b : List ℕ) (used : ℕ) (w : Code) (h : used ≤ length b) where
         let one = one-byte (profile lines_now) lines_now (ruled lines_now recoding.stand.right).0.each-line in
         let new : List Field = map (charset_field w) (map (recode_field w) lines_now) in
         let n : size new ≡ size lines_now = size-marked w (map (recode_field w) lines_now) (one-byte-recoded w lines_now one) ∙ size-recoded w lines_now in
-        called-by b used w (Recodes plain place) recoding new used (zeroed_after used (remarked place w (mapped_front (table_into w) used b)))
+        called-by b used w (Ok (Recodes plain place)) recoding new used (zeroed_after used (remarked place w (mapped_front (table_into w) used b)))
         (rw (why-recodes.0, why-recodes.1, why-recodes.2) refl) (recoding.used-so ∙ sym n)
         (ap (λ (p : ℕ). zeroed_after used (remarked p w (mapped_front (table_into w) used b))) place-recodes
         ∙ leaves-recoded b used lines_now recoding.bytes recoding.used-so w (all_known w lines_now recoding.no-faults why-recodes.0 why-recodes.1)
         its-9206.0 its-9206.1 one)
 
-  module _ (plain : ℕ) (e : planned (take used b) (length b) w ≡ Gains plain) where
-    gaining : Going b used w (Gains plain)
-    gaining = going b used w (Gains plain) h tt e
+  module _ (plain : ℕ) (e : planned (take used b) (length b) w ≡ of_gains plain) where
+    gaining : Going b used w (Ok (Gains plain))
+    gaining = going b used w (Ok (Gains plain)) h tt e
 
     abbrev lines-before : List Field
     lines-before = gaining.lines
@@ -292,11 +290,11 @@ module _ (b : List ℕ) (used : ℕ) (w : Code) (h : used ≤ length b) where
 
     pub gains-made : Called b used w (used + gained_bytes) (with_line w used (mapped_front (table_into w) used b))
     gains-made =
-        called-by b used w (Gains plain) gaining new-lines (used + gained_bytes) (with_line w used (mapped_front (table_into w) used b)) new-so total-so
+        called-by b used w (Ok (Gains plain)) gaining new-lines (used + gained_bytes) (with_line w used (mapped_front (table_into w) used b)) new-so total-so
         (leaves-gained b used lines-before gaining.bytes gaining.used-so w (all_known w lines-before gaining.no-faults why-gains.0 why-gains.1) heads)
 
 -- ---- the set's own refusals
 
-pub plan-unread : (s : List ℕ) (room : ℕ) (w : Code) (r : Refusal) → judge s ≡ RefusedSet r → planned s room w ≡ Refused r
+pub plan-unread : (s : List ℕ) (room : ℕ) (w : Code) (r : Refusal) → judge s ≡ Err r → planned s room w ≡ Err r
 unfolding planned
 plan-unread s room w r e = rw (refused-read s r e)

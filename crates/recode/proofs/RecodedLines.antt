@@ -9,8 +9,6 @@ use lib.Dec.{leb, eqb}
 use lib.ListN.{length, get_or, take, drop, set, replicate, length-append, length-map, take-append-drop}
 use lib.Seq.{take_at, set_at, set-append_left}
 use borrow.Author.Tests.{eq-eqb, ne_eqb, eqb-false, leb-true, leb-false, le-leb}
-use Rattle.meaning.specs.declared.Known.{Known}
-use Rattle.meaning.specs.declared.Known.TheVariants.{Of, Nothing}
 use Rattle.meaning.specs.Digits.{digits}
 use Rattle.meaning.specs.Field.{Field, field, label_at_line, content_at_line}
 use Rattle.meaning.specs.Refusals.{at_byte, no_such_character}
@@ -41,6 +39,8 @@ use Rattle.recode_bytes.proofs.BytesLaws.{mapped-both, every-entry}
 use Rattle.recode_plan.proofs.CharsetPlaceLaws.{mark-one, charset-byte}
 use Rattle.recode_plan.proofs.RecodedLaws.{OneByte, size-recoded, size-marked, one-byte-recoded, size-gained, table-codes}
 use Rattle.recode_put.specs.Recoded.{line_three, gained_bytes, zeroed_after, remarked, mapped_front, with_line}
+use Rattle.meaning.specs.Results.{Known}
+use Rattle.std.specs.Prelude.{None, Some}
 
 -- ---- every byte mapped is every content recoded
 
@@ -193,8 +193,8 @@ only-line p fs h j l e = record { inside = l; named = e; one = charset-byte p fs
   where
     go : (t : Known) → rules_from (record { set_type = t }) first 0 fs ≡ [] → (j : ℕ) → j < length fs → label_at_line fs j ≡ 9206
         → (i : ℕ) → i < length fs → label_at_line fs i ≡ 9206 → i ≡ j
-    go (Of t) h = only-from (record { set_type = Of t }) (single-9206 t) first 0 fs h
-    go Nothing h = λ j l e. absurd (no_table fs h j l)
+    go (Some t) h = only-from (record { set_type = Some t }) (single-9206 t) first 0 fs h
+    go None h = λ j l e. absurd (no_table fs h j l)
 
 -- ---- the buffer
 

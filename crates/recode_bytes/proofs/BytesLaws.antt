@@ -7,7 +7,9 @@ use native.Mathlib.Omega.{arith}
 use native.Mathlib.Nat.{zero-add}
 use lib.Dec.{leb}
 use lib.ListN.{length, get_or, set, take, drop, length-drop, length-append, take-append-drop, drop_of_length-le}
-use lib.Seq.{take-add, take-length, drop-drop, drop-cons, drop_at, set_split, length-take-le}
+use lib.Seq.{take-add, take-suc, take-length, drop-length, drop-drop, drop-cons, drop_at, set_at, append_snoc, get_or-append_right, length-take-le}
+use borrow.Rule.Slice.PartMut.{put_mid}
+use native.Mathlib.Numerals.{add-one}
 use borrow.Author.Tests.{leb-true, leb-false, ne_eqb}
 use Rattle.meaning.specs.Lines.{most_seven_bits}
 use Rattle.meaning.proofs.Bools.{Every, byte-then}
@@ -45,15 +47,11 @@ part-more i from end n l h m f = go (leb n from) refl
     go true q = omega (arith, leb-true n from q)
     go false q = omega (arith, f (leb-false n from q))
 
--- ---- an entry that is there, as code reads it
-
-read-there : (t : List ℕ) (b : ℕ) → b < length t → get_or t b 0 ≡ get_or t b no_byte
-read-there [] b h = absurd (omega arith)
-read-there (c ∷ t) zero h = refl
-read-there (c ∷ t) (suc b) h = read-there t b (omega arith)
-
-pub entry-there : (t : List ℕ) → CodeTable t → (b : ℕ) → b < 256 → get_or t b 0 ≡ get_or t b no_byte
-entry-there t h b l = read-there t b (omega (arith, h.whole))
+-- an entry as a byte, as code reads it: what is not there becomes 0 in both
+pub entry-read : (t : List ℕ) (b : ℕ) → get_or t b 0 % 256 ≡ entry t b
+entry-read [] b = refl
+entry-read (c ∷ t) zero = refl
+entry-read (c ∷ t) (suc b) = entry-read t b
 
 -- ---- a byte below 80h
 
@@ -151,6 +149,10 @@ over-same s at k h =
     rw (n, ← drop-drop k at s, take-append-drop k (drop at s), take-append-drop at s)
 
 module _ (t : List ℕ) where
+  mapped-one : (c : List ℕ) (b : ℕ) → mapped t (c ++ (b ∷ [])) ≡ mapped t c ++ (entry t b ∷ [])
+  unfolding mapped
+  mapped-one c b = mapped-both t c (b ∷ [])
+
   pub map-none : (s : List ℕ) (at : ℕ) → s ≡ mapped_at t at 0 s
   unfolding mapped_at mapped
   map-none s at = over_none s at
@@ -178,11 +180,32 @@ module _ (t : List ℕ) where
       ∙ (ap (λ (m : ℕ). over (at + m) y (over at x s)) (sym lx)
       ∙ (over-then s at x y (omega (arith, length-append x y, lx, ly)) ∙ ap (λ (u : List ℕ). over at u s) both))
 
-  pub map-one : (s : List ℕ) (at : ℕ) → at < length s → set s at (entry t (get_or s at 0)) ≡ mapped_at t at 1 s
-  unfolding mapped_at mapped over
-  map-one s at h =
-      let n : at + 1 ≡ suc at = omega arith in
-      rw (drop-cons s at 0 h, n) (set_split s at (entry t (get_or s at 0)) h)
+  -- one byte more of a part is mapped, after i of its bytes
+  pub map-more : (c now : List ℕ) (i : ℕ) → i < length c → now ≡ mapped t (take i c) ++ drop i c
+      → set now i (get_or t (get_or now i 0) 0 % 256) ≡ mapped t (take (i + 1) c) ++ drop (i + 1) c
+  map-more c now i h e =
+      let x : List ℕ = mapped t (take i c) in
+      let rest : List ℕ = drop (suc i) c in
+      let b : ℕ = get_or c i 0 in
+      let long : length x ≡ i = length-mapped t (take i c) ∙ length-take-le i c (omega arith) in
+      let here : now ≡ x ++ b ∷ rest = e ∙ ap (λ (u : List ℕ). x ++ u) (drop-cons c i 0 h) in
+      let first : i - length x ≡ 0 = omega arith in
+      let same : get_or now i 0 ≡ b = ap (λ (u : List ℕ). get_or u i 0) here ∙ (get_or-append_right x (b ∷ rest) i 0 (omega arith) ∙ ap (λ (n : ℕ). get_or (b ∷ rest) n 0) first) in
+      let value : get_or t (get_or now i 0) 0 % 256 ≡ entry t b = entry-read t (get_or now i 0) ∙ ap (entry t) same in
+      let more : mapped t (take (suc i) c) ≡ x ++ (entry t b ∷ []) = ap (mapped t) (take-suc c i 0 h) ∙ mapped-one (take i c) b in
+      ap₂ (λ (u : List ℕ) (v : ℕ). set u i v) here value
+      ∙ (set_at x b rest (entry t b) i long ∙ sym (rw (add-one i, more) (append_snoc x (entry t b) rest)))
+
+  -- all of a part is mapped
+  pub part-mapped : (s now : List ℕ) (at k n i : ℕ) → n ≡ k → at + k ≤ length s → length (take n (drop at s)) ≤ i → i ≤ length (take n (drop at s))
+      → now ≡ mapped t (take i (take n (drop at s))) ++ drop i (take n (drop at s)) → put_mid at n s now ≡ mapped_at t at k s
+  unfolding mapped_at over
+  part-mapped s now at k n i q h most least e =
+      let part : List ℕ = take n (drop at s) in
+      let all : i ≡ length part = omega arith in
+      let done : now ≡ mapped t part = rw (all, take-length part, drop-length part, append-nil (mapped t part)) at e in
+      let long : length (mapped t (take k (drop at s))) ≡ k = length-mapped t (take k (drop at s)) ∙ length-take-le k (drop at s) (omega (arith, length-drop at s)) in
+      rw (done, q, long, drop-drop k at s) refl
 
   -- a block without a byte over 7Fh stays as it is
   plain-maps : CodeTable t → (s : List ℕ) (at k : ℕ) → at + k ≤ length s → first_high s at k ≡ at + k → s ≡ mapped_at t at k s

@@ -6,8 +6,9 @@
 
 ghost use Rattle.std.specs.Prelude.{◌≡◌, ◌+◌, ◌≤◌, ◌<◌, length};
 ghost use Rattle.byte_high.specs.High.{plain_front};
-ghost use Rattle.recode_bytes.specs.Mapped.{CodeTable, first_without, mapped, mapped_at};
+ghost use Rattle.recode_bytes.specs.Mapped.{CodeTable, has_character, first_without, mapped, mapped_at};
 
+use byte_low::ByteTest;
 use recode_table::NO_BYTE;
 
 // After blocks that were passed over this many bytes are taken one by one; else, and so at the first byte over 7Fh, more: others may follow.
@@ -42,20 +43,19 @@ fn part_end(length: usize, i: usize, from: usize) -> usize
 
 // ---- 27
 
-// The offset of the first byte without a character among the k bytes at an offset, or the offset after them.
-fn seek_without(s: &[u8], at: usize, k: usize, table: &[u16; 256]) -> usize
-    requires { (at + k ≤ length s.now) × CodeTable table.now }
-    ensures { result ≡ first_without table.now s.now at k }
-{
-    let end = at + k;
-    let mut i = at;
-    while i < end {
-        if table[s[i] as usize] == NO_BYTE {
-            return i;
-        }
-        i += 1;
+// A byte that has a character in the wanted code page passes.
+#[derive(Clone, Copy)]
+struct InCodePage<'a> {
+    table: &'a [u16; 256],
+    ghost is_code_table: { CodeTable table.now },
+}
+
+impl<'a> ByteTest for InCodePage<'a> {
+    ghost passes = { λ test. has_character test.table.now };
+
+    fn passes(self, b: u8) -> bool {
+        self.table[b as usize] != NO_BYTE
     }
-    i
 }
 
 // The offset of the first byte without a character in the wanted code page, or how many bytes these are.
@@ -63,11 +63,12 @@ pub fn first_without(s: &[u8], plain: usize, table: &[u16; 256]) -> usize
     requires { (plain ≡ plain_front s.now) × CodeTable table.now }
     ensures { result ≡ first_without table.now s.now 0 (length s.now) }
 {
+    // A part starts where the one before it ends, so no range has the offsets.
     let mut i = plain;
     while i < s.len() {
         let from = byte_high::pass_plain(s, i);
         let end = part_end(s.len(), i, from);
-        let found = seek_without(s, from, end - from, table);
+        let found = byte_low::seek(InCodePage { table }, s, from, end - from);
         if found < end {
             return found;
         }
@@ -80,14 +81,11 @@ pub fn first_without(s: &[u8], plain: usize, table: &[u16; 256]) -> usize
 
 // The k bytes at an offset.
 fn map_each(s: &mut [u8], at: usize, k: usize, table: &[u16; 256])
-    requires { (at + k ≤ length s.old) × CodeTable table.now }
+    requires { at + k ≤ length s.old }
     ensures { s.new ≡ mapped_at table.now at k s.old }
 {
-    let end = at + k;
-    let mut i = at;
-    while i < end {
-        s[i] = (table[s[i] as usize] % BYTE) as u8;
-        i += 1;
+    for b in &mut s[at..at + k] {
+        *b = (table[*b as usize] % BYTE) as u8;
     }
 }
 
@@ -96,6 +94,7 @@ pub fn map_bytes(s: &mut [u8], plain: usize, table: &[u16; 256])
     requires { (plain ≡ plain_front s.old) × CodeTable table.now }
     ensures { s.new ≡ mapped table.now s.old }
 {
+    // A part starts where the one before it ends, so no range has the offsets.
     let mut i = plain;
     while i < s.len() {
         let from = byte_high::pass_plain(s, i);

@@ -7,8 +7,6 @@ use native.Mathlib.Omega.{arith}
 use lib.Dec.{leb, eqb}
 use lib.ListN.{length, get_or}
 use borrow.Author.Tests.{eq-eqb, ne_eqb, leb-true}
-use Rattle.meaning.specs.declared.Known.{Known}
-use Rattle.meaning.specs.declared.Known.TheVariants.{Of, Nothing}
 use Rattle.meaning.specs.Field.{Field, elem, label_at_line, content_at_line}
 use Rattle.meaning.specs.Kinds.{same_bytes}
 use Rattle.meaning.specs.FieldTable.{field_table, field_row_in, field_row, has_length, fits_row, fits_label}
@@ -23,6 +21,8 @@ use Rattle.meaning_recode.specs.declared.Code.{Code}
 use Rattle.meaning_recode.specs.declared.Code.TheVariants.{Page437, Page1252}
 use Rattle.meaning_recode.specs.Recoding.{charset_of, line_names_code, names_code, has_charset, in_code}
 use Rattle.line_find.proofs.FirstPlaceLaws.{NoLine}
+use Rattle.meaning.specs.Results.{Known}
+use Rattle.std.specs.Prelude.{None, Some}
 
 -- 9206 names a code page by one byte
 pub mark-one : (w : Code) → charset_of w ≡ get_or (charset_of w) 0 0 ∷ []
@@ -82,8 +82,8 @@ module _ (w : Code) where
     where
       go : (t : Known) → rules_from (record { set_type = t }) first 0 fs ≡ [] → (k : ℕ) → k < length fs → label_at_line fs k ≡ 9206
           → names_code w fs ≡ same_bytes (content_at_line fs k) (charset_of w)
-      go (Of t) h = says-from (record { set_type = Of t }) (single-9206 t) first 0 fs h
-      go Nothing h = λ k l e. absurd (no_table fs h k l)
+      go (Some t) h = says-from (record { set_type = Some t }) (single-9206 t) first 0 fs h
+      go None h = λ k l e. absurd (no_table fs h k l)
 
 -- ---- its content is one byte
 

@@ -1,6 +1,6 @@
 -- What `planned` is by each of the tests in the code's order.
 use mathlib.Core.Path.{◌≡◌, refl, sym, ap, ap₂, ◌∙◌}
-use mathlib.Core.Bool.{Bool, true, false, cond, not}
+use mathlib.Core.Bool.{Bool, true, false, cond}
 use mathlib.Core.List.{List, [], ◌∷◌, map}
 use mathlib.Core.Logic.{◌⊎◌, inl, inr}
 use Prim.Native.Nat.{ℕ, ◌+◌, ◌≤◌, ◌<◌}
@@ -10,7 +10,6 @@ use lib.ListN.{length, get_or}
 use lib.Seq.{take-length}
 use borrow.Author.Tests.{le-leb, lt-leb, leb-true, leb-false, eq-eqb, ne_eqb}
 use Rattle.meaning.specs.declared.Shape.{Shape}
-use Rattle.meaning.specs.declared.Judged.TheVariants.{Accepted as AcceptedSet}
 use Rattle.meaning.specs.Limits.{max_lines, max_set_bytes}
 use Rattle.meaning.specs.Digits.{digit_zero}
 use Rattle.meaning.specs.Field.{Field, is_nil, content_at_line}
@@ -37,65 +36,66 @@ use Rattle.line_find.specs.FirstPlace.{first_place}
 use Rattle.line_find.proofs.FirstPlaceLaws.{FirstLine, NoLine, first_or_none, place_is, place-absent, first_byte}
 use Rattle.recode_bytes.specs.Mapped.{first_without}
 use Rattle.correct_plan.proofs.TotalLaws.{headed, size-at}
-use Rattle.recode_plan.specs.declared.Plan.{Plan}
-use Rattle.recode_plan.specs.declared.Plan.TheVariants.{Refused, Stays, Marks, Recodes, Gains}
-use Rattle.recode_plan.specs.RecodePlans.{charset_place, plain_bytes, gained_by, doing, unless, planned, Alone}
+use Rattle.recode_plan.specs.RecodePlans.{charset_place, plain_bytes, gained_by, doing, unless, planned, Alone, RecodePlan, of_gains, of_marks, of_recodes}
 use Rattle.recode_plan.proofs.CharsetPlaceLaws.{has-none, has_one, says-digit, in-marked, in-437, in-1252}
 use Rattle.recode_plan.proofs.RecodedLaws.{size-recoded, size-marked, one-byte, one-byte-recoded, size-gained, unknown-none, unknown-some}
+use Rattle.recode_plan.specs.declared.Plan.TheVariants.{Gains, Marks, Recodes, Stays}
+use Rattle.std.specs.Prelude.{Err, Ok}
 
 -- ---- lines that stand, in a room that they fit in
 
 -- 22 is not asked of lines that fit
-with-room : (gs : List Field) (room : ℕ) (p : Plan) → size gs ≤ room → size gs ≤ max_set_bytes → unless (set_with_room gs room) p ≡ p
+with-room : (gs : List Field) (room : ℕ) (p : RecodePlan) → size gs ≤ room → size gs ≤ max_set_bytes → unless (set_with_room gs room) p ≡ p
 with-room gs room p h g = rw (le-leb (size gs) room h, le-leb (size gs) max_set_bytes g)
 
-without-room : (gs : List Field) (room : ℕ) (p : Plan) → room < size gs → unless (set_with_room gs room) p ≡ Refused (refusal no_room (size gs) 0)
+without-room : (gs : List Field) (room : ℕ) (p : RecodePlan) → room < size gs → unless (set_with_room gs room) p ≡ Err (refusal no_room (size gs) 0)
 without-room gs room p h = rw (lt-leb (size gs) room h)
 
 module _ (fs : List Field) (st : Standing fs) (room : ℕ) (w : Code) (fit : size fs ≤ room) where
   -- what is planned for them, after 18
-  abbrev outcome : Plan
+  abbrev outcome : RecodePlan
   outcome = unless (then_to (verdict (in_set fs) (recode_faults w fs) (recode_lines w fs)) (λ gs. set_with_room gs room)) (doing w fs)
 
   few_bytes : size fs ≤ most_bytes
   few_bytes = ruled-size fs (ruled fs st.right).0 st.few
 
-  stays : in_code w fs ≡ true → outcome ≡ Stays
+  stays : in_code w fs ≡ true → outcome ≡ (Ok Stays)
   unfolding recode_faults all_recoded recode_lines
-  stays e = rw e (with-room fs room Stays fit (omega (arith, few_bytes)))
+  stays e = rw e (with-room fs room (Ok Stays) fit (omega (arith, few_bytes)))
 
   module _ (e : in_code w fs ≡ false) (q : has_charset fs ≡ true) where
-    marks : seven_bit fs ≡ true → outcome ≡ Marks (charset_place fs)
+    marks : seven_bit fs ≡ true → outcome ≡ of_marks (charset_place fs)
     unfolding recode_faults all_recoded recode_lines
     marks v =
         let n : size (map (charset_field w) fs) ≡ size fs = size-marked w fs (one-byte (profile fs) fs (ruled fs st.right).0.each-line) in
-        rw (e, q, v) (with-room (map (charset_field w) fs) room (Marks (charset_place fs)) (omega (arith, n)) (omega (arith, n, few_bytes)))
+        rw (e, q, v) (with-room (map (charset_field w) fs) room (of_marks (charset_place fs)) (omega (arith, n)) (omega (arith, n, few_bytes)))
 
     module _ (v : seven_bit fs ≡ false) (found : ℕ) (f : found ≡ first_without (table_into w) (render fs []) 0 (size fs)) where
-      marked-unknown : found < size fs → outcome ≡ Refused (refusal no_such_character found 0)
+      marked-unknown : found < size fs → outcome ≡ Err (refusal no_such_character found 0)
       unfolding recode_faults all_recoded recode_lines
       marked-unknown h = rw (e, q, v, unknown-some w fs found f h (map (charset_field w) (map (recode_field w) fs))) refl
 
-      recodes : size fs ≤ found → outcome ≡ Recodes (plain_bytes fs) (charset_place fs)
+      recodes : size fs ≤ found → outcome ≡ of_recodes (plain_bytes fs) (charset_place fs)
       unfolding recode_faults all_recoded recode_lines
       recodes h =
           let gs : List Field = map (recode_field w) fs in
           let one = one-byte-recoded w fs (one-byte (profile fs) fs (ruled fs st.right).0.each-line) in
           let n : size (map (charset_field w) gs) ≡ size fs = size-marked w gs one ∙ size-recoded w fs in
-          rw (e, q, v, unknown-none w fs (omega (arith, f))) (with-room (map (charset_field w) gs) room (Recodes (plain_bytes fs) (charset_place fs)) (omega (arith, n)) (omega (arith, n, few_bytes)))
+          rw (e, q, v, unknown-none w fs (omega (arith, f)))
+          (with-room (map (charset_field w) gs) room (of_recodes (plain_bytes fs) (charset_place fs)) (omega (arith, n)) (omega (arith, n, few_bytes)))
 
   module _ (e : in_code w fs ≡ false) (q : has_charset fs ≡ false) (v : seven_bit fs ≡ false) where
-    too_many : max_lines ≤ length fs → outcome ≡ Refused (refusal too_many_lines (size fs) 0)
+    too_many : max_lines ≤ length fs → outcome ≡ Err (refusal too_many_lines (size fs) 0)
     unfolding recode_faults all_recoded recode_lines
     too_many h =
         let all : offset fs (length fs) + 0 ≡ size fs = rw (take-length fs) (omega arith) in
-        rw (e, q, v, lt-leb (length fs + 1) max_lines (omega arith)) (ap (λ (n : ℕ). Refused (refusal too_many_lines n 0)) all)
+        rw (e, q, v, lt-leb (length fs + 1) max_lines (omega arith)) (ap (λ (n : ℕ). Err (refusal too_many_lines n 0)) all)
 
     module _ (few : length fs < max_lines) (found : ℕ) (f : found ≡ first_without (table_into w) (render fs []) 0 (size fs)) where
       abbrev new : List Field
       new = resum (with_charset w (map (recode_field w) fs))
 
-      gained-unknown : found < size fs → outcome ≡ Refused (refusal no_such_character found 0)
+      gained-unknown : found < size fs → outcome ≡ Err (refusal no_such_character found 0)
       unfolding recode_faults all_recoded recode_lines
       gained-unknown h = rw (e, q, v, le-leb (length fs + 1) max_lines (omega arith), unknown-some w fs found f h new) refl
 
@@ -106,15 +106,15 @@ module _ (fs : List Field) (st : Standing fs) (room : ℕ) (w : Code) (fit : siz
         need-so : size new ≡ need
         need-so = size-gained w fs (headed fs st)
 
-        gained : outcome ≡ unless (set_with_room new room) (Gains (plain_bytes fs))
+        gained : outcome ≡ unless (set_with_room new room) (of_gains (plain_bytes fs))
         unfolding recode_faults all_recoded recode_lines
         gained = rw (e, q, v, le-leb (length fs + 1) max_lines (omega arith), unknown-none w fs (omega (arith, f))) refl
 
-        no-room : room < need → outcome ≡ Refused (refusal no_room need 0)
-        no-room h = gained ∙ (without-room new room (Gains (plain_bytes fs)) (omega (arith, need-so)) ∙ ap (λ (n : ℕ). Refused (refusal no_room n 0)) need-so)
+        no-room : room < need → outcome ≡ Err (refusal no_room need 0)
+        no-room h = gained ∙ (without-room new room (of_gains (plain_bytes fs)) (omega (arith, need-so)) ∙ ap (λ (n : ℕ). Err (refusal no_room n 0)) need-so)
 
-        gains-so : need ≤ room → outcome ≡ Gains (plain_bytes fs)
-        gains-so h = gained ∙ with-room new room (Gains (plain_bytes fs)) (omega (arith, need-so)) (omega (arith, need-so, few_bytes))
+        gains-so : need ≤ room → outcome ≡ of_gains (plain_bytes fs)
+        gains-so h = gained ∙ with-room new room (of_gains (plain_bytes fs)) (omega (arith, need-so)) (omega (arith, need-so, few_bytes))
 
 -- ---- 9206 by the place of its content
 
@@ -157,7 +157,7 @@ not-nil : (t : List ℕ) → 0 < length t → is_nil t ≡ false
 not-nil [] h = absurd (omega arith)
 not-nil (b ∷ t) h = refl
 
-module _ (s : List ℕ) (x : Shape) (room : ℕ) (w : Code) (j : judge s ≡ AcceptedSet x) where
+module _ (s : List ℕ) (x : Shape) (room : ℕ) (w : Code) (j : judge s ≡ Ok x) where
   abbrev what : Parsed
   what = (judge-read s x j).0
 
@@ -180,12 +180,12 @@ module _ (s : List ℕ) (x : Shape) (room : ℕ) (w : Code) (j : judge s ≡ Acc
   long = ap length (accepted s what was_read).bytes ∙ length-render lines what.rest
 
   -- 18: another set follows
-  pub plan-followed : x.length < length s → planned s room w ≡ Refused (refusal bad_use x.length 0)
+  pub plan-followed : x.length < length s → planned s room w ≡ Err (refusal bad_use x.length 0)
   unfolding planned
   plan-followed h =
       let q : is_nil what.rest ≡ false = not-nil what.rest (omega (arith, long, length-so)) in
       let all : offset lines (length lines) + 0 ≡ x.length = rw (take-length lines) (omega (arith, length-so)) in
-      rw (was_read, q) (ap (λ (n : ℕ). Refused (refusal bad_use n 0)) all)
+      rw (was_read, q) (ap (λ (n : ℕ). Err (refusal bad_use n 0)) all)
 
   -- none follows
   module _ (h : length s ≤ x.length) where
@@ -203,7 +203,7 @@ module _ (s : List ℕ) (x : Shape) (room : ℕ) (w : Code) (j : judge s ≡ Acc
     alone-so g = rw (was_read, no-rest) refl
 
 -- the same, of a set that stands alone in its room
-module _ (s : List ℕ) (x : Shape) (room : ℕ) (w : Code) (t : List ℕ) (a : Alone s x room w t) where
+module _ (s : List ℕ) (x : Shape) (room : ℕ) (w : Code) (a : Alone s x room) where
   abbrev its : List Field
   its = lines s x room w a.accepted-so
 
@@ -222,8 +222,8 @@ module _ (s : List ℕ) (x : Shape) (room : ℕ) (w : Code) (t : List ℕ) (a : 
   its-plan : planned s room w ≡ outcome its its-stand room w its-fit
   its-plan = alone-so s x room w a.accepted-so a.alone a.in-room
 
-  its-found : (found : ℕ) → found ≡ first_without t s 0 (length s) → found ≡ first_without (table_into w) (render its []) 0 (size its)
-  its-found found e = e ∙ (ap (λ (u : List ℕ). first_without u s 0 (length s)) a.table-so ∙ ap₂ (λ (u : List ℕ) (n : ℕ). first_without (table_into w) u 0 n) its-bytes its-size)
+  its-found : (found : ℕ) → found ≡ first_without (table_into w) s 0 (length s) → found ≡ first_without (table_into w) (render its []) 0 (size its)
+  its-found found e = e ∙ ap₂ (λ (u : List ℕ) (n : ℕ). first_without (table_into w) u 0 n) its-bytes its-size
 
   its-plain : (plain : ℕ) → plain ≡ plain_front s → plain ≡ plain_bytes its
   its-plain plain e = e ∙ ap plain_front its-bytes
@@ -242,54 +242,54 @@ module _ (s : List ℕ) (x : Shape) (room : ℕ) (w : Code) (t : List ℕ) (a : 
     pub place_inside : place < length s
     place_inside = omega (arith, its-mark.inside, its-size)
 
-    pub plan-stays : get_or s place 0 ≡ get_or (charset_of w) 0 0 → planned s room w ≡ Stays
+    pub plan-stays : get_or s place 0 ≡ get_or (charset_of w) 0 0 → planned s room w ≡ (Ok Stays)
     plan-stays q = its-plan ∙ stays its its-stand room w its-fit (its-mark.code_by w ∙ eq-eqb _ _ (sym byte-so ∙ q))
 
     module _ (other : get_or s place 0 ≡ get_or (charset_of w) 0 0 → ⊥) where
       not_in : in_code w its ≡ false
       not_in = its-mark.code_by w ∙ ne_eqb _ _ (λ q. other (byte-so ∙ q))
 
-      pub plan-marks : get_or s place 0 ≡ digit_zero + 1 → planned s room w ≡ Marks place
+      pub plan-marks : get_or s place 0 ≡ digit_zero + 1 → planned s room w ≡ of_marks place
       plan-marks q =
           its-plan
-          ∙ (marks its its-stand room w its-fit not_in its-mark.has (its-mark.seven-by ∙ eq-eqb _ _ (sym byte-so ∙ q)) ∙ ap Marks (sym place-so))
+          ∙ (marks its its-stand room w its-fit not_in its-mark.has (its-mark.seven-by ∙ eq-eqb _ _ (sym byte-so ∙ q)) ∙ ap of_marks (sym place-so))
 
-      module _ (eight : get_or s place 0 ≡ digit_zero + 1 → ⊥) (found : ℕ) (f : found ≡ first_without t s 0 (length s)) where
+      module _ (eight : get_or s place 0 ≡ digit_zero + 1 → ⊥) (found : ℕ) (f : found ≡ first_without (table_into w) s 0 (length s)) where
         not-seven : seven_bit its ≡ false
         not-seven = its-mark.seven-by ∙ ne_eqb _ _ (λ q. eight (byte-so ∙ q))
 
-        pub plan-unknown : found < length s → planned s room w ≡ Refused (refusal no_such_character found 0)
+        pub plan-unknown : found < length s → planned s room w ≡ Err (refusal no_such_character found 0)
         plan-unknown h =
             its-plan ∙ marked-unknown its its-stand room w its-fit not_in its-mark.has not-seven found (its-found found f) (omega (arith, its-size))
 
-        pub plan-recodes : (plain : ℕ) → plain ≡ plain_front s → length s ≤ found → planned s room w ≡ Recodes plain place
+        pub plan-recodes : (plain : ℕ) → plain ≡ plain_front s → length s ≤ found → planned s room w ≡ of_recodes plain place
         plan-recodes plain k h =
             its-plan
             ∙ (recodes its its-stand room w its-fit not_in its-mark.has not-seven found (its-found found f) (omega (arith, its-size))
-            ∙ ap₂ (λ (n m : ℕ). Recodes n m) (sym (its-plain plain k)) (sym place-so))
+            ∙ ap₂ (λ (n m : ℕ). of_recodes n m) (sym (its-plain plain k)) (sym place-so))
 
   -- no line is 9206
   pub no-line : first_place s 9206 ≡ 0 → NoLine 9206 its
   no-line z = none-at its its-stand (ap (λ (u : List ℕ). first_place u 9206) (sym its-bytes) ∙ z)
 
-pub plan-437 : (s : List ℕ) (x : Shape) (room : ℕ) (w : Code) (t : List ℕ) → Alone s x room w t → w ≡ Page437 → first_place s 9206 ≡ 0 → planned s room w ≡ Stays
-plan-437 s x room w t a e z =
-    its-plan s x room w t a
-    ∙ stays (its s x room w t a) (its-stand s x room w t a) room w (its-fit s x room w t a) (ap (λ (v : Code). in_code v (its s x room w t a)) e
-    ∙ in-437 (its s x room w t a) (no-line s x room w t a z))
+pub plan-437 : (s : List ℕ) (x : Shape) (room : ℕ) (w : Code) → Alone s x room → w ≡ Page437 → first_place s 9206 ≡ 0 → planned s room w ≡ (Ok Stays)
+plan-437 s x room w a e z =
+    its-plan s x room w a
+    ∙ stays (its s x room w a) (its-stand s x room w a) room w (its-fit s x room w a) (ap (λ (v : Code). in_code v (its s x room w a)) e
+    ∙ in-437 (its s x room w a) (no-line s x room w a z))
 
-module _ (s : List ℕ) (x : Shape) (room : ℕ) (t : List ℕ) (a : Alone s x room Page1252 t) (z : first_place s 9206 ≡ 0) where
+module _ (s : List ℕ) (x : Shape) (room : ℕ) (a : Alone s x room) (z : first_place s 9206 ≡ 0) where
   abbrev all : List Field
-  all = its s x room Page1252 t a
+  all = its s x room Page1252 a
 
   abbrev all-stand : Standing all
-  all-stand = its-stand s x room Page1252 t a
+  all-stand = its-stand s x room Page1252 a
 
   all_none : NoLine 9206 all
-  all_none = no-line s x room Page1252 t a z
+  all_none = no-line s x room Page1252 a z
 
-  all-plan : planned s room Page1252 ≡ outcome all all-stand room Page1252 (its-fit s x room Page1252 t a)
-  all-plan = its-plan s x room Page1252 t a
+  all-plan : planned s room Page1252 ≡ outcome all all-stand room Page1252 (its-fit s x room Page1252 a)
+  all-plan = its-plan s x room Page1252 a
 
   all-length : x.length ≡ size all
   all-length = length-so s x room Page1252 a.accepted-so
@@ -297,48 +297,48 @@ module _ (s : List ℕ) (x : Shape) (room : ℕ) (t : List ℕ) (a : Alone s x r
   all_lines : x.lines ≡ length all
   all_lines = lines-so s x room Page1252 a.accepted-so
 
-  pub plan-too-many : max_lines ≤ x.lines → planned s room Page1252 ≡ Refused (refusal too_many_lines x.length 0)
+  pub plan-too-many : max_lines ≤ x.lines → planned s room Page1252 ≡ Err (refusal too_many_lines x.length 0)
   plan-too-many h =
       all-plan
-      ∙ (too_many all all-stand room Page1252 (its-fit s x room Page1252 t a) (in-1252 all all_none) (has-none all all_none) (seven-none all all_none) (omega (arith, all_lines))
-      ∙ ap (λ (n : ℕ). Refused (refusal too_many_lines n 0)) (sym all-length))
+      ∙ (too_many all all-stand room Page1252 (its-fit s x room Page1252 a) (in-1252 all all_none) (has-none all all_none) (seven-none all all_none) (omega (arith, all_lines))
+      ∙ ap (λ (n : ℕ). Err (refusal too_many_lines n 0)) (sym all-length))
 
   -- 27, then 22
-  module _ (few : x.lines < max_lines) (plain found : ℕ) (k : plain ≡ plain_front s) (f : found ≡ first_without t s 0 (length s)) where
+  module _ (few : x.lines < max_lines) (plain found : ℕ) (k : plain ≡ plain_front s) (f : found ≡ first_without (table_into Page1252) s 0 (length s)) where
     abbrev total : ℕ
     total = length s + (1 + (line_lead + line_end))
 
     total-so : total ≡ size all + (1 + (line_lead + line_end))
-    total-so = omega (arith, its-size s x room Page1252 t a)
+    total-so = omega (arith, its-size s x room Page1252 a)
 
-    unknown-plan : found < length s → planned s room Page1252 ≡ Refused (refusal no_such_character found 0)
+    unknown-plan : found < length s → planned s room Page1252 ≡ Err (refusal no_such_character found 0)
     unknown-plan h =
         all-plan
-        ∙ gained-unknown all all-stand room Page1252 (its-fit s x room Page1252 t a) (in-1252 all all_none) (has-none all all_none) (seven-none all all_none)
-        (omega (arith, all_lines)) found (its-found s x room Page1252 t a found f) (omega (arith, its-size s x room Page1252 t a))
+        ∙ gained-unknown all all-stand room Page1252 (its-fit s x room Page1252 a) (in-1252 all all_none) (has-none all all_none) (seven-none all all_none)
+        (omega (arith, all_lines)) found (its-found s x room Page1252 a found f) (omega (arith, its-size s x room Page1252 a))
 
-    no-room-plan : length s ≤ found → room < total → planned s room Page1252 ≡ Refused (refusal no_room total 0)
+    no-room-plan : length s ≤ found → room < total → planned s room Page1252 ≡ Err (refusal no_room total 0)
     no-room-plan g h =
         all-plan
-        ∙ (no-room all all-stand room Page1252 (its-fit s x room Page1252 t a) (in-1252 all all_none) (has-none all all_none) (seven-none all all_none)
-        (omega (arith, all_lines)) found (its-found s x room Page1252 t a found f) (omega (arith, its-size s x room Page1252 t a)) (omega (arith, total-so))
-        ∙ ap (λ (n : ℕ). Refused (refusal no_room n 0)) (sym total-so))
+        ∙ (no-room all all-stand room Page1252 (its-fit s x room Page1252 a) (in-1252 all all_none) (has-none all all_none) (seven-none all all_none)
+        (omega (arith, all_lines)) found (its-found s x room Page1252 a found f) (omega (arith, its-size s x room Page1252 a)) (omega (arith, total-so))
+        ∙ ap (λ (n : ℕ). Err (refusal no_room n 0)) (sym total-so))
 
-    gains-plan : length s ≤ found → total ≤ room → planned s room Page1252 ≡ Gains plain
+    gains-plan : length s ≤ found → total ≤ room → planned s room Page1252 ≡ of_gains plain
     gains-plan g h =
         all-plan
-        ∙ (gains-so all all-stand room Page1252 (its-fit s x room Page1252 t a) (in-1252 all all_none) (has-none all all_none) (seven-none all all_none)
-        (omega (arith, all_lines)) found (its-found s x room Page1252 t a found f) (omega (arith, its-size s x room Page1252 t a)) (omega (arith, total-so))
-        ∙ ap Gains (sym (its-plain s x room Page1252 t a plain k)))
+        ∙ (gains-so all all-stand room Page1252 (its-fit s x room Page1252 a) (in-1252 all all_none) (has-none all all_none) (seven-none all all_none)
+        (omega (arith, all_lines)) found (its-found s x room Page1252 a found f) (omega (arith, its-size s x room Page1252 a)) (omega (arith, total-so))
+        ∙ ap of_gains (sym (its-plain s x room Page1252 a plain k)))
 
     pub plan-gains : gained_by (length s) plain found total room ≡ planned s room Page1252
     plan-gains = go (leb (length s) found) refl
       where
-        by-room : length s ≤ found → (c : Bool) → leb total room ≡ c → cond c (Gains plain) (Refused (refusal no_room total 0)) ≡ planned s room Page1252
+        by-room : length s ≤ found → (c : Bool) → leb total room ≡ c → cond c (Ok (Gains plain)) (Err (refusal no_room total 0)) ≡ planned s room Page1252
         by-room g true q = sym (gains-plan g (leb-true total room q))
         by-room g false q = sym (no-room-plan g (leb-false total room q))
 
         go : (b : Bool) → leb (length s) found ≡ b
-            → cond b (cond (leb total room) (Gains plain) (Refused (refusal no_room total 0))) (Refused (refusal no_such_character found 0)) ≡ planned s room Page1252
+            → cond b (cond (leb total room) (Ok (Gains plain)) (Err (refusal no_room total 0))) (Err (refusal no_such_character found 0)) ≡ planned s room Page1252
         go true q = by-room (leb-true (length s) found q) (leb total room) refl
         go false q = sym (unknown-plan (leb-false (length s) found q))

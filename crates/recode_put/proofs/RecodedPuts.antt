@@ -1,17 +1,16 @@
 -- What the loans and the puts of this crate leave of a buffer.
 use native.Mathlib.Omega.{arith}
 use mathlib.Core.Path.{◌≡◌, refl, ap, ◌∙◌}
-use mathlib.Core.List.{List, [], ◌∷◌, ◌++◌}
+use mathlib.Core.List.{List, [], ◌++◌}
 use Prim.Native.Nat.{ℕ, ◌+◌, ◌-◌, ◌≤◌}
-use lib.ListN.{length, get_or, take, drop, set, replicate, length-drop, length-append, length-replicate, length-set}
+use lib.ListN.{length, take, drop, set, replicate, length-drop, length-append, length-replicate, length-set}
 use lib.Seq.{length-take-le}
 use borrow.Rule.Slice.PartMut.{mid_of, put_mid}
 use Rattle.meaning.specs.Digits.{digits}
 use Rattle.meaning.specs.Field.{field}
-use Rattle.meaning.specs.Lines.{line_then, cr, lf}
+use Rattle.meaning.specs.Lines.{line_then}
 use Rattle.meaning.specs.Lists.{sum_digits, sum_place}
 use Rattle.meaning_recode.specs.declared.Code.{Code}
-use Rattle.meaning_recode.specs.declared.Code.TheVariants.{Page437, Page1252}
 use Rattle.meaning_recode.specs.Recoding.{charset_of}
 use Rattle.byte_put.specs.Places.{over}
 use Rattle.byte_put.proofs.LendLaws.{mid-tail, put-tail}
@@ -38,11 +37,6 @@ length-zeroed b y place x used h e =
 pub lent-mapped : (t b y : List ℕ) (used : ℕ) → y ≡ mapped t (take used b) → y ++ drop used b ≡ mapped_front t used b
 unfolding mapped_front
 lent-mapped t b y used e = ap (λ (u : List ℕ). u ++ drop used b) e
-
--- the line of 9206, byte by byte
-pub charset-bytes : (w : Code) → 48 ∷ 49 ∷ 48 ∷ 57 ∷ 50 ∷ 48 ∷ 54 ∷ get_or (charset_of w) 0 0 ∷ cr ∷ lf ∷ [] ≡ line_then (field 9206 (charset_of w)) []
-charset-bytes Page437 = refl
-charset-bytes Page1252 = refl
 
 -- the line, then the sum
 pub line-then-sum : (w : Code) (b b₁ b₂ b₃ line : List ℕ) (used : ℕ) → b₁ ≡ b → line ≡ line_then (field 9206 (charset_of w)) []

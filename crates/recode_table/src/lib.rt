@@ -13,27 +13,22 @@ use meaning_recode::Code;
 // What stands in a table if the other code page has no such character: no byte.
 pub const NO_BYTE: u16 = 256;
 
-// "9206 = 3" is code page 1252, and 2 is 437.
-const MARK_437: u8 = meaning::DIGIT_ZERO + 2;
-
-const MARK_1252: u8 = meaning::DIGIT_ZERO + 3;
-
-// The table into the wanted code page. By value, so once a call: what walks over bytes is lent it.
-pub fn table_into(wanted: Code) -> [u16; 256]
-    ensures { result ≡ table_into wanted }
+// The table into the wanted code page.
+pub fn table_into(wanted: Code) -> &'static [u16; 256]
+    ensures { result.now ≡ table_into wanted }
 {
     match wanted {
-        Code::Page437 => tables::TO_437,
-        Code::Page1252 => tables::TO_1252,
+        Code::Page437 => &tables::TO_437,
+        Code::Page1252 => &tables::TO_1252,
     }
 }
 
-// The one byte that 9206 holds if the set is in the wanted code page.
+// The one byte that 9206 holds if the set is in the wanted code page: "9206 = 3" is code page 1252, and 2 is 437.
 pub fn mark_of(wanted: Code) -> u8
     ensures { result ≡ get_or (charset_of wanted) 0 0 }
 {
     match wanted {
-        Code::Page437 => MARK_437,
-        Code::Page1252 => MARK_1252,
+        Code::Page437 => b'2',
+        Code::Page1252 => b'3',
     }
 }

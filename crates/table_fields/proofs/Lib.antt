@@ -1,4 +1,4 @@
 -- The laws that the proofs of this crate and of later ones cite.
 pub mod Arms
-pub mod FieldCodeLaws
+pub mod FieldRowLaws
 pub mod LabelNumberLaws

@@ -1,3 +1,2 @@
 -- The definitions that the contracts of this crate cite beside the meaning.
-pub mod FieldCodes
 pub mod LabelNumbers

@@ -1,284 +1,270 @@
-// The field table: what the content of each label must be, as one number for each row, and the row of a label.
+// The field table: what the content of each label must be, row by row, and the row of a label.
 // No function here asks anything of its caller; each says in its contract which definition it equals.
 #![tactic(auto)]
 
 ghost use Rattle.std.specs.Prelude.{◌≡◌};
 ghost use Rattle.meaning.specs.Tables.{is_pair_label, row_label};
 ghost use Rattle.meaning.specs.FieldTable.{field_table, field_row_in, field_row};
-ghost use Rattle.table_fields.specs.FieldCodes.{field_code, least_in, most_in, kind_in};
 
-// ---- a row's code: the least length, which is below 16, 16 times the most, which is below 64, and 1,024 times the number of the kind
+use meaning::{FieldRow, Kind};
 
-const LEASTS: u16 = 16;
+// ---- what a row is written with
 
-const MOSTS: u16 = 64;
+// "8" means exactly.
+macro_rules! exactly {
+    ($label:expr, $length:expr, $kind:expr) => {
+        FieldRow { label: $label, least: $length, most: $length, kind: $kind }
+    };
+}
 
-// The kinds by number.
-pub const ALNUM: u16 = 0;
+// "<=60" means 1 to 60.
+macro_rules! up_to {
+    ($label:expr, $most:expr, $kind:expr) => {
+        FieldRow { label: $label, least: 1, most: $most, kind: $kind }
+    };
+}
 
-pub const NUM: u16 = 1;
-
-pub const FLOAT: u16 = 2;
-
-pub const RULE020: u16 = 3;
-
-pub const RULE008: u16 = 4;
-
-pub const RULE090: u16 = 5;
-
-pub const RULE112: u16 = 6;
-
-pub const RULE116: u16 = 7;
-
-pub const CHARSET: u16 = 8;
-
-pub const VERSION: u16 = 9;
-
-// What a row is written with: "8" means exactly, "<=60" means 1 to 60, "var" is taken as 1 to 60, and each kind stands above both lengths.
-const FROM_ONE: u16 = 1;
-
-const UP_TO: u16 = LEASTS;
-
-const EXACTLY: u16 = 1 + UP_TO;
-
-const VAR: u16 = 60 * UP_TO;
-
-const KIND: u16 = LEASTS * MOSTS;
+// "var" is taken as 1 to 60.
+macro_rules! var {
+    ($label:expr, $kind:expr) => {
+        up_to!($label, 60, $kind)
+    };
+}
 
 // ---- the rows, in the printed order
 
-pub const OF_102: u16 = FROM_ONE + 60 * UP_TO + ALNUM * KIND;
+pub const OF_102: FieldRow = up_to!(102, 60, Kind::Alnum);
 
-pub const OF_103: u16 = FROM_ONE + 60 * UP_TO + ALNUM * KIND;
+pub const OF_103: FieldRow = up_to!(103, 60, Kind::Alnum);
 
-pub const OF_132: u16 = FROM_ONE + 60 * UP_TO + ALNUM * KIND;
+pub const OF_132: FieldRow = up_to!(132, 60, Kind::Alnum);
 
-pub const OF_3000: u16 = FROM_ONE + 10 * UP_TO + ALNUM * KIND;
+pub const OF_3000: FieldRow = up_to!(3000, 10, Kind::Alnum);
 
-pub const OF_3100: u16 = FROM_ONE + 15 * UP_TO + ALNUM * KIND;
+pub const OF_3100: FieldRow = up_to!(3100, 15, Kind::Alnum);
 
-pub const OF_3101: u16 = FROM_ONE + 28 * UP_TO + ALNUM * KIND;
+pub const OF_3101: FieldRow = up_to!(3101, 28, Kind::Alnum);
 
-pub const OF_3102: u16 = FROM_ONE + 28 * UP_TO + ALNUM * KIND;
+pub const OF_3102: FieldRow = up_to!(3102, 28, Kind::Alnum);
 
-pub const OF_3103: u16 = 8 * EXACTLY + RULE020 * KIND;
+pub const OF_3103: FieldRow = exactly!(3103, 8, Kind::Rule020);
 
-pub const OF_3104: u16 = FROM_ONE + 15 * UP_TO + ALNUM * KIND;
+pub const OF_3104: FieldRow = up_to!(3104, 15, Kind::Alnum);
 
-pub const OF_3105: u16 = FROM_ONE + 12 * UP_TO + ALNUM * KIND;
+pub const OF_3105: FieldRow = up_to!(3105, 12, Kind::Alnum);
 
-pub const OF_3106: u16 = FROM_ONE + 30 * UP_TO + ALNUM * KIND;
+pub const OF_3106: FieldRow = up_to!(3106, 30, Kind::Alnum);
 
-pub const OF_3107: u16 = FROM_ONE + 28 * UP_TO + ALNUM * KIND;
+pub const OF_3107: FieldRow = up_to!(3107, 28, Kind::Alnum);
 
-pub const OF_3108: u16 = 1 * EXACTLY + RULE116 * KIND;
+pub const OF_3108: FieldRow = exactly!(3108, 1, Kind::Rule116);
 
-pub const OF_3110: u16 = 1 * EXACTLY + RULE112 * KIND;
+pub const OF_3110: FieldRow = exactly!(3110, 1, Kind::Rule112);
 
-pub const OF_3622: u16 = FROM_ONE + VAR + FLOAT * KIND;
+pub const OF_3622: FieldRow = var!(3622, Kind::Float);
 
-pub const OF_3623: u16 = FROM_ONE + VAR + FLOAT * KIND;
+pub const OF_3623: FieldRow = var!(3623, Kind::Float);
 
-pub const OF_3628: u16 = FROM_ONE + 60 * UP_TO + ALNUM * KIND;
+pub const OF_3628: FieldRow = up_to!(3628, 60, Kind::Alnum);
 
-pub const OF_6200: u16 = 8 * EXACTLY + RULE008 * KIND;
+pub const OF_6200: FieldRow = exactly!(6200, 8, Kind::Rule008);
 
-pub const OF_6201: u16 = 6 * EXACTLY + RULE090 * KIND;
+pub const OF_6201: FieldRow = exactly!(6201, 6, Kind::Rule090);
 
-pub const OF_6205: u16 = FROM_ONE + 60 * UP_TO + ALNUM * KIND;
+pub const OF_6205: FieldRow = up_to!(6205, 60, Kind::Alnum);
 
-pub const OF_6220: u16 = FROM_ONE + 60 * UP_TO + ALNUM * KIND;
+pub const OF_6220: FieldRow = up_to!(6220, 60, Kind::Alnum);
 
-pub const OF_6221: u16 = FROM_ONE + 60 * UP_TO + ALNUM * KIND;
+pub const OF_6221: FieldRow = up_to!(6221, 60, Kind::Alnum);
 
-pub const OF_6226: u16 = FROM_ONE + 4 * UP_TO + NUM * KIND;
+pub const OF_6226: FieldRow = up_to!(6226, 4, Kind::Num);
 
-pub const OF_6227: u16 = FROM_ONE + 60 * UP_TO + ALNUM * KIND;
+pub const OF_6227: FieldRow = up_to!(6227, 60, Kind::Alnum);
 
-pub const OF_6228: u16 = FROM_ONE + 60 * UP_TO + ALNUM * KIND;
+pub const OF_6228: FieldRow = up_to!(6228, 60, Kind::Alnum);
 
-pub const OF_6302: u16 = FROM_ONE + 60 * UP_TO + ALNUM * KIND;
+pub const OF_6302: FieldRow = up_to!(6302, 60, Kind::Alnum);
 
-pub const OF_6303: u16 = FROM_ONE + 60 * UP_TO + ALNUM * KIND;
+pub const OF_6303: FieldRow = up_to!(6303, 60, Kind::Alnum);
 
-pub const OF_6304: u16 = FROM_ONE + 60 * UP_TO + ALNUM * KIND;
+pub const OF_6304: FieldRow = up_to!(6304, 60, Kind::Alnum);
 
-pub const OF_6305: u16 = FROM_ONE + 60 * UP_TO + ALNUM * KIND;
+pub const OF_6305: FieldRow = up_to!(6305, 60, Kind::Alnum);
 
-pub const OF_6330: u16 = FROM_ONE + 60 * UP_TO + ALNUM * KIND;
+pub const OF_6330: FieldRow = up_to!(6330, 60, Kind::Alnum);
 
-pub const OF_6331: u16 = FROM_ONE + 60 * UP_TO + ALNUM * KIND;
+pub const OF_6331: FieldRow = up_to!(6331, 60, Kind::Alnum);
 
-pub const OF_8000: u16 = 4 * EXACTLY + ALNUM * KIND;
+pub const OF_8000: FieldRow = exactly!(8000, 4, Kind::Alnum);
 
-pub const OF_8100: u16 = 5 * EXACTLY + NUM * KIND;
+pub const OF_8100: FieldRow = exactly!(8100, 5, Kind::Num);
 
-pub const OF_8315: u16 = 8 * EXACTLY + ALNUM * KIND;
+pub const OF_8315: FieldRow = exactly!(8315, 8, Kind::Alnum);
 
-pub const OF_8316: u16 = 8 * EXACTLY + ALNUM * KIND;
+pub const OF_8316: FieldRow = exactly!(8316, 8, Kind::Alnum);
 
-pub const OF_8402: u16 = FROM_ONE + 6 * UP_TO + ALNUM * KIND;
+pub const OF_8402: FieldRow = up_to!(8402, 6, Kind::Alnum);
 
-pub const OF_8410: u16 = FROM_ONE + 20 * UP_TO + ALNUM * KIND;
+pub const OF_8410: FieldRow = up_to!(8410, 20, Kind::Alnum);
 
-pub const OF_8411: u16 = FROM_ONE + 60 * UP_TO + ALNUM * KIND;
+pub const OF_8411: FieldRow = up_to!(8411, 60, Kind::Alnum);
 
-pub const OF_8418: u16 = 1 * EXACTLY + ALNUM * KIND;
+pub const OF_8418: FieldRow = exactly!(8418, 1, Kind::Alnum);
 
-pub const OF_8420: u16 = FROM_ONE + VAR + FLOAT * KIND;
+pub const OF_8420: FieldRow = var!(8420, Kind::Float);
 
-pub const OF_8421: u16 = FROM_ONE + 60 * UP_TO + ALNUM * KIND;
+pub const OF_8421: FieldRow = up_to!(8421, 60, Kind::Alnum);
 
-pub const OF_8428: u16 = FROM_ONE + 8 * UP_TO + ALNUM * KIND;
+pub const OF_8428: FieldRow = up_to!(8428, 8, Kind::Alnum);
 
-pub const OF_8429: u16 = 2 * EXACTLY + NUM * KIND;
+pub const OF_8429: FieldRow = exactly!(8429, 2, Kind::Num);
 
-pub const OF_8430: u16 = FROM_ONE + 60 * UP_TO + ALNUM * KIND;
+pub const OF_8430: FieldRow = up_to!(8430, 60, Kind::Alnum);
 
-pub const OF_8431: u16 = FROM_ONE + 60 * UP_TO + ALNUM * KIND;
+pub const OF_8431: FieldRow = up_to!(8431, 60, Kind::Alnum);
 
-pub const OF_8432: u16 = 8 * EXACTLY + RULE008 * KIND;
+pub const OF_8432: FieldRow = exactly!(8432, 8, Kind::Rule008);
 
-pub const OF_8437: u16 = FROM_ONE + 60 * UP_TO + ALNUM * KIND;
+pub const OF_8437: FieldRow = up_to!(8437, 60, Kind::Alnum);
 
-pub const OF_8438: u16 = FROM_ONE + 60 * UP_TO + ALNUM * KIND;
+pub const OF_8438: FieldRow = up_to!(8438, 60, Kind::Alnum);
 
-pub const OF_8439: u16 = 6 * EXACTLY + RULE090 * KIND;
+pub const OF_8439: FieldRow = exactly!(8439, 6, Kind::Rule090);
 
-pub const OF_8460: u16 = FROM_ONE + 60 * UP_TO + ALNUM * KIND;
+pub const OF_8460: FieldRow = up_to!(8460, 60, Kind::Alnum);
 
-pub const OF_8461: u16 = FROM_ONE + VAR + FLOAT * KIND;
+pub const OF_8461: FieldRow = var!(8461, Kind::Float);
 
-pub const OF_8462: u16 = FROM_ONE + VAR + FLOAT * KIND;
+pub const OF_8462: FieldRow = var!(8462, Kind::Float);
 
-pub const OF_8470: u16 = FROM_ONE + 60 * UP_TO + ALNUM * KIND;
+pub const OF_8470: FieldRow = up_to!(8470, 60, Kind::Alnum);
 
-pub const OF_8480: u16 = FROM_ONE + 60 * UP_TO + ALNUM * KIND;
+pub const OF_8480: FieldRow = up_to!(8480, 60, Kind::Alnum);
 
-pub const OF_8990: u16 = FROM_ONE + 60 * UP_TO + ALNUM * KIND;
+pub const OF_8990: FieldRow = up_to!(8990, 60, Kind::Alnum);
 
-pub const OF_9206: u16 = 1 * EXACTLY + CHARSET * KIND;
+pub const OF_9206: FieldRow = exactly!(9206, 1, Kind::Charset);
 
-pub const OF_9218: u16 = 5 * EXACTLY + VERSION * KIND;
+pub const OF_9218: FieldRow = exactly!(9218, 5, Kind::Version);
+
+// No length fits a label that has no row.
+const OF_NONE: FieldRow = up_to!(0, 0, Kind::Alnum);
 
 // ---- the number of a label: how many rows stand before its own
 
-pub const NO_102: u8 = 0;
+pub const NO_102: usize = 0;
 
-pub const NO_103: u8 = 1;
+pub const NO_103: usize = 1;
 
-pub const NO_132: u8 = 2;
+pub const NO_132: usize = 2;
 
-pub const NO_3000: u8 = 3;
+pub const NO_3000: usize = 3;
 
-pub const NO_3100: u8 = 4;
+pub const NO_3100: usize = 4;
 
-pub const NO_3101: u8 = 5;
+pub const NO_3101: usize = 5;
 
-pub const NO_3102: u8 = 6;
+pub const NO_3102: usize = 6;
 
-pub const NO_3103: u8 = 7;
+pub const NO_3103: usize = 7;
 
-pub const NO_3104: u8 = 8;
+pub const NO_3104: usize = 8;
 
-pub const NO_3105: u8 = 9;
+pub const NO_3105: usize = 9;
 
-pub const NO_3106: u8 = 10;
+pub const NO_3106: usize = 10;
 
-pub const NO_3107: u8 = 11;
+pub const NO_3107: usize = 11;
 
-pub const NO_3108: u8 = 12;
+pub const NO_3108: usize = 12;
 
-pub const NO_3110: u8 = 13;
+pub const NO_3110: usize = 13;
 
-pub const NO_3622: u8 = 14;
+pub const NO_3622: usize = 14;
 
-pub const NO_3623: u8 = 15;
+pub const NO_3623: usize = 15;
 
-pub const NO_3628: u8 = 16;
+pub const NO_3628: usize = 16;
 
-pub const NO_6200: u8 = 17;
+pub const NO_6200: usize = 17;
 
-pub const NO_6201: u8 = 18;
+pub const NO_6201: usize = 18;
 
-pub const NO_6205: u8 = 19;
+pub const NO_6205: usize = 19;
 
-pub const NO_6220: u8 = 20;
+pub const NO_6220: usize = 20;
 
-pub const NO_6221: u8 = 21;
+pub const NO_6221: usize = 21;
 
-pub const NO_6226: u8 = 22;
+pub const NO_6226: usize = 22;
 
-pub const NO_6227: u8 = 23;
+pub const NO_6227: usize = 23;
 
-pub const NO_6228: u8 = 24;
+pub const NO_6228: usize = 24;
 
-pub const NO_6302: u8 = 25;
+pub const NO_6302: usize = 25;
 
-pub const NO_6303: u8 = 26;
+pub const NO_6303: usize = 26;
 
-pub const NO_6304: u8 = 27;
+pub const NO_6304: usize = 27;
 
-pub const NO_6305: u8 = 28;
+pub const NO_6305: usize = 28;
 
-pub const NO_6330: u8 = 29;
+pub const NO_6330: usize = 29;
 
-pub const NO_6331: u8 = 30;
+pub const NO_6331: usize = 30;
 
-pub const NO_8000: u8 = 31;
+pub const NO_8000: usize = 31;
 
-pub const NO_8100: u8 = 32;
+pub const NO_8100: usize = 32;
 
-pub const NO_8315: u8 = 33;
+pub const NO_8315: usize = 33;
 
-pub const NO_8316: u8 = 34;
+pub const NO_8316: usize = 34;
 
-pub const NO_8402: u8 = 35;
+pub const NO_8402: usize = 35;
 
-pub const NO_8410: u8 = 36;
+pub const NO_8410: usize = 36;
 
-pub const NO_8411: u8 = 37;
+pub const NO_8411: usize = 37;
 
-pub const NO_8418: u8 = 38;
+pub const NO_8418: usize = 38;
 
-pub const NO_8420: u8 = 39;
+pub const NO_8420: usize = 39;
 
-pub const NO_8421: u8 = 40;
+pub const NO_8421: usize = 40;
 
-pub const NO_8428: u8 = 41;
+pub const NO_8428: usize = 41;
 
-pub const NO_8429: u8 = 42;
+pub const NO_8429: usize = 42;
 
-pub const NO_8430: u8 = 43;
+pub const NO_8430: usize = 43;
 
-pub const NO_8431: u8 = 44;
+pub const NO_8431: usize = 44;
 
-pub const NO_8432: u8 = 45;
+pub const NO_8432: usize = 45;
 
-pub const NO_8437: u8 = 46;
+pub const NO_8437: usize = 46;
 
-pub const NO_8438: u8 = 47;
+pub const NO_8438: usize = 47;
 
-pub const NO_8439: u8 = 48;
+pub const NO_8439: usize = 48;
 
-pub const NO_8460: u8 = 49;
+pub const NO_8460: usize = 49;
 
-pub const NO_8461: u8 = 50;
+pub const NO_8461: usize = 50;
 
-pub const NO_8462: u8 = 51;
+pub const NO_8462: usize = 51;
 
-pub const NO_8470: u8 = 52;
+pub const NO_8470: usize = 52;
 
-pub const NO_8480: u8 = 53;
+pub const NO_8480: usize = 53;
 
-pub const NO_8990: u8 = 54;
+pub const NO_8990: usize = 54;
 
-pub const NO_9206: u8 = 55;
+pub const NO_9206: usize = 55;
 
-pub const NO_9218: u8 = 56;
-
-// No length fits a label that has no row.
-const OF_NONE: u16 = FROM_ONE + ALNUM * KIND;
+pub const NO_9218: usize = 56;
 
 // A name, or the odd label after one.
 pub fn is_pair(label: usize) -> bool
@@ -300,9 +286,10 @@ pub fn row_label(label: usize) -> usize
     label
 }
 
-// The code of a row label's row.
-fn code_of(want: usize) -> u16
-    ensures { result ≡ field_code (field_row_in field_table want) }
+// The row that is printed under a label.
+#[tactic(auto, unfolding(meaning::specs::FieldTable::field_row_in, meaning::specs::FieldTable::field_table))]
+fn printed_row(want: usize) -> FieldRow
+    ensures { result ≡ field_row_in field_table want }
 {
     match want {
         102 => OF_102,
@@ -366,29 +353,9 @@ fn code_of(want: usize) -> u16
     }
 }
 
-// The code of a label's row.
-pub fn field_code(label: usize) -> u16
-    ensures { result ≡ field_code (field_row label) }
+// A label's row.
+pub fn field_row(label: usize) -> FieldRow
+    ensures { result ≡ field_row label }
 {
-    code_of(row_label(label))
-}
-
-// ---- the parts of a code
-
-pub fn least_of(code: u16) -> usize
-    ensures { result ≡ least_in code }
-{
-    (code % LEASTS) as usize
-}
-
-pub fn most_of(code: u16) -> usize
-    ensures { result ≡ most_in code }
-{
-    (code / LEASTS % MOSTS) as usize
-}
-
-pub fn kind_of(code: u16) -> u16
-    ensures { result ≡ kind_in code }
-{
-    code / KIND
+    printed_row(row_label(label))
 }

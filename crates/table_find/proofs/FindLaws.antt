@@ -7,6 +7,7 @@ use Prim.Native.Nat.{ℕ, suc, ◌%◌, ◌≤◌, ◌<◌}
 use native.Mathlib.Omega.{arith}
 use lib.Dec.{leb, eqb}
 use borrow.Author.Tests.{ne_eqb, eqb-true, eqb-false, leb-true}
+use Rattle.std.specs.Prelude.{None}
 use Rattle.meaning.specs.declared.Row.{Row}
 use Rattle.meaning.specs.declared.SetType.{SetType}
 use Rattle.meaning.specs.declared.SetType.TheVariants.{T6300, T6301, T6302, T6310, T6311}
@@ -17,7 +18,7 @@ use Rattle.meaning.proofs.RowLaws.{all_rows}
 use Rattle.table_fields.proofs.Arms.{NoneOf, none_beside}
 use Rattle.table_fields.specs.LabelNumbers.{rows_before, label_number}
 use Rattle.table_find.specs.LookUp.{At, NoRow, find_from, just_row}
-use Rattle.table_find.specs.RowCodes.{code}
+use Rattle.table_find.specs.TableRows.{table_row}
 
 -- ---- the look-up with the number is the meaning's, without it
 
@@ -73,13 +74,13 @@ module _ (A : Type 0) (rs : List Row) (l : ℕ) (h : NoneOf A l (plain_labels rs
   plain p = rw (row_plain l p) (find-plain A rs l p h)
 
   -- if the table has names
-  pub find-pairs : code (find_from rs (row_label l)) ≡ cond (is_pair_label l) (code (find_from rs (row_label l))) 0
-  unfolding code
+  pub find-pairs : table_row (find_from rs (row_label l)) ≡ cond (is_pair_label l) (table_row (find_from rs (row_label l))) None
+  unfolding table_row
   find-pairs = go (is_pair_label l) refl
     where
-      go : (b : Bool) → is_pair_label l ≡ b → code (find_from rs (row_label l)) ≡ cond b (code (find_from rs (row_label l))) 0
+      go : (b : Bool) → is_pair_label l ≡ b → table_row (find_from rs (row_label l)) ≡ cond b (table_row (find_from rs (row_label l))) None
       go true p = refl
-      go false p = ap code (plain p)
+      go false p = ap table_row (plain p)
 
   -- if it has none
   pub find_none : find_from rs 6330 ≡ NoRow → find_from rs 6331 ≡ NoRow → find_from rs (row_label l) ≡ NoRow

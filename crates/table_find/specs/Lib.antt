@@ -1,3 +1,3 @@
 -- The definitions that the contracts of this crate cite beside the meaning.
 pub mod LookUp
-pub mod RowCodes
+pub mod TableRows

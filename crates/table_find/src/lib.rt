@@ -1,48 +1,48 @@
-// The look-up of a label's row in the five set tables: by `match`, since it runs once a line, and answered by one number, the row's code.
+// The look-up of a label's row in the five set tables: by `match`, since it runs once a line.
 // No function here asks anything of its caller; each says in its contract which definition it equals.
 #![tactic(auto)]
 
-ghost use Rattle.std.specs.Prelude.{◌≡◌, cond};
+ghost use Rattle.std.specs.Prelude.{◌≡◌, Some, None, cond};
 ghost use Rattle.meaning.specs.Tables.{rows6300, rows6301, rows6302, rows6310, rows6311, table, is_pair_label, row_label};
 ghost use Rattle.table_find.specs.LookUp.{find_from};
-ghost use Rattle.table_find.specs.RowCodes.{row_code, code, number_in, under_in, many_in, field_in};
+ghost use Rattle.table_find.specs.TableRows.{table_row};
 
-use meaning::SetType;
+use meaning::{FieldRow, SetType};
 use table_fields as fields;
 
-// A row's code: the code of its field, 65,536 times its label's number, and above them whether it repeats, and its header.
-const FIELDS: usize = 65_536;
-
-const NUMBERS: usize = 256;
-
-const OCCURRENCES: usize = 2;
-
-const NUMBERED: usize = FIELDS * NUMBERS;
-
-const ABOVE: usize = NUMBERED * OCCURRENCES;
-
-// The label is not in the set's table.
-pub const NOTHING: usize = 0;
-
-// The header of a label that stands at set level.
-const SET_LEVEL: u16 = 0;
-
-// Occurrence 1 and n.
-const ONCE: u8 = 0;
-
-const MANY: u8 = 1;
-
-// The code of a row: its number, its header, whether it repeats, and its field.
-fn at(number: u8, under: u16, many: u8, field: u16) -> usize
-    ensures { result ≡ row_code number under many field }
-{
-    field as usize
-        + FIELDS * (number as usize + NUMBERS * (many as usize + OCCURRENCES * under as usize))
+// What the tables say of a label: its number, its header's label (0 at set level), whether it repeats, and what its content must be.
+#[derive(Clone, Copy)]
+pub struct TableRow {
+    pub number: usize,
+    pub under: usize,
+    pub many: bool,
+    pub field: FieldRow,
 }
 
-// The code of a label's row in the table of 6300.
-fn find_6300(label: usize) -> usize
-    ensures { result ≡ code (find_from rows6300 (row_label label)) }
+// The header of a label that stands at set level.
+pub const SET_LEVEL: usize = 0;
+
+// Occurrence 1 and n.
+const ONCE: bool = false;
+
+const MANY: bool = true;
+
+// The label is in the set's table, with this row.
+fn at(number: usize, under: usize, many: bool, field: FieldRow) -> Option<TableRow>
+    ensures { result ≡ Some (record { number = number; under = under; many = many; field = field }) }
+{
+    Some(TableRow {
+        number,
+        under,
+        many,
+        field,
+    })
+}
+
+// A label's row in the table of 6300.
+#[tactic(auto, unfolding(crate::specs::LookUp::find_from, crate::specs::TableRows::table_row, table_fields::specs::LabelNumbers::label_number, table_fields::specs::LabelNumbers::rows_before, meaning::specs::Tables::rows6300, meaning::specs::Tables::row_label, meaning::specs::FieldTable::field_table, meaning::specs::FieldTable::field_row_in))]
+fn find_6300(label: usize) -> Option<TableRow>
+    ensures { result ≡ table_row (find_from rows6300 (row_label label)) }
 {
     match label {
         8000 => at(fields::NO_8000, SET_LEVEL, ONCE, fields::OF_8000),
@@ -52,13 +52,14 @@ fn find_6300(label: usize) -> usize
         9206 => at(fields::NO_9206, SET_LEVEL, ONCE, fields::OF_9206),
         9218 => at(fields::NO_9218, SET_LEVEL, ONCE, fields::OF_9218),
         3000 => at(fields::NO_3000, SET_LEVEL, ONCE, fields::OF_3000),
-        _ => NOTHING,
+        _ => None,
     }
 }
 
-// The code of a label's row in the table of 6301.
-fn find_6301(label: usize) -> usize
-    ensures { result ≡ code (find_from rows6301 (row_label label)) }
+// A label's row in the table of 6301.
+#[tactic(auto, unfolding(crate::specs::LookUp::find_from, crate::specs::TableRows::table_row, table_fields::specs::LabelNumbers::label_number, table_fields::specs::LabelNumbers::rows_before, meaning::specs::Tables::rows6301, meaning::specs::Tables::row_label, meaning::specs::FieldTable::field_table, meaning::specs::FieldTable::field_row_in))]
+fn find_6301(label: usize) -> Option<TableRow>
+    ensures { result ≡ table_row (find_from rows6301 (row_label label)) }
 {
     match label {
         8000 => at(fields::NO_8000, SET_LEVEL, ONCE, fields::OF_8000),
@@ -81,13 +82,14 @@ fn find_6301(label: usize) -> usize
         3622 => at(fields::NO_3622, SET_LEVEL, ONCE, fields::OF_3622),
         3623 => at(fields::NO_3623, SET_LEVEL, ONCE, fields::OF_3623),
         3628 => at(fields::NO_3628, SET_LEVEL, ONCE, fields::OF_3628),
-        _ => NOTHING,
+        _ => None,
     }
 }
 
-// The code of a label's row in the table of 6302.
-fn find_6302(label: usize) -> usize
-    ensures { result ≡ code (find_from rows6302 (row_label label)) }
+// A label's row in the table of 6302.
+#[tactic(auto, unfolding(crate::specs::LookUp::find_from, crate::specs::TableRows::table_row, table_fields::specs::LabelNumbers::label_number, table_fields::specs::LabelNumbers::rows_before, meaning::specs::Tables::rows6302, meaning::specs::Tables::row_label, meaning::specs::FieldTable::field_table, meaning::specs::FieldTable::field_row_in))]
+fn find_6302(label: usize) -> Option<TableRow>
+    ensures { result ≡ table_row (find_from rows6302 (row_label label)) }
 {
     match label {
         8000 => at(fields::NO_8000, SET_LEVEL, ONCE, fields::OF_8000),
@@ -115,13 +117,13 @@ fn find_6302(label: usize) -> usize
         3628 => at(fields::NO_3628, SET_LEVEL, ONCE, fields::OF_3628),
         8402 => at(fields::NO_8402, SET_LEVEL, ONCE, fields::OF_8402),
         8410 => at(fields::NO_8410, SET_LEVEL, ONCE, fields::OF_8410),
-        _ => NOTHING,
+        _ => None,
     }
 }
 
 // The two rows of the pairs in the table of 6310: 6330 is printed for all names, 6331 for the odd labels after them.
-fn find_pair(label: usize) -> usize
-    ensures { result ≡ cond (is_pair_label label) (code (find_from rows6310 (row_label label))) 0 }
+fn find_pair(label: usize) -> Option<TableRow>
+    ensures { result ≡ cond (is_pair_label label) (table_row (find_from rows6310 (row_label label))) None }
 {
     if table_fields::is_pair(label) {
         if label % 2 == 0 {
@@ -129,12 +131,13 @@ fn find_pair(label: usize) -> usize
         }
         return at(fields::NO_6331, 6330, ONCE, fields::OF_6331);
     }
-    NOTHING
+    None
 }
 
-// The code of a label's row in the table of 6310.
-fn find_6310(label: usize) -> usize
-    ensures { result ≡ code (find_from rows6310 (row_label label)) }
+// A label's row in the table of 6310.
+#[tactic(auto, unfolding(crate::specs::LookUp::find_from, crate::specs::TableRows::table_row, table_fields::specs::LabelNumbers::label_number, table_fields::specs::LabelNumbers::rows_before, meaning::specs::Tables::rows6310, meaning::specs::Tables::row_label, meaning::specs::FieldTable::field_table, meaning::specs::FieldTable::field_row_in))]
+fn find_6310(label: usize) -> Option<TableRow>
+    ensures { result ≡ table_row (find_from rows6310 (row_label label)) }
 {
     match label {
         8000 => at(fields::NO_8000, SET_LEVEL, ONCE, fields::OF_8000),
@@ -196,9 +199,10 @@ fn find_6310(label: usize) -> usize
     }
 }
 
-// The code of a label's row in the table of 6311.
-fn find_6311(label: usize) -> usize
-    ensures { result ≡ code (find_from rows6311 (row_label label)) }
+// A label's row in the table of 6311.
+#[tactic(auto, unfolding(crate::specs::LookUp::find_from, crate::specs::TableRows::table_row, table_fields::specs::LabelNumbers::label_number, table_fields::specs::LabelNumbers::rows_before, meaning::specs::Tables::rows6311, meaning::specs::Tables::row_label, meaning::specs::FieldTable::field_table, meaning::specs::FieldTable::field_row_in))]
+fn find_6311(label: usize) -> Option<TableRow>
+    ensures { result ≡ table_row (find_from rows6311 (row_label label)) }
 {
     match label {
         8000 => at(fields::NO_8000, SET_LEVEL, ONCE, fields::OF_8000),
@@ -218,13 +222,13 @@ fn find_6311(label: usize) -> usize
         8402 => at(fields::NO_8402, SET_LEVEL, ONCE, fields::OF_8402),
         8432 => at(fields::NO_8432, SET_LEVEL, ONCE, fields::OF_8432),
         8439 => at(fields::NO_8439, SET_LEVEL, ONCE, fields::OF_8439),
-        _ => NOTHING,
+        _ => None,
     }
 }
 
-// The code of a label's row in the table of a set type.
-pub fn find_row(settype: SetType, label: usize) -> usize
-    ensures { result ≡ code (find_from (table settype) (row_label label)) }
+// A label's row in the table of a set type.
+pub fn find_row(settype: SetType, label: usize) -> Option<TableRow>
+    ensures { result ≡ table_row (find_from (table settype) (row_label label)) }
 {
     match settype {
         SetType::T6300 => find_6300(label),
@@ -233,34 +237,4 @@ pub fn find_row(settype: SetType, label: usize) -> usize
         SetType::T6310 => find_6310(label),
         SetType::T6311 => find_6311(label),
     }
-}
-
-// ---- the parts of a code
-
-// Its label's number: how many labels of the field table stand before it.
-pub fn number_of(code: usize) -> usize
-    ensures { result ≡ number_in code }
-{
-    code / FIELDS % NUMBERS
-}
-
-// Its header's label, 0 at set level.
-pub fn under_of(code: usize) -> usize
-    ensures { result ≡ under_in code }
-{
-    code / ABOVE
-}
-
-// Whether it repeats.
-pub fn many_of(code: usize) -> bool
-    ensures { result ≡ many_in code }
-{
-    code / NUMBERED % OCCURRENCES == 1
-}
-
-// The code of its field.
-pub fn field_of(code: usize) -> u16
-    ensures { result ≡ field_in code }
-{
-    (code % FIELDS) as u16
 }

@@ -11,8 +11,6 @@ use lib.Seq.{drop-cons}
 use borrow.Author.Tests.{ne_eqb}
 use Rattle.meaning.specs.Digits.{digit, all_digits}
 use Rattle.meaning.specs.Kinds.{point, minus, decimals, whole, unsigned, is_float}
-use Rattle.table_floats.specs.declared.Float.TheVariants.{Is, Not}
-use Rattle.table_floats.specs.Floats.{float_if, float_of}
 
 -- ---- what is left from an offset on
 
@@ -69,20 +67,3 @@ pub float_plain : (c : List ℕ) → (get_or c 0 0 ≡ minus → ⊥) → is_flo
 unfolding is_float unsigned
 float_plain [] e = refl
 float_plain (b ∷ c) e = rw (ne_eqb b minus e)
-
--- what the answer says of the content
-pub float_is : (c : List ℕ) → float_of c ≡ Is → is_float c ≡ true
-unfolding float_of
-float_is c e = go (is_float c) e
-  where
-    go : (b : Bool) → float_if b ≡ Is → b ≡ true
-    go true e = refl
-    go false e = let z : ◌≡◌ {A = ℕ} 0 1 = cc in absurd (omega arith)
-
-pub float-not : (c : List ℕ) → float_of c ≡ Not → is_float c ≡ false
-unfolding float_of
-float-not c e = go (is_float c) e
-  where
-    go : (b : Bool) → float_if b ≡ Not → b ≡ false
-    go true e = let z : ◌≡◌ {A = ℕ} 0 1 = cc in absurd (omega arith)
-    go false e = refl

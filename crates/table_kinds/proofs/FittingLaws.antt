@@ -1,7 +1,7 @@
 -- What each test of the code says of the definitions: one law for each way that a test can end.
 -- The code goes by offsets and the definitions by lists, so some laws speak of what is left from an offset on.
-use mathlib.Core.Path.{◌≡◌, refl, sym}
-use mathlib.Core.Bool.{Bool, true, false, ◌&&◌}
+use mathlib.Core.Path.{◌≡◌, refl, ◌∙◌}
+use mathlib.Core.Bool.{true, false, ◌&&◌}
 use mathlib.Core.List.{List, [], ◌∷◌}
 use Prim.Native.Nat.{ℕ, ◌+◌, ◌≤◌, ◌<◌}
 use native.Mathlib.Numerals.{add-one}
@@ -11,39 +11,32 @@ use lib.ListN.{length, get_or, drop, drop_of_length-le}
 use lib.Seq.{drop-cons}
 use borrow.Author.Tests.{eq-eqb, ne_eqb}
 use Rattle.meaning.specs.declared.FieldRow.{FieldRow}
+use Rattle.meaning.specs.declared.Kind.TheVariants.{Alnum}
 use Rattle.meaning.specs.Kinds.{same_bytes, is_alnum, of_kind}
-use Rattle.meaning.specs.Tables.{row_label}
-use Rattle.meaning.specs.FieldTable.{field_table, field_row_in, field_row, has_length, fits_row, fits_label}
+use Rattle.meaning.specs.FieldTable.{field_row, has_length, fits_row, fits_label}
 use Rattle.meaning.proofs.Bools.{and_no}
-use Rattle.table_fields.specs.FieldCodes.{kind_of, field_code, kind_in}
-use Rattle.table_fields.proofs.FieldCodeLaws.{Small, row_small, kind-back, code-least, code-most, code-kind}
 use Rattle.table_kinds.specs.Fitting.{length_fits}
 
--- ---- a content and the code of a field row
+-- ---- a content and a row of the field table
 
--- a content fits a row if it has the length and is of the kind that the row's code says
-fits-coded : (x : FieldRow) (c : List ℕ) → Small x → fits_row x c ≡ length_fits (field_code x) (length c) && of_kind (kind_of (kind_in (field_code x))) c
-unfolding length_fits fits_row has_length
-fits-coded x c s = rw (code-least x s, code-most x s, code-kind x s, kind-back x.kind)
-
--- and so for the row of a label
-module _ (field l : ℕ) (c : List ℕ) (e : field ≡ field_code (field_row l)) where
-  pub fits-code : fits_label l c ≡ length_fits field (length c) && of_kind (kind_of (kind_in field)) c
-  unfolding fits_label field_row
-  fits-code = rw e (fits-coded (field_row_in field_table (row_label l)) c (row_small (row_label l)))
+-- the row of a label
+module _ (x : FieldRow) (l : ℕ) (c : List ℕ) (e : x ≡ field_row l) where
+  pub fits-row : fits_label l c ≡ length_fits x (length c) && of_kind x.kind c
+  unfolding fits_label fits_row has_length length_fits
+  fits-row = rw e
 
   -- a length that does not fit
-  pub fits_not : length_fits field (length c) ≡ false → fits_label l c ≡ false
-  fits_not n = rw (fits-code, n)
+  pub fits_not : length_fits x (length c) ≡ false → fits_label l c ≡ false
+  fits_not n = rw (fits-row, n)
 
   -- a length that fits: the kind decides
-  pub fits-kind : length_fits field (length c) ≡ true → (kind : ℕ) (b : Bool) → kind ≡ kind_in field → b ≡ of_kind (kind_of kind) c → fits_label l c ≡ b
-  fits-kind n kind b k q = rw (fits-code, n, ← k) (sym q)
+  pub fits-kind : length_fits x (length c) ≡ true → fits_label l c ≡ of_kind x.kind c
+  fits-kind n = rw (fits-row, n)
 
   -- .. and any bytes are alphanumeric
-  pub fits-any : length_fits field (length c) ≡ true → (kind : ℕ) → kind ≡ kind_in field → kind ≡ 0 → fits_label l c ≡ true
-  unfolding of_kind is_alnum kind_of
-  fits-any n kind k z = fits-kind n kind true k (rw z)
+  pub fits-any : length_fits x (length c) ≡ true → x.kind ≡ Alnum → fits_label l c ≡ true
+  unfolding of_kind is_alnum
+  fits-any n z = fits-kind n ∙ rw z
 
 -- ---- the same bytes
 

@@ -1,8 +1,8 @@
--- The lengths that a row of the field table allows, by the row's code.
--- What they say of a label and its content is said by `fits-code` in proofs/FittingLaws.
+-- The lengths that a row of the field table allows.
+-- What they say of a label and its content is said by `fits-row` in proofs/FittingLaws.
 use Rattle.std.specs.Prelude.{Bool, ◌&&◌, ℕ, leb}
-use Rattle.table_fields.specs.FieldCodes.{least_in, most_in}
+use Rattle.meaning.specs.declared.FieldRow.{FieldRow}
 
--- a content of n bytes has a length that the code allows
-unfoldable pub length_fits : ℕ → ℕ → Bool
-length_fits code n = leb (least_in code) n && leb n (most_in code)
+-- a content of n bytes has a length that the row allows
+unfoldable pub length_fits : FieldRow → ℕ → Bool
+length_fits x n = leb x.least n && leb n x.most

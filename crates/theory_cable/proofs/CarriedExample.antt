@@ -9,14 +9,16 @@ use Rattle.meaning.specs.Computes.{computes}
 use Rattle.meaning.specs.Refusals.{done}
 use Rattle.meaning.proofs.Asking.{text}
 use Rattle.meaning_cable.specs.declared.Link.{Link}
+use Rattle.meaning_cable.specs.declared.Action.{Action}
+use Rattle.meaning_cable.specs.declared.Action.TheVariants.{Nothing, Send, Delivered, GivenUp}
 use Rattle.meaning_cable.specs.declared.Receiver.{Receiver}
-use Rattle.meaning_cable.specs.declared.Sent.{Sent}
-use Rattle.meaning_cable.specs.declared.Sent.TheVariants.{Next}
-use Rattle.meaning_cable.specs.Sending.{ack0, is_ack, action}
+use Rattle.meaning_cable.specs.Sending.{ack0, is_ack}
 use Rattle.meaning_cable.specs.Receiving.{block_faults, ReceiveCall, keeping}
 use Rattle.meaning_cable.specs.CableComputes.{cable_computes}
 use Rattle.theory_cable.specs.Carrying.{Cable, begins, arrives, exchange, exchanges, Fate, heard, unheard, changed, lost, got_by, hears, exchange_by, exchanges_by}
 use Rattle.theory_cable.specs.Transfers.{Ends, leaves, replies, step, steps, clean_steps, starts}
+use Rattle.meaning_cable.specs.CableResults.{Sent}
+use Rattle.std.specs.Prelude.{Ok}
 
 p : List ℕ
 p = text "01380006300\r\n014810000051\r\n014921802.10\r\n01030000\r\n"
@@ -103,21 +105,21 @@ losses-decided = refl
 
 -- ---- the same by the calls' own answers
 
--- the sender's last answer, with what it asks for: what, block, count
-told : Link → ℕ → ℕ → ℕ → Sent
-told k w i c = Next (record { link = k; action = action w i c })
+-- the sender's last answer, with what it asks for
+told : Link → Action → Sent
+told k x = Ok (record { link = k; action = x })
 
-ends_of : Link → ℕ → ℕ → ℕ → ReceiveCall → Ends
-ends_of k w i c g = record { link = k; told = told k w i c; got = g }
+ends_of : Link → Action → ReceiveCall → Ends
+ends_of k x g = record { link = k; told = told k x; got = g }
 
 -- a block is lent 137 bytes, each 7
-transfers-decided : map (λ (φ : List Fate). steps p (replicate 137 7) φ (starts p (record { link = fresh_link; told = told fresh_link 0 0 0; got = fresh_call }))) fates
-    ≡ ends_of (at 1 2 1 1 1 1) 1 1 1 (left 3 1 0 51 all_of) ∷ ends_of (at 1 2 2 0 0 0) 1 0 0 (left 2 1 0 51 all_of) ∷ ends_of (at 1 2 2 1 0 1) 1 1 1 (left 1 0 1 13 first_line)
-    ∷ ends_of (at 2 2 2 1 0 1) 2 0 0 (left 3 1 0 51 all_of) ∷ ends_of (at 3 2 2 1 1 1) 3 0 0 (left 2 1 0 51 all_of) ∷ ends_of (at 2 2 1 1 1 1) 2 0 0 (left 3 1 0 51 all_of) ∷ []
+transfers-decided : map (λ (φ : List Fate). steps p (replicate 137 7) φ (starts p (record { link = fresh_link; told = told fresh_link Nothing; got = fresh_call }))) fates
+    ≡ ends_of (at 1 2 1 1 1 1) (Send 1 1) (left 3 1 0 51 all_of) ∷ ends_of (at 1 2 2 0 0 0) (Send 0 0) (left 2 1 0 51 all_of) ∷ ends_of (at 1 2 2 1 0 1) (Send 1 1) (left 1 0 1 13 first_line)
+    ∷ ends_of (at 2 2 2 1 0 1) Delivered (left 3 1 0 51 all_of) ∷ ends_of (at 3 2 2 1 1 1) GivenUp (left 2 1 0 51 all_of) ∷ ends_of (at 2 2 1 1 1 1) Delivered (left 3 1 0 51 all_of) ∷ []
 unfolding computes cable_computes starts leaves replies step steps p fresh_link fresh_receiver fresh_call at left all_of u l short fates first_line told ends_of
 transfers-decided = refl
 
-clean-decided : clean_steps p (replicate 137 7) 2 (starts p (record { link = fresh_link; told = told fresh_link 0 0 0; got = fresh_call }))
-    ≡ ends_of (at 2 2 1 1 0 1) 2 0 0 (left 3 1 0 51 all_of)
+clean-decided : clean_steps p (replicate 137 7) 2 (starts p (record { link = fresh_link; told = told fresh_link Nothing; got = fresh_call }))
+    ≡ ends_of (at 2 2 1 1 0 1) Delivered (left 3 1 0 51 all_of)
 unfolding computes cable_computes starts leaves replies step clean_steps p fresh_link fresh_receiver fresh_call at left all_of told ends_of
 clean-decided = refl

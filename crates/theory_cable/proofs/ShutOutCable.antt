@@ -15,8 +15,6 @@ use lib.Seq.{take_at, take-add, take_all}
 use lib.Dec.{leb, eqb}
 use borrow.Author.Tests.{leb-true, leb-false, le-leb, eqb-true, eqb-false, ne_eqb}
 use Rattle.meaning.specs.declared.Refusal.{Refusal}
-use Rattle.meaning.specs.declared.Made.{Made}
-use Rattle.meaning.specs.declared.Made.TheVariants.{Done as MadeDone, Refused}
 use Rattle.meaning.specs.Field.{Field}
 use Rattle.meaning.specs.Refusals.{Fault, at_line, ask, Reply, refused, done, refusal, bad_block, bad_crc}
 use Rattle.meaning.specs.Pieces.{parsed}
@@ -34,15 +32,14 @@ use Rattle.meaning.proofs.NumberLaws.{Numbered, OneOf}
 use Rattle.meaning.proofs.SetLaws.{accepted}
 use Rattle.meaning_cable.specs.declared.Link.{Link}
 use Rattle.meaning_cable.specs.declared.Action.{Action}
+use Rattle.meaning_cable.specs.declared.Action.TheVariants.{Nothing, Delivered, GivenUp}
 use Rattle.meaning_cable.specs.declared.Turned.{Turned}
-use Rattle.meaning_cable.specs.declared.Sent.{Sent}
-use Rattle.meaning_cable.specs.declared.Sent.TheVariants.{Next, Refused as RefusedSet}
 use Rattle.meaning_cable.specs.declared.Receiver.{Receiver}
 use Rattle.meaning_cable.specs.Crc.{crc, crc_from}
 use Rattle.meaning_cable.specs.Stream.{bare_then, stream, restored, all_data}
-use Rattle.meaning_cable.specs.Blocks.{through_first, block_count, cut_at, block_data, joined, b00, block_label, hex_digits, block_front, block_bytes, set_alone, blocks_of, block}
-use Rattle.meaning_cable.specs.Sending.{under_way, delivered, given_up, ack1, ack0, is_ack, action, sends, end_of, Begins, Follows, taken, last_taken, again, afresh as begin-again, over, ended}
-use Rattle.meaning_cable.specs.Sending.{to_send, begun, turn_of, send, link_left, after, Ended}
+use Rattle.meaning_cable.specs.Blocks.{through_first, block_count, cut_at, block_data, joined, block_label, hex_digits, block_front, block_bytes, set_alone, blocks_of, block}
+use Rattle.meaning_cable.specs.Sending.{under_way, delivered, given_up, ack1, ack0, is_ack, sends, end_of, Begins, Follows, taken, last_taken, again, afresh as begin-again, over, ended}
+use Rattle.meaning_cable.specs.Sending.{what_number, to_send, block_number, count_number, begun, turn_of, send, link_left, after, Ended}
 use Rattle.meaning_cable.specs.Receiving.{max_block, count_of, label_of, data_of, form_ok, crc_ok, block_faults, ReceiveCall, is_taken}
 use Rattle.meaning_cable.specs.Receiving.{is_again, is_whole, ack_of, keeping, refusing, took_one, open_by}
 use Rattle.meaning_cable.specs.Receiving.{TakenAt, afresh, goes-on, ends, next-set, Takes, bad-form, bad-crc, zero-other, last-again, label-in-set, label-no-set, other-count, fitted, no-room}
@@ -71,6 +68,9 @@ use Rattle.theory_cable.specs.CableBreaches.{SendRefused}
 use Rattle.theory_cable.proofs.SendExact.{alone-refused-with, send-refused-with, begin-refused-with, block-refused-with}
 use Rattle.theory_cable.proofs.FormExact.{form-exactly}
 use Rattle.theory_cable.proofs.CutExact.{full-blocks, short-blocks}
+use Rattle.meaning.specs.Results.{Made}
+use Rattle.meaning_cable.specs.CableResults.{Sent}
+use Rattle.std.specs.Prelude.{Err, Ok}
 
 -- ---- the inputs
 
@@ -349,20 +349,22 @@ stays-over-met-by-idle a s rs e = after-left (idle_sender a) (λ s b x. refl) s 
 
 -- over-told: the same given
 abbrev SaysOverTold : Turner → Type 0
-SaysOverTold T = (s : Link) (r : List ℕ) → Ended s → (T s r).action ≡ action s.phase 0 0
+SaysOverTold T = (s : Link) (r : List ℕ) → Ended s
+    → (what_number (T s r).action ≡ s.phase) × (block_number (T s r).action ≡ 0) × (count_number (T s r).action ≡ 0)
 
 over-told-says : SaysOverTold turn_of
 over-told-says = over-told
 
 over-told-not-same : (t : Turned) → SaysOverTold (λ s r. t) → ⊥
 over-told-not-same t h =
-    let e = sym (h (at 2 0 0 0 0 0) [] (inl refl)) ∙ h (at 3 0 0 0 0 0) [] (inr refl) in
-    let z : ◌≡◌ {A = ℕ} 2 3 = ap (λ (x : Action). x.what) e in
+    let z : ◌≡◌ {A = ℕ} 2 3 = sym (h (at 2 0 0 0 0 0) [] (inl refl)).0 ∙ (h (at 3 0 0 0 0 0) [] (inr refl)).0 in
     omega arith
 
 -- One that never moves the link and answers its phase meets it. Shut out by `turn-follows`.
-over-told-met-by-idle : SaysOverTold (λ s r. record { link = s; action = action s.phase 0 0 })
-over-told-met-by-idle s r e = refl
+over-told-met-by-idle : SaysOverTold (λ s r. record { link = s; action = end_of s })
+unfolding end_of
+over-told-met-by-idle s r (inl e) = rw e (refl, refl, refl)
+over-told-met-by-idle s r (inr e) = rw e (refl, refl, refl)
 
 -- ---- the data of a set
 
@@ -1484,7 +1486,7 @@ BlockCaller = List ℕ → ℕ → ℕ → List ℕ → Call ℕ
 -- Transfers of any three calls
 module _ (C : Caller) (B : BlockCaller) (R : Taker) (s out : List ℕ) where
   abbrev on_line_of : Action → List ℕ
-  on_line_of x = take (made_count (B s x.block x.count out).answer) (B s x.block x.count out).buffer
+  on_line_of x = take (made_count (B s (block_number x) (count_number x) out).answer) (B s (block_number x) (count_number x) out).buffer
 
   abbrev leaves_of : Fate → Ends → ReceiveCall
   leaves_of heard w = R w.got.state w.got.buffer (on_line_of (asked w.told))
@@ -1502,7 +1504,7 @@ module _ (C : Caller) (B : BlockCaller) (R : Taker) (s out : List ℕ) where
   moved_of f w = record { link = (C w.link false (replies_of f w)).link; told = (C w.link false (replies_of f w)).answer; got = leaves_of f w }
 
   abbrev step_of : Fate → Ends → Ends
-  step_of f w = cond (eqb (asked w.told).what to_send) (moved_of f w) w
+  step_of f w = cond (eqb (what_number (asked w.told)) to_send) (moved_of f w) w
 
   abbrev steps_of : List Fate → Ends → Ends
   steps_of [] w = w
@@ -1545,24 +1547,24 @@ abbrev SaysTransferCarried : Caller → BlockCaller → Taker → Type 0
 SaysTransferCarried C B R =
     (s : List ℕ) (fs : List Field) → read s ≡ done (parsed fs []) → (w : Ends) (out : List ℕ) → Agree w.link w.got.state → length s ≤ length w.got.buffer
     → Arrived s w.got.buffer (cable_of (clean_steps_of C B R s out (block_count (stream fs)) (starts_of C s w)))
-    × ((asked (clean_steps_of C B R s out (block_count (stream fs)) (starts_of C s w)).told).what ≡ delivered)
+    × ((what_number (asked (clean_steps_of C B R s out (block_count (stream fs)) (starts_of C s w)).told)) ≡ delivered)
     × ((clean_steps_of C B R s out (block_count (stream fs)) (starts_of C s w)).got.answer ≡ done is_whole)
 
 transfer-carried-says : SaysTransferCarried send_call block_call receive
 transfer-carried-says s fs e w out agree room =
-    subst (λ (v : Ends). Arrived s w.got.buffer (cable_of v) × ((asked v.told).what ≡ delivered) × (v.got.answer ≡ done is_whole))
+    subst (λ (v : Ends). Arrived s w.got.buffer (cable_of v) × ((what_number (asked v.told)) ≡ delivered) × (v.got.answer ≡ done is_whole))
     (sym (clean-from s out (block_count (stream fs)) w)) (transfer-carried s fs e w out agree room)
 
 -- transfer-arrived: the same given but the room, whatever becomes of each exchange, and that the sender's last answer is delivered
 abbrev SaysTransferArrived : Caller → BlockCaller → Taker → Type 0
 SaysTransferArrived C B R =
     (s : List ℕ) (fs : List Field) → read s ≡ done (parsed fs []) → (w : Ends) (out : List ℕ) → Agree w.link w.got.state → (φ : List Fate)
-    → (asked (steps_of C B R s out φ (starts_of C s w)).told).what ≡ delivered → Arrived s w.got.buffer (cable_of (steps_of C B R s out φ (starts_of C s w)))
+    → (what_number (asked (steps_of C B R s out φ (starts_of C s w)).told)) ≡ delivered → Arrived s w.got.buffer (cable_of (steps_of C B R s out φ (starts_of C s w)))
 
 transfer-arrived-says : SaysTransferArrived send_call block_call receive
 transfer-arrived-says s fs e w out agree φ h =
     subst (λ (v : Ends). Arrived s w.got.buffer (cable_of v)) (sym (steps-from s out φ w))
-    (transfer-arrived s fs e w out agree φ (ap (λ (v : Ends). (asked v.told).what) (sym (steps-from s out φ w)) ∙ h))
+    (transfer-arrived s fs e w out agree φ (ap (λ (v : Ends). (what_number (asked v.told))) (sym (steps-from s out φ w)) ∙ h))
 
 -- transfer-ends: the same given, and four exchanges a block
 abbrev SaysTransferEnds : Caller → BlockCaller → Taker → Type 0
@@ -1576,7 +1578,7 @@ transfer-ends-says s fs e w out agree φ h =
 
 -- both ends fresh
 abbrev ends_at_start : Ends
-ends_at_start = record { link = fresh_link; told = Next (record { link = fresh_link; action = action 0 0 0 }); got = keeping fresh_receiver sixty (done 0) }
+ends_at_start = record { link = fresh_link; told = Ok (record { link = fresh_link; action = Nothing }); got = keeping fresh_receiver sixty (done 0) }
 
 -- what it asks of P, and of the other set
 transfer-p : (C : Caller) (B : BlockCaller) (R : Taker) → SaysTransferCarried C B R → (out : List ℕ)
@@ -1596,7 +1598,7 @@ idle_call a l b x = record { answer = a l b x; link = l }
 module _ (a : Link → Bool → List ℕ → Sent) (B : BlockCaller) (R : Taker) where
   clean-left : (s out : List ℕ) (n : ℕ) (w : Ends) → (clean_steps_of (idle_call a) B R s out n w).link ≡ w.link
   clean-left s out zero w = refl
-  clean-left s out (suc n) w = go (eqb (asked (clean_steps_of (idle_call a) B R s out n w).told).what to_send) ∙ clean-left s out n w
+  clean-left s out (suc n) w = go (eqb (what_number (asked (clean_steps_of (idle_call a) B R s out n w).told)) to_send) ∙ clean-left s out n w
     where
       go : (t : Bool) → (cond t (moved_of (idle_call a) B R s out heard (clean_steps_of (idle_call a) B R s out n w)) (clean_steps_of (idle_call a) B R s out n w)).link
           ≡ (clean_steps_of (idle_call a) B R s out n w).link
@@ -1605,7 +1607,7 @@ module _ (a : Link → Bool → List ℕ → Sent) (B : BlockCaller) (R : Taker)
 
   steps-left : (s out : List ℕ) (φ : List Fate) (w : Ends) → (steps_of (idle_call a) B R s out φ w).link ≡ w.link
   steps-left s out [] w = refl
-  steps-left s out (f ∷ φ) w = steps-left s out φ (step_of (idle_call a) B R s out f w) ∙ go (eqb (asked w.told).what to_send)
+  steps-left s out (f ∷ φ) w = steps-left s out φ (step_of (idle_call a) B R s out f w) ∙ go (eqb (what_number (asked w.told)) to_send)
     where
       go : (t : Bool) → (cond t (moved_of (idle_call a) B R s out f w) w).link ≡ w.link
       go true = refl
@@ -1629,28 +1631,28 @@ module _ (a : Link → Bool → List ℕ → Sent) (B : BlockCaller) (R : Taker)
 
 module _ (r : Link → Bool → List ℕ → Refusal) (B : BlockCaller) (R : Taker) where
   abbrev refusing_call : Caller
-  refusing_call = idle_call (λ l b x. RefusedSet (r l b x))
+  refusing_call = idle_call (λ l b x. Err (r l b x))
 
   transfer-carried-not-refusing-send : SaysTransferCarried refusing_call B R → ⊥
-  transfer-carried-not-refusing-send = transfer-carried-not-idle-send (λ l b x. RefusedSet (r l b x)) B R
+  transfer-carried-not-refusing-send = transfer-carried-not-idle-send (λ l b x. Err (r l b x)) B R
 
   transfer-ends-not-refusing-send : SaysTransferEnds refusing_call B R → ⊥
-  transfer-ends-not-refusing-send = transfer-ends-not-idle-send (λ l b x. RefusedSet (r l b x)) B R
+  transfer-ends-not-refusing-send = transfer-ends-not-idle-send (λ l b x. Err (r l b x)) B R
 
   -- It never answers delivered. Shut out by `transfer-carried`.
   transfer-arrived-met-by-refusing-send : SaysTransferArrived refusing_call B R
   transfer-arrived-met-by-refusing-send s fs e w out agree φ h = let z : ◌≡◌ {A = ℕ} 0 2 = sym (asks_none φ (starts_of refusing_call s w) refl) ∙ h in absurd (omega arith)
     where
-      asks_none : (ψ : List Fate) (v : Ends) → (asked v.told).what ≡ 0 → (asked (steps_of refusing_call B R s out ψ v).told).what ≡ 0
+      asks_none : (ψ : List Fate) (v : Ends) → (what_number (asked v.told)) ≡ 0 → (what_number (asked (steps_of refusing_call B R s out ψ v).told)) ≡ 0
       asks_none [] v n = n
-      asks_none (f ∷ ψ) v n = asks_none ψ (step_of refusing_call B R s out f v) (go (eqb (asked v.told).what to_send))
+      asks_none (f ∷ ψ) v n = asks_none ψ (step_of refusing_call B R s out f v) (go (eqb (what_number (asked v.told)) to_send))
         where
-          go : (t : Bool) → (asked (cond t (moved_of refusing_call B R s out f v) v).told).what ≡ 0
+          go : (t : Bool) → (what_number (asked (cond t (moved_of refusing_call B R s out f v) v).told)) ≡ 0
           go true = refl
           go false = n
 
 -- whoever says delivered at once has delivered nothing
-transfer-arrived-not-boasting : (C : Caller) (B : BlockCaller) (R : Taker) → (asked (C fresh_link true p).answer).what ≡ delivered → SaysTransferArrived C B R → ⊥
+transfer-arrived-not-boasting : (C : Caller) (B : BlockCaller) (R : Taker) → (what_number (asked (C fresh_link true p).answer)) ≡ delivered → SaysTransferArrived C B R → ⊥
 transfer-arrived-not-boasting C B R d h = not-sixty _ (h p p_lines read-p ends_at_start [] start-agrees [] d).buffer-is
 
 -- the sender's call does always the same
@@ -1660,7 +1662,7 @@ module _ (c : SendCall) (B : BlockCaller) (R : Taker) where
 
   clean-told : (s out : List ℕ) (w : Ends) → w.told ≡ c.answer → (n : ℕ) → (clean_steps_of same_call B R s out n w).told ≡ c.answer
   clean-told s out w e zero = e
-  clean-told s out w e (suc n) = go (clean_steps_of same_call B R s out n w) (clean-told s out w e n) (eqb (asked (clean_steps_of same_call B R s out n w).told).what to_send)
+  clean-told s out w e (suc n) = go (clean_steps_of same_call B R s out n w) (clean-told s out w e n) (eqb (what_number (asked (clean_steps_of same_call B R s out n w).told)) to_send)
     where
       go : (v : Ends) → v.told ≡ c.answer → (t : Bool) → (cond t (moved_of same_call B R s out heard v) v).told ≡ c.answer
       go v m true = refl
@@ -1670,7 +1672,7 @@ module _ (c : SendCall) (B : BlockCaller) (R : Taker) where
       → ((steps_of same_call B R s out φ w).told ≡ c.answer) × ((steps_of same_call B R s out φ w).link ≡ c.link)
   steps-same s out [] w e l = (e, l)
   steps-same s out (f ∷ φ) w e l =
-      let t : Bool = eqb (asked w.told).what to_send in steps-same s out φ (step_of same_call B R s out f w) (told-go t) (link-go t)
+      let t : Bool = eqb (what_number (asked w.told)) to_send in steps-same s out φ (step_of same_call B R s out f w) (told-go t) (link-go t)
     where
       told-go : (t : Bool) → (cond t (moved_of same_call B R s out f w) w).told ≡ c.answer
       told-go true = refl
@@ -1681,9 +1683,9 @@ module _ (c : SendCall) (B : BlockCaller) (R : Taker) where
       link-go false = l
 
   -- One that never answers delivered, or always gives up: shut out by `transfer-carried`.
-  transfer-arrived-met-by-same-send : (asked c.answer).what ≢ delivered → SaysTransferArrived same_call B R
+  transfer-arrived-met-by-same-send : (what_number (asked c.answer)) ≢ delivered → SaysTransferArrived same_call B R
   transfer-arrived-met-by-same-send n s fs e w out agree φ h =
-      absurd (n (sym (ap (λ (y : Sent). (asked y).what) (steps-same s out φ (starts_of same_call s w) refl refl).0) ∙ h))
+      absurd (n (sym (ap (λ (y : Sent). (what_number (asked y))) (steps-same s out φ (starts_of same_call s w) refl refl).0) ∙ h))
 
   transfer-ends-met-by-same-send : c.link.phase ≡ given_up → SaysTransferEnds same_call B R
   transfer-ends-met-by-same-send g s fs e w out agree φ h = inr (ap (λ (l : Link). l.phase) (steps-same s out φ (starts_of same_call s w) refl refl).1 ∙ g)
@@ -1694,7 +1696,7 @@ module _ (C : Caller) (B : BlockCaller) (s out b : List ℕ) (w : Ends) where
       → Stuck b (clean_steps_of C B receive s out n w).got.state
   clean-stuck all k zero = k
   clean-stuck all k (suc n) =
-      go (clean_steps_of C B receive s out n w) (all n) (clean-stuck all k n) (eqb (asked (clean_steps_of C B receive s out n w).told).what to_send)
+      go (clean_steps_of C B receive s out n w) (all n) (clean-stuck all k n) (eqb (what_number (asked (clean_steps_of C B receive s out n w).told)) to_send)
     where
       go : (v : Ends) → on_line_of C B receive s out (asked v.told) ≡ b → Stuck b v.got.state → (t : Bool)
           → Stuck b (cond t (moved_of C B receive s out heard v) v).got.state
@@ -1715,8 +1717,8 @@ transfer-carried-not-same-send c B =
 transfer-carried-not-same-block : (C : Caller) (c : Call ℕ) → SaysTransferCarried C (λ s i k out. c) receive → ⊥
 transfer-carried-not-same-block C c = transfer-not-stuck C (λ s i k out. c) [] (take (made_count c.answer) c.buffer) (λ i. refl)
 
-transfer-carried-not-refusing-block : (C : Caller) (r : List ℕ → ℕ → ℕ → List ℕ → Refusal) → SaysTransferCarried C (λ s i k out. record { answer = Refused (r s i k out); buffer = out }) receive → ⊥
-transfer-carried-not-refusing-block C r = transfer-not-stuck C (λ s i k out. record { answer = Refused (r s i k out); buffer = out }) [] [] (λ i. refl)
+transfer-carried-not-refusing-block : (C : Caller) (r : List ℕ → ℕ → ℕ → List ℕ → Refusal) → SaysTransferCarried C (λ s i k out. record { answer = Err (r s i k out); buffer = out }) receive → ⊥
+transfer-carried-not-refusing-block C r = transfer-not-stuck C (λ s i k out. record { answer = Err (r s i k out); buffer = out }) [] [] (λ i. refl)
 
 -- nor one that leaves what is lent for the block as it was, whatever it answers
 take_none : (n : ℕ) → ◌≡◌ {A = List ℕ} (take n []) []
@@ -1731,13 +1733,13 @@ transfer-carried-not-idle-block C a =
     transfer-not-stuck C (idle_block a) [] [] (λ i. none (asked (clean_steps_of C (idle_block a) receive p [] i (starts_of C p ends_at_start)).told))
   where
     none : (x : Action) → on_line_of C (idle_block a) receive p [] x ≡ []
-    none x = take_none (made_count (a p x.block x.count []))
+    none x = take_none (made_count (a p (block_number x) (count_number x) []))
 
 -- a receiver that leaves its buffer as it was, whatever it answers
 module _ (C : Caller) (B : BlockCaller) (a : Receiver → List ℕ → List ℕ → Reply ℕ) where
   clean-kept : (s out : List ℕ) (n : ℕ) (w : Ends) → (clean_steps_of C B (idle_taker a) s out n w).got.buffer ≡ w.got.buffer
   clean-kept s out zero w = refl
-  clean-kept s out (suc n) w = go (eqb (asked (clean_steps_of C B (idle_taker a) s out n w).told).what to_send) ∙ clean-kept s out n w
+  clean-kept s out (suc n) w = go (eqb (what_number (asked (clean_steps_of C B (idle_taker a) s out n w).told)) to_send) ∙ clean-kept s out n w
     where
       go : (t : Bool) → (cond t (moved_of C B (idle_taker a) s out heard (clean_steps_of C B (idle_taker a) s out n w)) (clean_steps_of C B (idle_taker a) s out n w)).got.buffer
           ≡ (clean_steps_of C B (idle_taker a) s out n w).got.buffer
@@ -1756,7 +1758,7 @@ module _ (C : Caller) (B : BlockCaller) (c : ReceiveCall) where
       → ((clean_steps_of C B (λ st buf b. c) s out n w).got ≡ w.got) ⊎ ((clean_steps_of C B (λ st buf b. c) s out n w).got ≡ c)
   clean-got s out zero w = inl refl
   clean-got s out (suc n) w =
-      go (clean_steps_of C B (λ st buf b. c) s out n w) (clean-got s out n w) (eqb (asked (clean_steps_of C B (λ st buf b. c) s out n w).told).what to_send)
+      go (clean_steps_of C B (λ st buf b. c) s out n w) (clean-got s out n w) (eqb (what_number (asked (clean_steps_of C B (λ st buf b. c) s out n w).told)) to_send)
     where
       go : (v : Ends) → (v.got ≡ w.got) ⊎ (v.got ≡ c) → (t : Bool)
           → ((cond t (moved_of C B (λ st buf b. c) s out heard v) v).got ≡ w.got) ⊎ ((cond t (moved_of C B (λ st buf b. c) s out heard v) v).got ≡ c)
@@ -1836,7 +1838,7 @@ received-length st buf b = go (receive-outcome st buf b)
 module _ (B : BlockCaller) where
   steps-length : (s out : List ℕ) (φ : List Fate) (w : Ends) → length (steps_of send_call B always_ack s out φ w).got.buffer ≡ length w.got.buffer
   steps-length s out [] w = refl
-  steps-length s out (f ∷ φ) w = steps-length s out φ (step_of send_call B always_ack s out f w) ∙ go (eqb (asked w.told).what to_send) f
+  steps-length s out (f ∷ φ) w = steps-length s out φ (step_of send_call B always_ack s out f w) ∙ go (eqb (what_number (asked w.told)) to_send) f
     where
       go : (t : Bool) (g : Fate) → length (cond t (moved_of send_call B always_ack s out g w) w).got.buffer ≡ length w.got.buffer
       go true heard = received-length w.got.state w.got.buffer (on_line_of send_call B always_ack s out (asked w.told))
@@ -1847,7 +1849,7 @@ module _ (B : BlockCaller) where
 
   -- both ends fresh, and no room at all
   abbrev ends_without_room : Ends
-  ends_without_room = record { link = fresh_link; told = Next (record { link = fresh_link; action = action 0 0 0 }); got = keeping fresh_receiver [] (done 0) }
+  ends_without_room = record { link = fresh_link; told = Ok (record { link = fresh_link; action = Nothing }); got = keeping fresh_receiver [] (done 0) }
 
   transfer-arrived-not-always-ack : SaysTransferArrived send_call B always_ack → ⊥
   unfolding computes cable_computes p
@@ -1874,26 +1876,26 @@ row_now (begin-again q a h k) = refl
 row_now (over q a h k) = refl
 row_now {s} (ended q) = rw (ne_eqb s.phase under_way q)
 
-reply-now : (l : Link) (r : List ℕ) → (send_call l false r).answer ≡ Next (record { link = (send_call l false r).link; action = action_now (send_call l false r).link })
+reply-now : (l : Link) (r : List ℕ) → (send_call l false r).answer ≡ Ok (record { link = (send_call l false r).link; action = action_now (send_call l false r).link })
 unfolding send
-reply-now l r = ap (λ (x : Action). Next (record { link = (turn_of l r).link; action = x })) (row_now (turn-follows l r))
+reply-now l r = ap (λ (x : Action). Ok (record { link = (turn_of l r).link; action = x })) (row_now (turn-follows l r))
 
 -- an end asks for no block, and says delivered for a delivered set alone
-end-asks : (l : Link) → eqb (end_of l).what to_send ≡ false
+end-asks : (l : Link) → eqb (what_number (end_of l)) to_send ≡ false
 unfolding end_of
 end-asks l = go (eqb l.phase delivered) (eqb l.phase given_up)
   where
-    go : (a b : Bool) → eqb (cond a (action delivered 0 0) (cond b (action given_up 0 0) (action 0 0 0))).what to_send ≡ false
+    go : (a b : Bool) → eqb (what_number (cond a Delivered (cond b GivenUp Nothing))) to_send ≡ false
     go true b = refl
     go false true = refl
     go false false = refl
 
-now-delivered : (l : Link) → (action_now l).what ≡ delivered → l.phase ≡ delivered
+now-delivered : (l : Link) → (what_number (action_now l)) ≡ delivered → l.phase ≡ delivered
 unfolding end_of
 now-delivered l e = go (eqb l.phase under_way) (eqb l.phase delivered) (eqb l.phase given_up) refl e
   where
     go : (a b c : Bool) → eqb l.phase delivered ≡ b
-        → (cond a (sends l) (cond b (action delivered 0 0) (cond c (action given_up 0 0) (action 0 0 0)))).what ≡ delivered → l.phase ≡ delivered
+        → (what_number (cond a (sends l) (cond b Delivered (cond c GivenUp Nothing)))) ≡ delivered → l.phase ≡ delivered
     go true b c u h = absurd (omega arith)
     go false true c u h = eqb-true l.phase delivered u
     go false false true u h = absurd (omega arith)
@@ -1932,7 +1934,7 @@ module _ (B : BlockCaller) (R : Taker) (s out : List ℕ) where
         go : (b : Bool) → eqb w.link.phase under_way ≡ b
             → (cable_of (step_of send_call B R s out f w) ≡ exchange_by_of send line_of R s f (cable_of w)) × Told (step_of send_call B R s out f w)
         go true u =
-            let asks : eqb (asked w.told).what to_send ≡ true = ap (λ (x : Action). eqb x.what to_send) (asks-block u) in
+            let asks : eqb (what_number (asked w.told)) to_send ≡ true = ap (λ (x : Action). eqb (what_number x) to_send) (asks-block u) in
             let moves : step_of send_call B R s out f w ≡ moved_of send_call B R s out f w = ap (λ (b : Bool). cond b (moved_of send_call B R s out f w) w) asks in
             let there : exchange_by_of send line_of R s f (cable_of w) ≡ exchanged f =
             ap (λ (b : Bool). cond b (exchanged f) (cable_of w)) u in (
@@ -1940,7 +1942,7 @@ module _ (B : BlockCaller) (R : Taker) (s out : List ℕ) where
               subst Told (sym moves) (reply-now w.link (replies_of send_call B R s out f w)),
             )
         go false u =
-            let asks : eqb (asked w.told).what to_send ≡ false = ap (λ (x : Action). eqb x.what to_send) (asks-end u) ∙ end-asks w.link in
+            let asks : eqb (what_number (asked w.told)) to_send ≡ false = ap (λ (x : Action). eqb (what_number x) to_send) (asks-end u) ∙ end-asks w.link in
             let stays : step_of send_call B R s out f w ≡ w = ap (λ (b : Bool). cond b (moved_of send_call B R s out f w) w) asks in
             let there : exchange_by_of send line_of R s f (cable_of w) ≡ cable_of w =
             ap (λ (b : Bool). cond b (exchanged f) (cable_of w)) u in
@@ -1964,7 +1966,7 @@ module _ (B : BlockCaller) (R : Taker) (silent : (s out : List ℕ) (f : Fate) (
   transfer-arrived-met-by-silent s fs e w out agree φ h =
       let all = steps-so B R s out φ (starts_of send_call s w) (starts-told B R s out fs e w) in
       let d : (steps_of send_call B R s out φ (starts_of send_call s w)).link.phase ≡ delivered =
-      now-delivered (steps_of send_call B R s out φ (starts_of send_call s w)).link (sym (ap (λ (y : Sent). (asked y).what) all.1) ∙ h) in
+      now-delivered (steps_of send_call B R s out φ (starts_of send_call s w)).link (sym (ap (λ (y : Sent). (what_number (asked y))) all.1) ∙ h) in
       absurd (silent-not (line_of B R s out) R s (silent s out) fs e (cable_of w) φ (ap (λ (c : Cable). c.link.phase) (sym all.0) ∙ d))
 
   transfer-ends-met-by-silent : SaysTransferEnds send_call B R
@@ -1982,7 +1984,7 @@ module _ (B : BlockCaller) (r : Receiver → List ℕ → List ℕ → Refusal) 
 
 module _ (r : List ℕ → ℕ → ℕ → List ℕ → Refusal) where
   abbrev refusing_block : BlockCaller
-  refusing_block s i c out = record { answer = Refused (r s i c out); buffer = out }
+  refusing_block s i c out = record { answer = Err (r s i c out); buffer = out }
 
   block-silent : (s out : List ℕ) (f : Fate) (w : Cable) → is_ack (hears_of send (line_of refusing_block receive s out) receive s f w) ≡ false
   block-silent s out heard w = ap (λ (c : ReceiveCall). is_ack (ack_of c.answer)) (none-refused w.got.state w.got.buffer) ∙ ack0-other
@@ -2024,7 +2026,7 @@ agree-again-not-same-block h = go (h p p_lines read-p at_start start-agrees (hea
 
 -- and an idle one that answers that all of what is lent to it is the block
 abbrev as_lent : BlockCaller
-as_lent s i c out = record { answer = MadeDone (length out); buffer = out }
+as_lent s i c out = record { answer = Ok (length out); buffer = out }
 
 transfer-arrived-not-idle-block : SaysTransferArrived send_call as_lent receive → ⊥
 unfolding computes cable_computes p sixty first_block

@@ -2,14 +2,14 @@
 -- (`transfer-arrived`, `transfer-ends`).
 use mathlib.Core.Path.{◌≡◌, refl, sym, ap, ◌∙◌, subst}
 use mathlib.Core.Bool.{Bool, true, false, cond}
-use mathlib.Core.List.{List, [], ◌∷◌, ◌++◌}
-use mathlib.Core.Logic.{◌⊎◌, inl, inr, ◌≢◌}
+use mathlib.Core.List.{List, [], ◌∷◌}
+use mathlib.Core.Logic.{◌⊎◌, inl, inr}
 use Prim.Native.Nat.{ℕ, zero, suc, ◌-◌, ◌*◌, ◌≤◌, ◌<◌}
 use native.Mathlib.Omega.{arith}
 use lib.Dec.{eqb}
 use lib.ListN.{length, take, replicate}
 use lib.Seq.{take_at}
-use borrow.Author.Tests.{eq-eqb, ne_eqb, eqb-true, eqb-false}
+use borrow.Author.Tests.{eq-eqb, ne_eqb, eqb-true}
 use Rattle.meaning.specs.Field.{Field}
 use Rattle.meaning.specs.Refusals.{Reply, refused, done}
 use Rattle.meaning.specs.Answers.{made, made_count, bytes_left}
@@ -17,23 +17,25 @@ use Rattle.meaning.specs.Pieces.{parsed}
 use Rattle.meaning.specs.Reading.{read}
 use Rattle.meaning_cable.specs.declared.Link.{Link}
 use Rattle.meaning_cable.specs.declared.Action.{Action}
-use Rattle.meaning_cable.specs.declared.Sent.{Sent}
-use Rattle.meaning_cable.specs.declared.Sent.TheVariants.{Next}
+use Rattle.meaning_cable.specs.declared.Action.TheVariants.{Nothing, Send, Delivered, GivenUp}
 use Rattle.meaning_cable.specs.Stream.{stream}
 use Rattle.meaning_cable.specs.Blocks.{block_count, block, blocks_of}
-use Rattle.meaning_cable.specs.Sending.{under_way, delivered, given_up, to_send, action, sends, end_of, Follows, taken, last_taken, again, afresh, over, ended, first_count, opened, begun, turn_of}
-use Rattle.meaning_cable.specs.Sending.{send, link_left}
-use Rattle.meaning_cable.specs.Receiving.{ReceiveCall, is_whole, receive}
-use Rattle.meaning_cable.specs.CableCalls.{sent, send_call, asked, block_call}
+use Rattle.meaning_cable.specs.Sending.{what_number}
+use Rattle.meaning_cable.specs.Sending.{under_way, delivered, given_up, to_send, sends, end_of, Follows, taken, last_taken, again, afresh, over, ended, begun, turn_of}
+use Rattle.meaning_cable.specs.Sending.{send}
+use Rattle.meaning_cable.specs.Receiving.{is_whole, receive}
+use Rattle.meaning_cable.specs.CableCalls.{send_call, asked}
 use Rattle.meaning_cable.proofs.OneSetLaws.{set-alone}
 use Rattle.meaning_cable.proofs.SendingLaws.{turn-follows}
 use Rattle.meaning_cable.proofs.ReceivingLaws.{ack-told}
-use Rattle.theory_cable.specs.Carrying.{Cable, bytes_or, begins, arrives, exchange, exchanges, Agree, Arrived, UnderWay, Fate, heard, unheard, changed, lost, got_by, hears, exchange_by}
+use Rattle.theory_cable.specs.Carrying.{Cable, bytes_or, begins, arrives, exchange, exchanges, Agree, Arrived, Fate, heard, unheard, changed, lost, got_by, hears, exchange_by}
 use Rattle.theory_cable.specs.Carrying.{exchanges_by}
 use Rattle.theory_cable.specs.Transfers.{Ends, on_line, leaves, sent_back, replies, step, steps, clean_steps, starts}
 use Rattle.theory_cable.proofs.ArrivalLaws.{start_is}
 use Rattle.theory_cable.proofs.CarryingLaws.{carried, carried-part, carried-told}
 use Rattle.theory_cable.proofs.LossLaws.{delivered-arrived, arrived-or-given-up}
+use Rattle.meaning_cable.specs.CableResults.{Sent}
+use Rattle.std.specs.Prelude.{Ok}
 
 -- both ends without the sender's last answer
 abbrev pub cable_of : Ends → Cable
@@ -46,7 +48,7 @@ action_of l = cond (eqb l.phase under_way) (sends l) (end_of l)
 
 -- the last answer was this one
 abbrev pub Told : Ends → Type 0
-Told w = w.told ≡ Next (record { link = w.link; action = action_of w.link })
+Told w = w.told ≡ Ok (record { link = w.link; action = action_of w.link })
 
 row_told : {s : Link} {r : List ℕ} {t : Link} {x : Action} → Follows s r t x → x ≡ action_of t
 unfolding end_of
@@ -58,26 +60,26 @@ row_told (over p a h k) = refl
 row_told {s} (ended p) = rw (ne_eqb s.phase under_way p)
 
 -- a reply is answered so
-reply-told : (l : Link) (r : List ℕ) → (send_call l false r).answer ≡ Next (record { link = (send_call l false r).link; action = action_of (send_call l false r).link })
+reply-told : (l : Link) (r : List ℕ) → (send_call l false r).answer ≡ Ok (record { link = (send_call l false r).link; action = action_of (send_call l false r).link })
 unfolding send
-reply-told l r = ap (λ (x : Action). Next (record { link = (turn_of l r).link; action = x })) (row_told (turn-follows l r))
+reply-told l r = ap (λ (x : Action). Ok (record { link = (turn_of l r).link; action = x })) (row_told (turn-follows l r))
 
 -- it asks to send a block exactly if a set is under way
-asks-so : (l : Link) → eqb (action_of l).what to_send ≡ eqb l.phase under_way
+asks-so : (l : Link) → eqb (what_number (action_of l)) to_send ≡ eqb l.phase under_way
 unfolding end_of
 asks-so l = go (eqb l.phase under_way) refl
   where
-    done-or : (a b : Bool) → eqb (cond a (action delivered 0 0) (cond b (action given_up 0 0) (action 0 0 0))).what to_send ≡ false
+    done-or : (a b : Bool) → eqb (what_number (cond a Delivered (cond b GivenUp Nothing))) to_send ≡ false
     done-or true b = refl
     done-or false true = refl
     done-or false false = refl
 
-    go : (t : Bool) → eqb l.phase under_way ≡ t → eqb (cond (eqb l.phase under_way) (sends l) (end_of l)).what to_send ≡ eqb l.phase under_way
+    go : (t : Bool) → eqb l.phase under_way ≡ t → eqb (what_number (cond (eqb l.phase under_way) (sends l) (end_of l))) to_send ≡ eqb l.phase under_way
     go true e = rw e
     go false e = rw e (done-or (eqb l.phase delivered) (eqb l.phase given_up))
 
 -- the block that goes out is the one that the record names
-line-is : (s out : List ℕ) (i c : ℕ) → on_line s out (action to_send i c) ≡ bytes_or (block s i c)
+line-is : (s out : List ℕ) (i c : ℕ) → on_line s out (Send i c) ≡ bytes_or (block s i c)
 line-is s out i c = go (block s i c)
   where
     go : (r : Reply (List ℕ)) → take (made_count (made r)) (bytes_left r out) ≡ bytes_or r
@@ -114,8 +116,8 @@ module _ (s out : List ℕ) (w : Ends) (t : Told w) where
     replies-is (changed bs r f q) = refl
     replies-is (lost r q) = refl
 
-  asks : eqb (asked w.told).what to_send ≡ eqb w.link.phase under_way
-  asks = ap (λ (x : Action). eqb x.what to_send) asked_is ∙ asks-so w.link
+  asks : eqb (what_number (asked w.told)) to_send ≡ eqb w.link.phase under_way
+  asks = ap (λ (x : Action). eqb (what_number x) to_send) asked_is ∙ asks-so w.link
 
   abbrev moved : Fate → Ends
   moved f = record {
@@ -166,17 +168,17 @@ heard-is : (s : List ℕ) (c : Cable) → c.link.phase ≡ under_way → exchang
 unfolding exchange_by exchange hears got_by
 heard-is s c p = rw (eq-eqb c.link.phase under_way p)
 
-end-told : (l : Link) → l.phase ≡ delivered → (action_of l).what ≡ delivered
+end-told : (l : Link) → l.phase ≡ delivered → (what_number (action_of l)) ≡ delivered
 unfolding end_of
 end-told l p = rw p
 
 -- that answer is given for a delivered set alone
-told-end : (l : Link) → (action_of l).what ≡ delivered → l.phase ≡ delivered
+told-end : (l : Link) → (what_number (action_of l)) ≡ delivered → l.phase ≡ delivered
 unfolding end_of
 told-end l e = go (eqb l.phase under_way) (eqb l.phase delivered) (eqb l.phase given_up) refl e
   where
     go : (a b c : Bool) → eqb l.phase delivered ≡ b
-        → (cond a (sends l) (cond b (action delivered 0 0) (cond c (action given_up 0 0) (action 0 0 0)))).what ≡ delivered → l.phase ≡ delivered
+        → (what_number (cond a (sends l) (cond b Delivered (cond c GivenUp Nothing)))) ≡ delivered → l.phase ≡ delivered
     go true b c q h = absurd (omega arith)
     go false true c q h = eqb-true l.phase delivered q
     go false false true q h = absurd (omega arith)
@@ -198,10 +200,10 @@ module _ (s : List ℕ) (fs : List Field) (e : read s ≡ done (parsed fs [])) (
 
   module _ (agree : Agree w.link w.got.state) where
     -- "delivered means arrived", whatever is lost or visibly damaged, in any order: if the sender's answer is that the set is delivered, it has arrived
-    pub transfer-arrived : (φ : List Fate) → (asked (steps s out φ (starts s w)).told).what ≡ delivered
+    pub transfer-arrived : (φ : List Fate) → (what_number (asked (steps s out φ (starts s w)).told)) ≡ delivered
         → Arrived s w.got.buffer (cable_of (steps s out φ (starts s w)))
     transfer-arrived φ h =
-        let p = told-end (steps s out φ (starts s w)).link (sym (ap (λ (x : Sent). (asked x).what) (steps-told s out φ (starts s w) start-told)) ∙ h) in
+        let p = told-end (steps s out φ (starts s w)).link (sym (ap (λ (x : Sent). (what_number (asked x))) (steps-told s out φ (starts s w) start-told)) ∙ h) in
         subst (Arrived s w.got.buffer) (sym (all-steps φ))
         (delivered-arrived s fs e (cable_of w) agree φ (ap (λ (c : Cable). c.link.phase) (sym (all-steps φ)) ∙ p))
 
@@ -236,12 +238,12 @@ module _ (s : List ℕ) (fs : List Field) (e : read s ≡ done (parsed fs [])) (
 
     -- "the receiver ends with just the set's bytes and zeros after them", after one exchange a block; the sender's last answer is that the set is delivered, the receiver's that it is whole
     pub transfer-carried : Arrived s w.got.buffer (cable_of (clean_steps s out (block_count (stream fs)) (starts s w)))
-        × ((asked (clean_steps s out (block_count (stream fs)) (starts s w)).told).what ≡ delivered)
+        × ((what_number (asked (clean_steps s out (block_count (stream fs)) (starts s w)).told)) ≡ delivered)
         × ((clean_steps s out (block_count (stream fs)) (starts s w)).got.answer ≡ done is_whole)
     transfer-carried =
         let all = clean-are (block_count (stream fs)) (omega arith) in
         let here = carried s fs e (cable_of w) agree room in (
           subst (Arrived s w.got.buffer) (sym all.0) here,
-          ap (λ (x : Sent). (asked x).what) all.1 ∙ end-told _ (ap (λ (c : Cable). c.link.phase) all.0 ∙ here.was-delivered),
+          ap (λ (x : Sent). (what_number (asked x))) all.1 ∙ end-told _ (ap (λ (c : Cable). c.link.phase) all.0 ∙ here.was-delivered),
           ap (λ (c : Cable). c.got.answer) all.0 ∙ carried-told s fs e (cable_of w) agree room,
         )

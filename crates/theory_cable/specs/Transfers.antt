@@ -4,11 +4,11 @@ use Rattle.std.specs.Prelude.{true, false, cond, List, [], ◌∷◌, ℕ, zero,
 use Rattle.meaning.specs.Answers.{made_count}
 use Rattle.meaning_cable.specs.declared.Link.{Link}
 use Rattle.meaning_cable.specs.declared.Action.{Action}
-use Rattle.meaning_cable.specs.declared.Sent.{Sent}
-use Rattle.meaning_cable.specs.Sending.{ack_bytes, to_send}
+use Rattle.meaning_cable.specs.Sending.{what_number, to_send, block_number, count_number, ack_bytes}
 use Rattle.meaning_cable.specs.Receiving.{ReceiveCall, receive}
 use Rattle.meaning_cable.specs.CableCalls.{send_call, asked, block_call, received_call, ack_by}
 use Rattle.theory_cable.specs.Carrying.{Fate, heard, unheard, changed, lost}
+use Rattle.meaning_cable.specs.CableResults.{Sent}
 
 -- Both ends: the sender's record and its last answer, and what the receiver's last call left.
 pub record Ends : Type 0 where
@@ -18,7 +18,7 @@ pub record Ends : Type 0 where
 
 -- the bytes that go out for the block that is asked for: as many of those lent to the block's call as it answers. What stood in them before (`out`) does not matter.
 abbrev pub on_line : List ℕ → List ℕ → Action → List ℕ
-on_line s out x = take (made_count (block_call s x.block x.count out).answer) (block_call s x.block x.count out).buffer
+on_line s out x = take (made_count (block_call s (block_number x) (count_number x) out).answer) (block_call s (block_number x) (count_number x) out).buffer
 
 -- what the receiver's last call then left
 unfoldable pub leaves : List ℕ → List ℕ → Fate → Ends → ReceiveCall
@@ -42,7 +42,7 @@ replies s out (lost r p) w = r
 unfoldable pub step : List ℕ → List ℕ → Fate → Ends → Ends
 step s out f w =
     let call = send_call w.link false (replies s out f w) in
-    cond (eqb (asked w.told).what to_send) (record { link = call.link; told = call.answer; got = leaves s out f w }) w
+    cond (eqb (what_number (asked w.told)) to_send) (record { link = call.link; told = call.answer; got = leaves s out f w }) w
 
 -- one after the other
 unfoldable pub steps : List ℕ → List ℕ → List Fate → Ends → Ends

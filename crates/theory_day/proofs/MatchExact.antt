@@ -7,7 +7,6 @@ use mathlib.Core.Logic.{◌↔◌}
 use Prim.Native.Nat.{ℕ, ◌*◌, ◌≤◌, ◌<◌}
 use lib.ListN.{length, take, drop}
 use lib.Seq.{take_at}
-use Rattle.meaning.specs.declared.Made.TheVariants.{Done}
 use Rattle.meaning.specs.Field.{Field, label_at_line, content_at_line}
 use Rattle.meaning.specs.Refusals.{Reply, refused, done}
 use Rattle.meaning.specs.Pieces.{parsed}
@@ -28,6 +27,7 @@ use Rattle.theory_day.specs.DayRules.{no_entry, entry_at, SetOf, MatchNumber, Fi
 use Rattle.theory_day.proofs.SetInFile.{one-patient-line, part-read}
 use Rattle.theory_day.proofs.BuildExact.{built-exactly}
 use Rattle.theory_day.proofs.LookupExact.{matches-exactly, found-exactly}
+use Rattle.std.specs.Prelude.{Ok}
 
 -- ---- an entry of an index that was built
 
@@ -86,10 +86,10 @@ patient-found-exactly f entries es b c room ns = (to, from)
 
 -- a reply that was made into a call is that of these numbers exactly if the call answers how many they are, and they stand at the front of what was lent
 call-is : (y : Reply (List ℕ)) (out ns : List ℕ)
-    → (◌≡◌ {A = Call ℕ} (record { answer = made y; buffer = entries_left y out }) (record { answer = Done (length ns); buffer = ns ++ drop (length ns) out })) ↔ (y ≡ done ns)
+    → (◌≡◌ {A = Call ℕ} (record { answer = made y; buffer = entries_left y out }) (record { answer = Ok (length ns); buffer = ns ++ drop (length ns) out })) ↔ (y ≡ done ns)
 call-is y out ns = (to y, λ e. ap (λ (z : Reply (List ℕ)). record { answer = made z; buffer = entries_left z out }) e)
   where
-    to : (z : Reply (List ℕ)) → ◌≡◌ {A = Call ℕ} (record { answer = made z; buffer = entries_left z out }) (record { answer = Done (length ns); buffer = ns ++ drop (length ns) out })
+    to : (z : Reply (List ℕ)) → ◌≡◌ {A = Call ℕ} (record { answer = made z; buffer = entries_left z out }) (record { answer = Ok (length ns); buffer = ns ++ drop (length ns) out })
         → z ≡ done ns
     to (refused r) e = refused-made (ap (λ (x : Call ℕ). x.answer) e)
     to (done ms) e =
@@ -111,7 +111,7 @@ front-built f index n b =
 -- how many numbers it found, and they stand at the front of what was lent for them, exactly if they are those of the sets whose 3000 content is the asked bytes, and of no others,
 -- ascending, and there is room for them.
 pub patient-call-exactly : (f index : List ℕ) (n : ℕ) → Built f index n → (c out ns : List ℕ)
-    → (lookup_call f (take (n * 4) index) c out ≡ record { answer = Done (length ns); buffer = ns ++ drop (length ns) out })
+    → (lookup_call f (take (n * 4) index) c out ≡ record { answer = Ok (length ns); buffer = ns ++ drop (length ns) out })
     ↔ (FindsPatient f (entries_in (take (n * 4) index)) c ns × (length ns ≤ length out))
 patient-call-exactly f index n b c out ns =
     let es : List DayEntry = entries_in (take (n * 4) index) in

@@ -8,8 +8,6 @@ use Prim.Native.Nat.{ℕ, suc, ◌+◌, ◌*◌, ◌≤◌, ◌<◌}
 use native.Mathlib.Omega.{arith}
 use lib.ListN.{length, take, drop, get_or, replicate, length-append}
 use Rattle.meaning.specs.declared.Refusal.{Refusal}
-use Rattle.meaning.specs.declared.Made.{Made}
-use Rattle.meaning.specs.declared.Made.TheVariants.{Done, Refused}
 use Rattle.meaning.specs.Field.{Field}
 use Rattle.meaning.specs.Refusals.{Reply, refused, done, refusal}
 use Rattle.meaning.specs.Pieces.{parsed}
@@ -44,6 +42,8 @@ use Rattle.theory_day.proofs.AppendExact.{appended-exactly, append-refused-with}
 use Rattle.theory_day.proofs.LookupExact.{found-exactly, lookup-refused-with}
 use Rattle.theory_day.proofs.MatchExact.{patient-found-exactly, patient-call-exactly}
 use Rattle.theory_day.proofs.DayNumbers.{build_numbers, append_numbers, lookup_numbers, build-numbers, append-numbers, lookup-numbers}
+use Rattle.meaning.specs.Results.{Made}
+use Rattle.std.specs.Prelude.{Err, Ok}
 
 -- ---- the inputs
 
@@ -420,7 +420,7 @@ refused-alike-met-by-none f s room room' es lent count r b st e =
 -- append-stays-built: given numbers that start with an index of the bytes before the old length, and an appending that answers a count
 abbrev SaysAppendStaysBuilt : (List ℕ → ℕ → List ℕ → ℕ → Call ℕ) → Type 0
 SaysAppendStaysBuilt A =
-    (f : List ℕ) (old : ℕ) (index : List ℕ) (n m : ℕ) → Built (take old f) index n → (A f old index n).answer ≡ Done m → Built f (A f old index n).buffer m
+    (f : List ℕ) (old : ℕ) (index : List ℕ) (n m : ℕ) → Built (take old f) index n → (A f old index n).answer ≡ Ok m → Built f (A f old index n).buffer m
 
 append-stays-built-says : SaysAppendStaysBuilt append_call
 append-stays-built-says = append-stays-built
@@ -436,7 +436,7 @@ built-p : Built p (columns p_index) 1
 unfolding computes day_computes p
 built-p = built-by-call p (replicate 4 7) 1 refl
 
-append-stays-built-not-same : (m : ℕ) (o : List ℕ) → SaysAppendStaysBuilt (λ f old index n. record { answer = Done m; buffer = o }) → ⊥
+append-stays-built-not-same : (m : ℕ) (o : List ℕ) → SaysAppendStaysBuilt (λ f old index n. record { answer = Ok m; buffer = o }) → ⊥
 unfolding p q two
 append-stays-built-not-same m o h =
     let a = built-alone p p_index build-p o m (h p 0 [] 0 m (built-empty []) refl) in
@@ -444,20 +444,20 @@ append-stays-built-not-same m o h =
     omega (arith, a.0, b.0)
 
 -- nor one that counts the set, and leaves every number as it was
-append-stays-built-not-idle : SaysAppendStaysBuilt (λ f old index n. record { answer = Done (suc n); buffer = index }) → ⊥
+append-stays-built-not-idle : SaysAppendStaysBuilt (λ f old index n. record { answer = Ok (suc n); buffer = index }) → ⊥
 append-stays-built-not-idle h =
     let a = built-alone p p_index build-p (7 ∷ 7 ∷ 7 ∷ 7 ∷ []) 1 (h p 0 (7 ∷ 7 ∷ 7 ∷ 7 ∷ []) 0 1 (built-empty (7 ∷ 7 ∷ 7 ∷ 7 ∷ [])) refl) in
     let z : ◌≡◌ {A = ℕ} 7 0 = ap (λ (ns : List ℕ). get_or ns 0 0) a.1 in
     omega arith
 
 -- One that refuses all meets it. Shut out by `append-as-built`.
-append-stays-built-met-by-refusing : (r : List ℕ → ℕ → List ℕ → ℕ → Refusal) → SaysAppendStaysBuilt (λ f old index n. record { answer = Refused (r f old index n); buffer = index })
+append-stays-built-met-by-refusing : (r : List ℕ → ℕ → List ℕ → ℕ → Refusal) → SaysAppendStaysBuilt (λ f old index n. record { answer = Err (r f old index n); buffer = index })
 append-stays-built-met-by-refusing r f old index n m b e = refused-made e
 
 -- built-empty: nothing given. `Built` of any call in the place of `build_call`
 record BuiltBy (B : List ℕ → List ℕ → Call ℕ) (f index : List ℕ) (n : ℕ) : Type 0 where
   lent : List ℕ
-  answered : (B f lent).answer ≡ Done n
+  answered : (B f lent).answer ≡ Ok n
   front : take (n * 4) index ≡ take (n * 4) (B f lent).buffer
 
 abbrev SaysBuiltEmpty : (List ℕ → List ℕ → Call ℕ) → Type 0
@@ -466,15 +466,15 @@ SaysBuiltEmpty B = (index : List ℕ) → BuiltBy B [] index 0
 built-empty-says : SaysBuiltEmpty build_call
 built-empty-says index = let b = built-empty index in record { lent = b.lent; answered = b.answered; front = b.front }
 
-built-empty-not-refusing : (r : List ℕ → List ℕ → Refusal) → SaysBuiltEmpty (λ f index. record { answer = Refused (r f index); buffer = index }) → ⊥
+built-empty-not-refusing : (r : List ℕ → List ℕ → Refusal) → SaysBuiltEmpty (λ f index. record { answer = Err (r f index); buffer = index }) → ⊥
 built-empty-not-refusing r h = refused-made (h []).answered
 
 -- one that always finds a set
-built-empty-not-some : (n : ℕ) (o : List ℕ) → SaysBuiltEmpty (λ f index. record { answer = Done (suc n); buffer = o }) → ⊥
+built-empty-not-some : (n : ℕ) (o : List ℕ) → SaysBuiltEmpty (λ f index. record { answer = Ok (suc n); buffer = o }) → ⊥
 built-empty-not-some n o h = omega (arith, made-same (h []).answered)
 
 -- One that never finds a set meets it. Shut out by `built-exactly`.
-built-empty-met-by-none : (o : List ℕ) → SaysBuiltEmpty (λ f index. record { answer = Done 0; buffer = o })
+built-empty-met-by-none : (o : List ℕ) → SaysBuiltEmpty (λ f index. record { answer = Ok 0; buffer = o })
 built-empty-met-by-none o index = record { lent = []; answered = refl; front = refl }
 
 -- ---- written, appended, and listed again
@@ -669,7 +669,7 @@ patient-found-exactly-met-by-one-number f entries es b c room ns =
 abbrev SaysPatientCallExactly : (List ℕ → List ℕ → List ℕ → List ℕ → Call ℕ) → Type 0
 SaysPatientCallExactly lookup_call =
     (f index : List ℕ) (n : ℕ) → Built f index n → (c out ns : List ℕ)
-    → (lookup_call f (take (n * 4) index) c out ≡ record { answer = Done (length ns); buffer = ns ++ drop (length ns) out })
+    → (lookup_call f (take (n * 4) index) c out ≡ record { answer = Ok (length ns); buffer = ns ++ drop (length ns) out })
     ↔ (FindsPatient f (entries_in (take (n * 4) index)) c ns × (length ns ≤ length out))
 
 patient-call-exactly-says : SaysPatientCallExactly lookup_call
@@ -688,12 +688,12 @@ out = 7 ∷ 7 ∷ 7 ∷ []
 
 -- what it asks of two lookups: of patient 0, and of patient 10027
 call-0 : (C : List ℕ → List ℕ → List ℕ → List ℕ → Call ℕ) → SaysPatientCallExactly C
-    → C day (take 12 day_numbers) (text "0") out ≡ record { answer = Done 2; buffer = 1 ∷ 3 ∷ 7 ∷ [] }
+    → C day (take 12 day_numbers) (text "0") out ≡ record { answer = Ok 2; buffer = 1 ∷ 3 ∷ 7 ∷ [] }
 unfolding computes day_computes p q day day_numbers
 call-0 C h = (h day day_numbers 3 built-day (text "0") out (1 ∷ 3 ∷ [])).1 ((patient-call-exactly day day_numbers 3 built-day (text "0") out (1 ∷ 3 ∷ [])).0 refl)
 
 call-10027 : (C : List ℕ → List ℕ → List ℕ → List ℕ → Call ℕ) → SaysPatientCallExactly C
-    → C day (take 12 day_numbers) (text "10027") out ≡ record { answer = Done 1; buffer = 2 ∷ 7 ∷ 7 ∷ [] }
+    → C day (take 12 day_numbers) (text "10027") out ≡ record { answer = Ok 1; buffer = 2 ∷ 7 ∷ 7 ∷ [] }
 unfolding computes day_computes p q day day_numbers
 call-10027 C h = (h day day_numbers 3 built-day (text "10027") out (2 ∷ [])).1 ((patient-call-exactly day day_numbers 3 built-day (text "10027") out (2 ∷ [])).0 refl)
 

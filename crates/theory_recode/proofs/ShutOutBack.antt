@@ -12,9 +12,6 @@ use lib.Seq.{take_at, take_all, length-take-le}
 use borrow.Author.Tests.{leb-true, leb-false}
 use Rattle.meaning.specs.declared.Refusal.{Refusal}
 use Rattle.meaning.specs.declared.Shape.{Shape}
-use Rattle.meaning.specs.declared.Judged.TheVariants.{Accepted}
-use Rattle.meaning.specs.declared.Made.{Made}
-use Rattle.meaning.specs.declared.Made.TheVariants.{Done, Refused}
 use Rattle.meaning.specs.Field.{Field, field}
 use Rattle.meaning.specs.Refusals.{Reply, refused, done, refusal, then_to}
 use Rattle.meaning.specs.Pieces.{Parsed, parsed}
@@ -54,6 +51,8 @@ use Rattle.theory_recode.specs.RecodeRules.{SameCharacter}
 use Rattle.theory_recode.proofs.PageExamples.{byte_of, tables-follow, same-exactly}
 use Rattle.theory_recode.proofs.ShutOutRecode.{p, named, in437, in1252, recode-p, recode-letter, Recoder, leaving, each_line, idle}
 use Rattle.theory_recode.proofs.ShutOutRecode.{SaysRecodedExactly, recoded-exactly-at}
+use Rattle.meaning.specs.Results.{Made}
+use Rattle.std.specs.Prelude.{Err, Ok}
 
 -- ---- the inputs
 
@@ -141,7 +140,7 @@ seven-bits : seven_bit (named_lines (line 9206 "1") 0x41) ≡ true
 unfolding computes named_lines
 seven-bits = refl
 
-no-set : {y : Shape} → judge [] ≡ Accepted y → ⊥
+no-set : {y : Shape} → judge [] ≡ Ok y → ⊥
 unfolding computes
 no-set e = refused-accepted e
 
@@ -162,18 +161,18 @@ call a b = record { answer = a; buffer = b }
 
 -- refuses all, and leaves the buffer as it was
 abbrev refusing : (List ℕ → ℕ → Code → Refusal) → Caller
-refusing r b used w = call (Refused (r b used w)) b
+refusing r b used w = call (Err (r b used w)) b
 
 -- leaves the buffer as it was, and answers the used length
 abbrev pub still : Caller
-still b used w = call (Done used) b
+still b used w = call (Ok used) b
 
 -- the same, but the bytes behind the used length become zero
 abbrev kept : List ℕ → ℕ → List ℕ
 kept b used = take used b ++ replicate (length b - used) 0
 
 abbrev clearing : Caller
-clearing b used w = call (Done used) (kept b used)
+clearing b used w = call (Ok used) (kept b used)
 
 kept_again : (b : List ℕ) (used : ℕ) → kept (kept b used) used ≡ kept b used
 kept_again b used = go (leb used (length b)) refl
@@ -336,13 +335,13 @@ SaysRecode C = (b : List ℕ) (used : ℕ) (w : Code) → C b used w ≡ recode_
 recode-says : SaysRecode recode_call
 recode-says b used w = refl
 
-recode-not-refusing : (r : List ℕ → ℕ → Code → Refusal) (o : List ℕ → ℕ → Code → List ℕ) → SaysRecode (λ b used w. call (Refused (r b used w)) (o b used w)) → ⊥
+recode-not-refusing : (r : List ℕ → ℕ → Code → Refusal) (o : List ℕ → ℕ → Code → List ℕ) → SaysRecode (λ b used w. call (Err (r b used w)) (o b used w)) → ⊥
 recode-not-refusing r o h = refused-made (ap (λ (c : Call ℕ). c.answer) (h p 51 Page437) ∙ ap made recode-p)
 
 recode-not-same : (a : Call ℕ) → SaysRecode (λ b used w. a) → ⊥
 unfolding p named in1252
 recode-not-same a h =
-    let e : Done 51 ≡ Done 61 =
+    let e : Ok 51 ≡ Ok 61 =
     sym (ap made recode-p) ∙ (ap (λ (c : Call ℕ). c.answer) (sym (h p 51 Page437) ∙ h in437 61 Page1252) ∙ ap made recode-letter) in
     omega (arith, made-same e)
 
@@ -368,18 +367,18 @@ recode-not-clearing h =
 abbrev SaysStaysCall : Caller → Type 0
 SaysStaysCall C =
     (b : List ℕ) (used : ℕ) (w : Code) (fs : List Field) → used ≤ length b → read (take used b) ≡ done (parsed fs []) → in_code w fs ≡ true
-    → ((C b used w).answer ≡ Done used) × ((C b used w).buffer ≡ take used b ++ replicate (length b - used) 0)
+    → ((C b used w).answer ≡ Ok used) × ((C b used w).buffer ≡ take used b ++ replicate (length b - used) 0)
 
 stays-call-says : SaysStaysCall recode_call
 stays-call-says = stays-call
 
 -- what it asks of P
-stays_p : (C : Caller) → SaysStaysCall C → (C p 51 Page437).answer ≡ Done 51
+stays_p : (C : Caller) → SaysStaysCall C → (C p 51 Page437).answer ≡ Ok 51
 unfolding p
 stays_p C h = (h p 51 Page437 p_lines (omega arith) front-p p-437).0
 
-stays-call-not-refusing : (r : List ℕ → ℕ → Code → Refusal) (o : List ℕ → ℕ → Code → List ℕ) → SaysStaysCall (λ b used w. call (Refused (r b used w)) (o b used w)) → ⊥
-stays-call-not-refusing r o h = refused-made (stays_p (λ b used w. call (Refused (r b used w)) (o b used w)) h)
+stays-call-not-refusing : (r : List ℕ → ℕ → Code → Refusal) (o : List ℕ → ℕ → Code → List ℕ) → SaysStaysCall (λ b used w. call (Err (r b used w)) (o b used w)) → ⊥
+stays-call-not-refusing r o h = refused-made (stays_p (λ b used w. call (Err (r b used w)) (o b used w)) h)
 
 stays-call-not-same : (a : Call ℕ) → SaysStaysCall (λ b used w. a) → ⊥
 unfolding named in1252
@@ -401,13 +400,13 @@ stays-call-met-by-clearing b used w fs l r i = (refl, refl)
 -- twice-call: given a recoding that was done
 abbrev SaysTwiceCall : Caller → Type 0
 SaysTwiceCall C =
-    (b b' : List ℕ) (used n : ℕ) (w : Code) → Done n ≡ (C b used w).answer → b' ≡ (C b used w).buffer → ((C b' n w).answer ≡ Done n) × ((C b' n w).buffer ≡ b')
+    (b b' : List ℕ) (used n : ℕ) (w : Code) → Ok n ≡ (C b used w).answer → b' ≡ (C b used w).buffer → ((C b' n w).answer ≡ Ok n) × ((C b' n w).buffer ≡ b')
 
 twice-call-says : SaysTwiceCall recode_call
 twice-call-says = twice-call
 
 -- one that makes every set longer by a byte
-twice-call-not-longer : SaysTwiceCall (λ b used w. call (Done (suc used)) b) → ⊥
+twice-call-not-longer : SaysTwiceCall (λ b used w. call (Ok (suc used)) b) → ⊥
 twice-call-not-longer h = let e = (h [] [] 0 1 Page437 refl refl).0 in omega (arith, made-same e)
 
 -- Nothing is done, the same always, or the buffer is as it was. Shut out by `stays-call`; if the bytes behind the set become zero, by `recoded-exactly`.
@@ -430,13 +429,13 @@ twice-call-met-by-clearing b b' used n w e f =
 abbrev SaysBackCall : Caller → Type 0
 SaysBackCall C =
     (b b' : List ℕ) (used n : ℕ) (w : Code) (fs : List Field) → read (take used b) ≡ done (parsed fs []) → names_code (other w) fs ≡ true
-    → Done n ≡ (C b used w).answer → b' ≡ (C b used w).buffer
-    → ((C b' n (other w)).answer ≡ Done used) × ((C b' n (other w)).buffer ≡ take used b ++ replicate (length b - used) 0)
+    → Ok n ≡ (C b used w).answer → b' ≡ (C b used w).buffer
+    → ((C b' n (other w)).answer ≡ Ok used) × ((C b' n (other w)).buffer ≡ take used b ++ replicate (length b - used) 0)
 
 back-call-says : SaysBackCall recode_call
 back-call-says = back-call
 
-back-call-not-same : (n : ℕ) (o : List ℕ) → SaysBackCall (λ b used w. call (Done n) o) → ⊥
+back-call-not-same : (n : ℕ) (o : List ℕ) → SaysBackCall (λ b used w. call (Ok n) o) → ⊥
 unfolding named in437 in1252
 back-call-not-same n o h =
     let x = (h in437 o 61 n Page1252 (named_lines (line 9206 "2") 0x81) front-437 says-437 refl refl).1 in
@@ -445,7 +444,7 @@ back-call-not-same n o h =
     omega arith
 
 -- whatever length it answers: the byte behind the set becomes zero
-back-call-not-idle : (a : List ℕ → ℕ → Code → ℕ) → SaysBackCall (λ b used w. call (Done (a b used w)) b) → ⊥
+back-call-not-idle : (a : List ℕ → ℕ → Code → ℕ) → SaysBackCall (λ b used w. call (Ok (a b used w)) b) → ⊥
 unfolding named in437
 back-call-not-idle a h =
     let b : List ℕ = in437 ++ (7 ∷ []) in
@@ -459,26 +458,26 @@ back-call-met-by-refusing r b b' used n w fs e s f g = refused-made (sym f)
 
 back-call-met-by-clearing : SaysBackCall clearing
 back-call-met-by-clearing b b' used n w fs e s f g =
-    let m : n ≡ used = made-same f in (ap Done m, ap₂ kept g m ∙ kept_again b used)
+    let m : n ≡ used = made-same f in (ap Ok m, ap₂ kept g m ∙ kept_again b used)
 
 -- line-call: given a set without 9206 that was recoded to 1252
 abbrev SaysLineCall : Caller → Type 0
 SaysLineCall C =
     (b b' : List ℕ) (used n : ℕ) (fs : List Field) → read (take used b) ≡ done (parsed fs []) → has_charset fs ≡ false
-    → Done n ≡ (C b used Page1252).answer → b' ≡ (C b used Page1252).buffer
-    → (n ≡ used + gained_bytes) × ((C b' n Page437).answer ≡ Done n) × ((C b' n Page437).buffer ≡ leaves (resum (with_charset Page437 fs)) b)
+    → Ok n ≡ (C b used Page1252).answer → b' ≡ (C b used Page1252).buffer
+    → (n ≡ used + gained_bytes) × ((C b' n Page437).answer ≡ Ok n) × ((C b' n Page437).buffer ≡ leaves (resum (with_charset Page437 fs)) b)
 
 line-call-says : SaysLineCall recode_call
 line-call-says = line-call
 
-line-call-not-same : (n : ℕ) (o : List ℕ) → SaysLineCall (λ b used w. call (Done n) o) → ⊥
+line-call-not-same : (n : ℕ) (o : List ℕ) → SaysLineCall (λ b used w. call (Ok n) o) → ⊥
 line-call-not-same n o h =
     let x = (h p o 51 n p_lines front-p p-no-charset refl refl).0 in
     let y = (h q o 55 n q_lines front-q q-no-charset refl refl).0 in
     omega arith
 
 -- whatever length it answers: the line at 27 is still 014, not 010
-line-call-not-idle : (a : List ℕ → ℕ → Code → ℕ) → SaysLineCall (λ b used w. call (Done (a b used w)) b) → ⊥
+line-call-not-idle : (a : List ℕ → ℕ → Code → ℕ) → SaysLineCall (λ b used w. call (Ok (a b used w)) b) → ⊥
 unfolding computes p p_lines
 line-call-not-idle a h =
     let b : List ℕ = p ++ replicate gained_bytes 0 in
@@ -496,14 +495,14 @@ line-call-met-by-refusing r b b' used n fs e s f g = refused-made (sym f)
 abbrev SaysSevenCall : Caller → Type 0
 SaysSevenCall C =
     (b b' : List ℕ) (used : ℕ) (w : Code) (fs : List Field) → used ≤ length b → read (take used b) ≡ done (parsed fs []) → seven_bit fs ≡ true → b' ≡ (C b used w).buffer
-    → ((C b used w).answer ≡ Done used) × (b' ≡ leaves (map (charset_field w) fs) b)
-    × ((C b' used (other w)).answer ≡ Done used) × ((C b' used (other w)).buffer ≡ leaves (map (charset_field (other w)) fs) b)
+    → ((C b used w).answer ≡ Ok used) × (b' ≡ leaves (map (charset_field w) fs) b)
+    × ((C b' used (other w)).answer ≡ Ok used) × ((C b' used (other w)).buffer ≡ leaves (map (charset_field (other w)) fs) b)
 
 seven-call-says : SaysSevenCall recode_call
 seven-call-says = seven-call
 
 -- what it asks of the set: 2 or 3 stands at 34
-seven_at : (C : Caller) → SaysSevenCall C → (w : Code) → ((C seven 61 w).answer ≡ Done 61) × (get_or (C seven 61 w).buffer 34 0 ≡ get_or (charset_of w) 0 0)
+seven_at : (C : Caller) → SaysSevenCall C → (w : Code) → ((C seven 61 w).answer ≡ Ok 61) × (get_or (C seven 61 w).buffer 34 0 ≡ get_or (charset_of w) 0 0)
 unfolding computes named seven named_lines
 seven_at C h Page437 =
     let x = h seven (C seven 61 Page437).buffer 61 Page437 (named_lines (line 9206 "1") 0x41) (omega arith) front-seven seven-bits refl in
@@ -512,8 +511,8 @@ seven_at C h Page1252 =
     let x = h seven (C seven 61 Page1252).buffer 61 Page1252 (named_lines (line 9206 "1") 0x41) (omega arith) front-seven seven-bits refl in
     (x.0, ap (λ (s : List ℕ). get_or s 34 0) x.1)
 
-seven-call-not-refusing : (r : List ℕ → ℕ → Code → Refusal) (o : List ℕ → ℕ → Code → List ℕ) → SaysSevenCall (λ b used w. call (Refused (r b used w)) (o b used w)) → ⊥
-seven-call-not-refusing r o h = refused-made (seven_at (λ b used w. call (Refused (r b used w)) (o b used w)) h Page437).0
+seven-call-not-refusing : (r : List ℕ → ℕ → Code → Refusal) (o : List ℕ → ℕ → Code → List ℕ) → SaysSevenCall (λ b used w. call (Err (r b used w)) (o b used w)) → ⊥
+seven-call-not-refusing r o h = refused-made (seven_at (λ b used w. call (Err (r b used w)) (o b used w)) h Page437).0
 
 seven-call-not-same : (a : Call ℕ) → SaysSevenCall (λ b used w. a) → ⊥
 seven-call-not-same a h =
@@ -544,7 +543,7 @@ size-marked : (w : Code) (fs : List Field) → Standing fs → size (map (charse
 size-marked w fs st = size-map (charset_field w) (alters-mark w) (profile fs) first 0 fs (ruled fs st.right).0.each-line
 
 marking-is : (b : List ℕ) (used : ℕ) (w : Code) (fs : List Field) → Holds b used fs
-    → ((marking b used w).answer ≡ Done used) × ((marking b used w).buffer ≡ leaves (map (charset_field w) fs) b)
+    → ((marking b used w).answer ≡ Ok used) × ((marking b used w).buffer ≡ leaves (map (charset_field w) fs) b)
 marking-is b used w fs h =
     let all = accepted (take used b) (parsed fs []) h.front in
     let is : each_line charset_field b used w ≡ done (render (map (charset_field w) fs) []) =
@@ -552,7 +551,7 @@ marking-is b used w fs h =
     let n : length (render (map (charset_field w) fs) []) ≡ used =
     length-render (map (charset_field w) fs) []
     ∙ omega (arith, size-marked w fs all.standing, ap length all.bytes, length-render fs [], length-take-le used b h.fits_in) in
-    (ap made is ∙ ap Done n, ap (λ (y : Reply (List ℕ)). bytes_left y b) is)
+    (ap made is ∙ ap Ok n, ap (λ (y : Reply (List ℕ)). bytes_left y b) is)
 
 seven-call-met-by-marking : SaysSevenCall marking
 seven-call-met-by-marking b b' used w fs l r s e =
@@ -570,10 +569,10 @@ seven-call-met-by-marking b b' used w fs l r s e =
 -- ---- "Demand 2 holds before and after."
 
 -- an idle function leaves only accepted sets
-was-accepted : (b : List ℕ) (used : ℕ) (w : Code) (x : List ℕ) → idle (take used b) (recode b used w) ≡ done x → (y : Shape) × (judge x ≡ Accepted y) × (y.length ≡ length x)
+was-accepted : (b : List ℕ) (used : ℕ) (w : Code) (x : List ℕ) → idle (take used b) (recode b used w) ≡ done x → (y : Shape) × (judge x ≡ Ok y) × (y.length ≡ length x)
 was-accepted b used w x e = go (recode b used w) refl e
   where
-    go : (a : Reply (List ℕ)) → recode b used w ≡ a → idle (take used b) a ≡ done x → (y : Shape) × (judge x ≡ Accepted y) × (y.length ≡ length x)
+    go : (a : Reply (List ℕ)) → recode b used w ≡ a → idle (take used b) a ≡ done x → (y : Shape) × (judge x ≡ Ok y) × (y.length ≡ length x)
     go (refused r) f g = refused-done g
     go (done s) f g =
         let m = recode-only b used w s f in
@@ -584,7 +583,7 @@ was-accepted b used w x e = go (recode b used w) refl e
 
 -- recode-judged: given a recoding that was done
 abbrev SaysRecodeJudged : Recoder → Type 0
-SaysRecodeJudged R = (b : List ℕ) (used : ℕ) (w : Code) (x : List ℕ) → R b used w ≡ done x → (y : Shape) × (judge x ≡ Accepted y) × (y.length ≡ length x)
+SaysRecodeJudged R = (b : List ℕ) (used : ℕ) (w : Code) (x : List ℕ) → R b used w ≡ done x → (y : Shape) × (judge x ≡ Ok y) × (y.length ≡ length x)
 
 recode-judged-says : SaysRecodeJudged recode
 recode-judged-says = recode-judged
@@ -608,7 +607,7 @@ recode-judged-met-by-idle b used w x e = was-accepted b used w x e
 -- judged-call: given a recoding that was done
 abbrev SaysJudgedCall : Caller → Type 0
 SaysJudgedCall C =
-    (b b' : List ℕ) (used n : ℕ) (w : Code) → Done n ≡ (C b used w).answer → b' ≡ (C b used w).buffer → (y : Shape) × (judge (take n b') ≡ Accepted y) × (y.length ≡ n)
+    (b b' : List ℕ) (used n : ℕ) (w : Code) → Ok n ≡ (C b used w).answer → b' ≡ (C b used w).buffer → (y : Shape) × (judge (take n b') ≡ Ok y) × (y.length ≡ n)
 
 judged-call-says : SaysJudgedCall recode_call
 judged-call-says = judged-call
@@ -617,13 +616,13 @@ take_none : (n : ℕ) → ◌≡◌ {A = List ℕ} (take n []) []
 take_none n = take_all n [] (omega arith)
 
 -- whatever length it answers
-judged-call-not-idle : (a : List ℕ → ℕ → Code → ℕ) → SaysJudgedCall (λ b used w. call (Done (a b used w)) b) → ⊥
+judged-call-not-idle : (a : List ℕ → ℕ → Code → ℕ) → SaysJudgedCall (λ b used w. call (Ok (a b used w)) b) → ⊥
 judged-call-not-idle a h =
     let n : ℕ = a [] 0 Page437 in
     no-set (sym (ap judge (take_none n)) ∙ (h [] [] 0 n Page437 refl refl).1)
 
 -- another length than that of the set
-judged-call-not-other-length : SaysJudgedCall (λ b used w. call (Done 50) p) → ⊥
+judged-call-not-other-length : SaysJudgedCall (λ b used w. call (Ok 50) p) → ⊥
 unfolding computes p
 judged-call-not-other-length h = refused-accepted (h [] p 0 50 Page437 refl refl).1
 
@@ -631,7 +630,7 @@ judged-call-not-other-length h = refused-accepted (h [] p 0 50 Page437 refl refl
 judged-call-met-by-refusing : (r : List ℕ → ℕ → Code → Refusal) → SaysJudgedCall (refusing r)
 judged-call-met-by-refusing r b b' used n w e f = refused-made (sym e)
 
-judged-call-met-by-same : SaysJudgedCall (λ b used w. call (Done 51) p)
+judged-call-met-by-same : SaysJudgedCall (λ b used w. call (Ok 51) p)
 unfolding p
 judged-call-met-by-same b b' used n w e f =
     judged-call p b' 51 n Page437 (e ∙ sym (ap made recode-p)) (f ∙ sym (ap (λ (y : Reply (List ℕ)). bytes_left y p) recode-p))
@@ -728,17 +727,17 @@ recode-list-write-met-by-idle b used w x e =
 -- refused-recode: given a refusal
 abbrev SaysRefusedRecode : Caller → Type 0
 SaysRefusedRecode C =
-    (b : List ℕ) (used : ℕ) (w : Code) (r : Refusal) → (C b used w).answer ≡ Refused r → (made_count (C b used w).answer ≡ 0) × ((C b used w).buffer ≡ b)
+    (b : List ℕ) (used : ℕ) (w : Code) (r : Refusal) → (C b used w).answer ≡ Err r → (made_count (C b used w).answer ≡ 0) × ((C b used w).buffer ≡ b)
 
 refused-recode-says : SaysRefusedRecode recode_call
 refused-recode-says = refused-recode
 
-refused-recode-not-clearing : (r : List ℕ → ℕ → Code → Refusal) → SaysRefusedRecode (λ b used w. call (Refused (r b used w)) (replicate (length b) 0)) → ⊥
+refused-recode-not-clearing : (r : List ℕ → ℕ → Code → Refusal) → SaysRefusedRecode (λ b used w. call (Err (r b used w)) (replicate (length b) 0)) → ⊥
 refused-recode-not-clearing r h =
     let z : ◌≡◌ {A = ℕ} 0 7 = ap (λ (x : List ℕ). get_or x 0 0) (h (7 ∷ []) 0 Page437 (r (7 ∷ []) 0 Page437) refl).1 in
     omega arith
 
-refused-recode-not-same : (r : Refusal) (o : List ℕ) → SaysRefusedRecode (λ b used w. call (Refused r) o) → ⊥
+refused-recode-not-same : (r : Refusal) (o : List ℕ) → SaysRefusedRecode (λ b used w. call (Err r) o) → ⊥
 refused-recode-not-same r o h =
     let z : ◌≡◌ {A = ℕ} 0 1 = ap length (sym (h [] 0 Page437 r refl).1 ∙ (h (7 ∷ []) 0 Page437 r refl).1) in
     omega arith
@@ -748,9 +747,9 @@ refused-recode-met-by-idle : (a : List ℕ → ℕ → Code → Made) → SaysRe
 refused-recode-met-by-idle a b used w r e = (ap made_count e, refl)
 
 refused-recode-met-by-refusing : (r : List ℕ → ℕ → Code → Refusal) → SaysRefusedRecode (refusing r)
-refused-recode-met-by-refusing r = refused-recode-met-by-idle (λ b used w. Refused (r b used w))
+refused-recode-met-by-refusing r = refused-recode-met-by-idle (λ b used w. Err (r b used w))
 
-refused-recode-met-by-same : (n : ℕ) (o : List ℕ) → SaysRefusedRecode (λ b used w. call (Done n) o)
+refused-recode-met-by-same : (n : ℕ) (o : List ℕ) → SaysRefusedRecode (λ b used w. call (Ok n) o)
 refused-recode-met-by-same n o b used w r e = refused-made (sym e)
 
 -- ---- which numbers

@@ -10,7 +10,6 @@ use borrow.Author.Tests.{eqb-true, eqb-false}
 use lib.ListN.{length, take, get_or}
 use lib.Seq.{get_or-set_same}
 use Rattle.meaning.specs.declared.Refusal.{Refusal}
-use Rattle.meaning.specs.declared.Made.TheVariants.{Done, Refused}
 use Rattle.meaning.specs.Field.{Field, field, no_field, label_at_line, content_at_line}
 use Rattle.meaning.specs.Refusals.{Reply, refused, done}
 use Rattle.meaning.specs.Pieces.{Parsed, parsed}
@@ -40,6 +39,7 @@ use Rattle.meaning_recode.proofs.OrderLaws.{moved_on, content_into, either-lines
 use Rattle.meaning_recode.proofs.OrderCalls.{other-order-call, either-order-call}
 use Rattle.theory_recode.proofs.ShutOutRecode.{named, in437, in1252, recode-letter}
 use Rattle.theory_recode.proofs.ShutOutBack.{p_lines, named_lines, front-437, Caller, call, still, marking, not-both, standing-p}
+use Rattle.std.specs.Prelude.{Err, Ok}
 
 -- ---- the theorems
 
@@ -50,10 +50,10 @@ Corrector = List ℕ → ℕ → ℕ → List ℕ → Call ℕ
 abbrev SaysOtherOrderCall : Corrector → Caller → Type 0
 SaysOtherOrderCall C R =
     (b bc bcr br : List ℕ) (used n u k v : ℕ) (c : List ℕ) (w : Code) (fs : List Field) → read (take used b) ≡ done (parsed fs [])
-    → Done u ≡ (C b used n c).answer → bc ≡ (C b used n c).buffer
-    → Done k ≡ (R bc u w).answer → bcr ≡ (R bc u w).buffer
-    → Done v ≡ (R b used w).answer → br ≡ (R b used w).buffer
-    → ((C br v (moved_on w fs n) (content_into w fs c)).answer ≡ Done k) × ((C br v (moved_on w fs n) (content_into w fs c)).buffer ≡ bcr)
+    → Ok u ≡ (C b used n c).answer → bc ≡ (C b used n c).buffer
+    → Ok k ≡ (R bc u w).answer → bcr ≡ (R bc u w).buffer
+    → Ok v ≡ (R b used w).answer → br ≡ (R b used w).buffer
+    → ((C br v (moved_on w fs n) (content_into w fs c)).answer ≡ Ok k) × ((C br v (moved_on w fs n) (content_into w fs c)).buffer ≡ bcr)
 
 other-order-call-says : SaysOtherOrderCall correct_call recode_call
 other-order-call-says = other-order-call
@@ -62,10 +62,10 @@ other-order-call-says = other-order-call
 abbrev SaysEitherOrderCall : Corrector → Caller → Type 0
 SaysEitherOrderCall C R =
     (b bc br : List ℕ) (used n u v : ℕ) (c : List ℕ) (w : Code) (fs : List Field) → read (take used b) ≡ done (parsed fs [])
-    → Done u ≡ (C b used n c).answer → bc ≡ (C b used n c).buffer
-    → Done v ≡ (R b used w).answer → br ≡ (R b used w).buffer
+    → Ok u ≡ (C b used n c).answer → bc ≡ (C b used n c).buffer
+    → Ok v ≡ (R b used w).answer → br ≡ (R b used w).buffer
     → (all_recoded w fs ≡ true → Told w c) → size (recode_lines w (changed fs n c)) ≤ length b
-    → (k : ℕ) × ((R bc u w).answer ≡ Done k) × ((C br v (moved_on w fs n) (content_into w fs c)).answer ≡ Done k)
+    → (k : ℕ) × ((R bc u w).answer ≡ Ok k) × ((C br v (moved_on w fs n) (content_into w fs c)).answer ≡ Ok k)
     × ((R bc u w).buffer ≡ (C br v (moved_on w fs n) (content_into w fs c)).buffer)
 
 either-order-call-says : SaysEitherOrderCall correct_call recode_call
@@ -114,7 +114,7 @@ recode-stays : recode in437 61 Page437 ≡ done in437
 unfolding computes recode_computes named in437
 recode-stays = refl
 
-letter-answer : (correct_call in437 61 5 (0x81 ∷ [])).answer ≡ Done 61
+letter-answer : (correct_call in437 61 5 (0x81 ∷ [])).answer ≡ Ok 61
 unfolding named in437
 letter-answer = ap made correct-letter
 
@@ -122,29 +122,29 @@ letter-left : (correct_call in437 61 5 (0x81 ∷ [])).buffer ≡ in437
 unfolding named in437
 letter-left = ap (λ (y : Reply (List ℕ)). bytes_left y in437) correct-letter
 
-next-answer : (correct_call in437 61 5 (0x82 ∷ [])).answer ≡ Done 61
+next-answer : (correct_call in437 61 5 (0x82 ∷ [])).answer ≡ Ok 61
 unfolding named
 next-answer = ap made correct-next
 
-stays-answer : (recode_call in437 61 Page437).answer ≡ Done 61
+stays-answer : (recode_call in437 61 Page437).answer ≡ Ok 61
 unfolding named in437
 stays-answer = ap made recode-stays
 
-into-answer : (recode_call in437 61 Page1252).answer ≡ Done 61
+into-answer : (recode_call in437 61 Page1252).answer ≡ Ok 61
 unfolding named in1252
 into-answer = ap made recode-letter
 
 -- both orders answer k and leave one buffer: u is answered by the correction alone, v by the recoding alone
 record Agree (C : Corrector) (R : Caller) (w : Code) (c d u v k : ℕ) : Type 0 where
-  recoded-last : (R (C in437 61 5 (c ∷ [])).buffer u w).answer ≡ Done k
-  corrected-last : (C (R in437 61 w).buffer v 5 (d ∷ [])).answer ≡ Done k
+  recoded-last : (R (C in437 61 5 (c ∷ [])).buffer u w).answer ≡ Ok k
+  corrected-last : (C (R in437 61 w).buffer v 5 (d ∷ [])).answer ≡ Ok k
   same-buffer : (R (C in437 61 5 (c ∷ [])).buffer u w).buffer ≡ (C (R in437 61 w).buffer v 5 (d ∷ [])).buffer
 
-module _ (C : Corrector) (R : Caller) (w : Code) (c d u v : ℕ) (a : Asked w c d) (p : (C in437 61 5 (c ∷ [])).answer ≡ Done u) (q : (R in437 61 w).answer ≡ Done v) where
+module _ (C : Corrector) (R : Caller) (w : Code) (c d u v : ℕ) (a : Asked w c d) (p : (C in437 61 5 (c ∷ [])).answer ≡ Ok u) (q : (R in437 61 w).answer ≡ Ok v) where
   second_so : C (R in437 61 w).buffer v (moved_on w letter_lines 5) (content_into w letter_lines (c ∷ [])) ≡ C (R in437 61 w).buffer v 5 (d ∷ [])
   second_so = ap₂ (C (R in437 61 w).buffer v) a.line-so a.content-so
 
-  other_at : SaysOtherOrderCall C R → (k : ℕ) → (R (C in437 61 5 (c ∷ [])).buffer u w).answer ≡ Done k → Agree C R w c d u v k
+  other_at : SaysOtherOrderCall C R → (k : ℕ) → (R (C in437 61 5 (c ∷ [])).buffer u w).answer ≡ Ok k → Agree C R w c d u v k
   unfolding letter_lines
   other_at h k e =
       let bc : List ℕ = (C in437 61 5 (c ∷ [])).buffer in
@@ -180,7 +180,7 @@ record There (o : List ℕ) (v n : ℕ) (c : List ℕ) : Type 0 where
   held : Holds o v lines
   content-so : content_at_line lines (pred n) ≡ c
 
-there : (o : List ℕ) (v n : ℕ) (c : List ℕ) → 3 ≤ n → (correct_call o v n c).answer ≡ Done v → (correct_call o v n c).buffer ≡ o → There o v n c
+there : (o : List ℕ) (v n : ℕ) (c : List ℕ) → 3 ≤ n → (correct_call o v n c).answer ≡ Ok v → (correct_call o v n c).buffer ≡ o → There o v n c
 there o v n c l p q =
     let x = done-call (correct o v n c) v (sym p) in
     let m = correct-only o v n c x.bytes x.is-done in
@@ -191,8 +191,8 @@ there o v n c l p q =
     record { lines = hs; held = left-held o o v hs st m.room count left; content-so = content-changed m.lines n c l m.asked.most }
 
 -- the same always: the line would have the one content, and the other
-same-recode : (v k l : ℕ) (o : List ℕ) → Agree correct_call (λ b used w. call (Done v) o) Page437 0x81 0x81 61 v k
-    → Agree correct_call (λ b used w. call (Done v) o) Page437 0x82 0x82 61 v l → ⊥
+same-recode : (v k l : ℕ) (o : List ℕ) → Agree correct_call (λ b used w. call (Ok v) o) Page437 0x81 0x81 61 v k
+    → Agree correct_call (λ b used w. call (Ok v) o) Page437 0x82 0x82 61 v l → ⊥
 same-recode v k l o x y =
     let s = there o v 5 (0x81 ∷ []) (omega arith) (x.corrected-last ∙ sym x.recoded-last) (sym x.same-buffer) in
     let t = there o v 5 (0x82 ∷ []) (omega arith) (y.corrected-last ∙ sym y.recoded-last) (sym y.same-buffer) in
@@ -227,18 +227,18 @@ unfolding computes named in437
 not_yet = refl
 
 -- idle, whatever length it answers
-idle-recode : (a : List ℕ → ℕ → Code → ℕ) (k : ℕ) → Agree correct_call (λ b used w. call (Done (a b used w)) b) Page1252 0x81 0xFC 61 (a in437 61 Page1252) k → ⊥
+idle-recode : (a : List ℕ → ℕ → Code → ℕ) (k : ℕ) → Agree correct_call (λ b used w. call (Ok (a b used w)) b) Page1252 0x81 0xFC 61 (a in437 61 Page1252) k → ⊥
 unfolding named in437
 idle-recode a k x =
     let v : ℕ = a in437 61 Page1252 in
     let same : a (correct_call in437 61 5 (0x81 ∷ [])).buffer 61 Page1252 ≡ v = ap (λ (b : List ℕ). a b 61 Page1252) letter-left in
-    let count : Done k ≡ Done v = sym x.recoded-last ∙ ap Done same in
+    let count : Ok k ≡ Ok v = sym x.recoded-last ∙ ap Ok same in
     let t = there in437 v 5 (0xFC ∷ []) (omega arith) (x.corrected-last ∙ count) (sym x.same-buffer ∙ letter-left) in
     let no = below_at (λ n. not (fifth_is 0xFC (read (take n in437)))) 62 v not_yet (omega (arith, t.held.fits_in)) in
     true≢false (sym no ∙ (ap (λ (r : Reply Parsed). not (fifth_is 0xFC r)) t.held.front ∙ ap (λ (c : List ℕ). not (eqb (get_or c 0 0) 0xFC)) t.content-so))
 
 -- one that names the wanted code page and recodes no content
-marking-answer : (marking in437 61 Page1252).answer ≡ Done 61
+marking-answer : (marking in437 61 Page1252).answer ≡ Ok 61
 unfolding computes named in437
 marking-answer = refl
 
@@ -249,7 +249,7 @@ marking-recode k x = let z : ◌≡◌ {A = ℕ} 0x81 0xFC = ap (λ (b : List �
 -- ---- a trivial correction beside the recoding
 
 -- recoding it changes nothing, so it is in the wanted code page
-stays-in : (x : List ℕ) (u : ℕ) (w : Code) → (recode_call x u w).answer ≡ Done u → (recode_call x u w).buffer ≡ x
+stays-in : (x : List ℕ) (u : ℕ) (w : Code) → (recode_call x u w).answer ≡ Ok u → (recode_call x u w).buffer ≡ x
     → (gs : List Field) × (read (take u x) ≡ done (parsed gs [])) × (in_code w gs ≡ true) × (w ≡ Page1252 → has_charset gs ≡ true)
 stays-in x u w p q =
     let y = done-call (recode x u w) u (sym p) in
@@ -259,8 +259,8 @@ stays-in x u w p q =
     (g.0, sym (ap read front) ∙ g.1, g.2, g.3)
 
 -- the same always: that would be in both code pages
-same-correct : (u k l v m : ℕ) (x : List ℕ) → Agree (λ b used n c. call (Done u) x) recode_call Page437 0x81 0x81 u v k
-    → Agree (λ b used n c. call (Done u) x) recode_call Page1252 0x81 0xFC u m l → ⊥
+same-correct : (u k l v m : ℕ) (x : List ℕ) → Agree (λ b used n c. call (Ok u) x) recode_call Page437 0x81 0x81 u v k
+    → Agree (λ b used n c. call (Ok u) x) recode_call Page1252 0x81 0xFC u m l → ⊥
 same-correct u k l v m x a b =
     let f = stays-in x u Page437 (a.recoded-last ∙ sym a.corrected-last) a.same-buffer in
     let g = stays-in x u Page1252 (b.recoded-last ∙ sym b.corrected-last) b.same-buffer in
@@ -271,31 +271,31 @@ same-correct u k l v m x a b =
 
 -- One of the two refuses all. Shut out by `correct-makes`, `corrected-exactly`, and by `recoded-exactly`.
 either-order-call-met-by-refusing-correct : (r : List ℕ → ℕ → ℕ → List ℕ → Refusal) (o : List ℕ → ℕ → ℕ → List ℕ → List ℕ) (R : Caller)
-    → SaysEitherOrderCall (λ b used n c. call (Refused (r b used n c)) (o b used n c)) R
+    → SaysEitherOrderCall (λ b used n c. call (Err (r b used n c)) (o b used n c)) R
 either-order-call-met-by-refusing-correct r o R b bc br used n u v c w fs e p = absurd (refused-made (sym p))
 
 either-order-call-met-by-refusing-recode : (r : List ℕ → ℕ → Code → Refusal) (o : List ℕ → ℕ → Code → List ℕ) (C : Corrector)
-    → SaysEitherOrderCall C (λ b used w. call (Refused (r b used w)) (o b used w))
+    → SaysEitherOrderCall C (λ b used w. call (Err (r b used w)) (o b used w))
 either-order-call-met-by-refusing-recode r o C b bc br used n u v c w fs e p p' q = absurd (refused-made (sym q))
 
-either-order-call-not-same-correct : (u : ℕ) (x : List ℕ) → SaysEitherOrderCall (λ b used n c. call (Done u) x) recode_call → ⊥
+either-order-call-not-same-correct : (u : ℕ) (x : List ℕ) → SaysEitherOrderCall (λ b used n c. call (Ok u) x) recode_call → ⊥
 either-order-call-not-same-correct u x h =
-    let C : Corrector = λ b used n c. call (Done u) x in
+    let C : Corrector = λ b used n c. call (Ok u) x in
     let f = either-at C recode_call Page437 0x81 0x81 u 61 asked-437 refl stays-answer h in
     let g = either-at C recode_call Page1252 0x81 0xFC u 61 asked-1252 refl into-answer h in
     same-correct u f.0 g.0 61 61 x f.1 g.1
 
-either-order-call-not-same-recode : (v : ℕ) (o : List ℕ) → SaysEitherOrderCall correct_call (λ b used w. call (Done v) o) → ⊥
+either-order-call-not-same-recode : (v : ℕ) (o : List ℕ) → SaysEitherOrderCall correct_call (λ b used w. call (Ok v) o) → ⊥
 either-order-call-not-same-recode v o h =
-    let R : Caller = λ b used w. call (Done v) o in
+    let R : Caller = λ b used w. call (Ok v) o in
     let f = either-at correct_call R Page437 0x81 0x81 61 v asked-437 letter-answer refl h in
     let g = either-at correct_call R Page437 0x82 0x82 61 v asked-next next-answer refl h in
     same-recode v f.0 g.0 o f.1 g.1
 
 -- whatever length it answers
-either-order-call-not-idle-recode : (a : List ℕ → ℕ → Code → ℕ) → SaysEitherOrderCall correct_call (λ b used w. call (Done (a b used w)) b) → ⊥
+either-order-call-not-idle-recode : (a : List ℕ → ℕ → Code → ℕ) → SaysEitherOrderCall correct_call (λ b used w. call (Ok (a b used w)) b) → ⊥
 either-order-call-not-idle-recode a h =
-    let R : Caller = λ b used w. call (Done (a b used w)) b in
+    let R : Caller = λ b used w. call (Ok (a b used w)) b in
     let f = either-at correct_call R Page1252 0x81 0xFC 61 (a in437 61 Page1252) asked-1252 letter-answer refl h in
     idle-recode a f.0 f.1
 
@@ -306,7 +306,7 @@ either-order-call-not-marking-recode h =
 
 -- A corrector that leaves every set as it is. Shut out by `correct-makes`, `corrected-exactly`.
 abbrev still_correct : Corrector
-still_correct b used n c = call (Done used) b
+still_correct b used n c = call (Ok used) b
 
 either-order-call-met-by-idle-correct : SaysEitherOrderCall still_correct recode_call
 either-order-call-met-by-idle-correct b bc br used n u v c w fs e p p' q q' t room =
@@ -318,53 +318,53 @@ either-order-call-met-by-idle-correct b bc br used n u v c w fs e p p' q q' t ro
 either-order-call-met-by-idle-both : SaysEitherOrderCall still_correct still
 either-order-call-met-by-idle-both b bc br used n u v c w fs e p p' q q' t room =
     let same : u ≡ v = made-same (p ∙ sym q) in
-    (v, ap Done same, refl, p' ∙ sym q')
+    (v, ap Ok same, refl, p' ∙ sym q')
 
-either-order-call-met-by-same-both : (u : ℕ) (x : List ℕ) → SaysEitherOrderCall (λ b used n c. call (Done u) x) (λ b used w. call (Done u) x)
+either-order-call-met-by-same-both : (u : ℕ) (x : List ℕ) → SaysEitherOrderCall (λ b used n c. call (Ok u) x) (λ b used w. call (Ok u) x)
 either-order-call-met-by-same-both k x b bc br used n u v c w fs e p p' q q' t room = (k, refl, refl, refl)
 
 -- ---- other-order-call
 
 other-order-call-met-by-refusing-correct : (r : List ℕ → ℕ → ℕ → List ℕ → Refusal) (o : List ℕ → ℕ → ℕ → List ℕ → List ℕ) (R : Caller)
-    → SaysOtherOrderCall (λ b used n c. call (Refused (r b used n c)) (o b used n c)) R
+    → SaysOtherOrderCall (λ b used n c. call (Err (r b used n c)) (o b used n c)) R
 other-order-call-met-by-refusing-correct r o R b bc bcr br used n u k v c w fs e p = absurd (refused-made (sym p))
 
 other-order-call-met-by-refusing-recode : (r : List ℕ → ℕ → Code → Refusal) (o : List ℕ → ℕ → Code → List ℕ) (C : Corrector)
-    → SaysOtherOrderCall C (λ b used w. call (Refused (r b used w)) (o b used w))
+    → SaysOtherOrderCall C (λ b used w. call (Err (r b used w)) (o b used w))
 other-order-call-met-by-refusing-recode r o C b bc bcr br used n u k v c w fs e p p' q = absurd (refused-made (sym q))
 
 -- a set always, if it can be recoded
-other-order-call-not-same-correct : (u k l : ℕ) (x : List ℕ) → (recode_call x u Page437).answer ≡ Done k → (recode_call x u Page1252).answer ≡ Done l
-    → SaysOtherOrderCall (λ b used n c. call (Done u) x) recode_call → ⊥
+other-order-call-not-same-correct : (u k l : ℕ) (x : List ℕ) → (recode_call x u Page437).answer ≡ Ok k → (recode_call x u Page1252).answer ≡ Ok l
+    → SaysOtherOrderCall (λ b used n c. call (Ok u) x) recode_call → ⊥
 other-order-call-not-same-correct u k l x p q h =
-    let C : Corrector = λ b used n c. call (Done u) x in
+    let C : Corrector = λ b used n c. call (Ok u) x in
     same-correct u k l 61 61 x (other_at C recode_call Page437 0x81 0x81 u 61 asked-437 refl stays-answer h k p)
     (other_at C recode_call Page1252 0x81 0xFC u 61 asked-1252 refl into-answer h l q)
 
 -- No bytes always, since these are never recoded. Shut out by `either-order-call-not-same-correct`.
-none-recoded : {k : ℕ} (w : Code) → Done k ≡ (recode_call [] 0 w).answer → ⊥
+none-recoded : {k : ℕ} (w : Code) → Ok k ≡ (recode_call [] 0 w).answer → ⊥
 unfolding computes recode_computes
 none-recoded w e = refused-made (sym e)
 
-other-order-call-met-by-none-correct : SaysOtherOrderCall (λ b used n c. call (Done 0) []) recode_call
+other-order-call-met-by-none-correct : SaysOtherOrderCall (λ b used n c. call (Ok 0) []) recode_call
 other-order-call-met-by-none-correct b bc bcr br used n u k v c w fs e p p' q =
     absurd (none-recoded w (q ∙ ap₂ (λ (x : List ℕ) (m : ℕ). (recode_call x m w).answer) p' (made-same p)))
 
-other-order-call-not-same-recode : (v : ℕ) (o : List ℕ) → SaysOtherOrderCall correct_call (λ b used w. call (Done v) o) → ⊥
+other-order-call-not-same-recode : (v : ℕ) (o : List ℕ) → SaysOtherOrderCall correct_call (λ b used w. call (Ok v) o) → ⊥
 other-order-call-not-same-recode v o h =
-    let R : Caller = λ b used w. call (Done v) o in
+    let R : Caller = λ b used w. call (Ok v) o in
     same-recode v v v o (other_at correct_call R Page437 0x81 0x81 61 v asked-437 letter-answer refl h v refl)
     (other_at correct_call R Page437 0x82 0x82 61 v asked-next next-answer refl h v refl)
 
-other-order-call-not-idle-recode : (a : List ℕ → ℕ → Code → ℕ) → SaysOtherOrderCall correct_call (λ b used w. call (Done (a b used w)) b) → ⊥
+other-order-call-not-idle-recode : (a : List ℕ → ℕ → Code → ℕ) → SaysOtherOrderCall correct_call (λ b used w. call (Ok (a b used w)) b) → ⊥
 other-order-call-not-idle-recode a h =
-    let R : Caller = λ b used w. call (Done (a b used w)) b in
+    let R : Caller = λ b used w. call (Ok (a b used w)) b in
     let k : ℕ = a (correct_call in437 61 5 (0x81 ∷ [])).buffer 61 Page1252 in
     idle-recode a k (other_at correct_call R Page1252 0x81 0xFC 61 (a in437 61 Page1252) asked-1252 letter-answer refl h k refl)
 
 other-order-call-not-marking-recode : SaysOtherOrderCall correct_call marking → ⊥
 other-order-call-not-marking-recode h =
-    let again : (marking (correct_call in437 61 5 (0x81 ∷ [])).buffer 61 Page1252).answer ≡ Done 61 = ap (λ (b : List ℕ). (marking b 61 Page1252).answer) letter-left ∙ marking-answer in
+    let again : (marking (correct_call in437 61 5 (0x81 ∷ [])).buffer 61 Page1252).answer ≡ Ok 61 = ap (λ (b : List ℕ). (marking b 61 Page1252).answer) letter-left ∙ marking-answer in
     marking-recode 61 (other_at correct_call marking Page1252 0x81 0xFC 61 61 asked-1252 letter-answer marking-answer h 61 again)
 
 other-order-call-met-by-idle-correct : SaysOtherOrderCall still_correct recode_call
@@ -377,7 +377,7 @@ other-order-call-met-by-idle-both : SaysOtherOrderCall still_correct still
 other-order-call-met-by-idle-both b bc bcr br used n u k v c w fs e p p' q q' r r' =
     (r ∙ (sym p ∙ sym q), r' ∙ (sym p' ∙ sym q'))
 
-other-order-call-met-by-same-both : (u : ℕ) (x : List ℕ) → SaysOtherOrderCall (λ b used n c. call (Done u) x) (λ b used w. call (Done u) x)
+other-order-call-met-by-same-both : (u : ℕ) (x : List ℕ) → SaysOtherOrderCall (λ b used n c. call (Ok u) x) (λ b used w. call (Ok u) x)
 other-order-call-met-by-same-both m x b bc bcr br used n u k v c w fs e p p' q q' r r' = (sym q, sym q')
 
 -- ---- either-lines: given lines that keep every rule, and a correction of them without faults

@@ -3,24 +3,25 @@
 // what it means.
 #![tactic(auto)]
 
-ghost use Rattle.std.specs.Prelude.{◌≡◌};
+ghost use Rattle.std.specs.Prelude.{◌≡◌, Err, Ok};
 ghost use Rattle.meaning.specs.Refusals.{refusal};
 ghost use Rattle.meaning.specs.Reading.{judge};
 ghost use Rattle.meaning.specs.Views as Views;
 ghost use Rattle.view.specs.Alone.{shown_alone};
 
-use meaning::{Judged, Refusal, Shape, Viewed};
+use meaning::{Refusal, Shape, Shown};
 
 // A refusal that concerns the set: "the label 0, unless said otherwise".
-fn refused_view(no: usize, place: usize) -> Viewed
-    ensures { result ≡ Viewed.Refused (refusal no place 0) }
+fn refused_view(no: usize, place: usize) -> Result<Shown, Refusal>
+    ensures { result ≡ Err (refusal no place 0) }
 {
-    Viewed::Refused(Refusal::at(no, place))
+    Err(Refusal::at(no, place))
 }
 
+// The set and its shape come as two values: with an `AcceptedSet` in their place a view of P took 0.972 of the second program's instructions, and 0.97 is the most.
 // A view of an accepted set: "the set alone must fill its slice (18). Order: set, 18, the asked line (19), then each sheet entry".
-fn shown_alone(set: &[u8], shape: Shape, sheet: &[u8], line: usize) -> Viewed
-    requires { judge set.now ≡ Judged.Accepted shape }
+fn shown_alone(set: &[u8], shape: Shape, sheet: &[u8], line: usize) -> Result<Shown, Refusal>
+    requires { judge set.now ≡ Ok shape }
     ensures { result ≡ shown_alone set.now shape sheet.now line }
 {
     // 18, BadUse: "another set follows (place: first set's length)"
@@ -38,14 +39,12 @@ fn shown_alone(set: &[u8], shape: Shape, sheet: &[u8], line: usize) -> Viewed
 }
 
 // What a view of a line shows, given the set and a sheet of pending corrections.
-pub fn viewed(set: &[u8], sheet: &[u8], line: usize) -> Viewed
+pub fn viewed(set: &[u8], sheet: &[u8], line: usize) -> Result<Shown, Refusal>
     ensures { result ≡ Views.viewed set.now sheet.now line }
 {
     // Lent anew: a slice that is handed on as it came is copied in one piece just after it was made of two, and the processor waits for that.
-    match judge::judge(&set[..]) {
-        Judged::Refused(r) => Viewed::Refused(r),
-        Judged::Accepted(shape) => shown_alone(set, shape, sheet, line),
-    }
+    let shape = judge::judge(&set[..])?;
+    shown_alone(set, shape, sheet, line)
 }
 
 // The part itself; "a refusal comes with an empty part of the set". It judges the set itself, as `viewed` does: so `shown_alone`, which needs a large frame, stays a function of its own, and
@@ -54,9 +53,7 @@ pub fn view<'a>(set: &'a [u8], sheet: &'a [u8], line: usize) -> &'a [u8]
     ensures { result.now ≡ Views.view set.now sheet.now line }
 {
     match judge::judge(set) {
-        Judged::Refused(_) => &set[0..0],
-        Judged::Accepted(shape) => {
-            view_part::shown_bytes(set, sheet, shown_alone(set, shape, sheet, line))
-        }
+        Err(_) => &set[0..0],
+        Ok(shape) => { view_part::shown_bytes(set, sheet, shown_alone(set, shape, sheet, line)) }
     }
 }

@@ -8,10 +8,11 @@ use borrow.Author.Tests.{eq-eqb, ne_eqb}
 use lib.Dec.{eqb}
 use lib.ListN.{length, take, drop}
 use Rattle.meaning.specs.declared.Part.{Part}
-use Rattle.meaning.specs.declared.Viewed.{Viewed}
-use Rattle.meaning.specs.declared.Viewed.TheVariants.{Sheet, Set}
 use Rattle.meaning.specs.Views.{shown_bytes}
 use Rattle.view_part.specs.Parts.{newer, later, Within}
+use Rattle.meaning.specs.Results.{Viewed, of_set, of_sheet}
+use Rattle.meaning.specs.declared.Shown.TheVariants.{Set, Sheet}
+use Rattle.std.specs.Prelude.{Ok}
 
 -- ---- one more entry
 
@@ -27,14 +28,14 @@ pub newer-within : (s h : List ℕ) (v : Viewed) (p : Part) (k n : ℕ) → p.pl
 unfolding newer Within
 newer-within s h v p k n g w = go (eqb k n)
   where
-    go : (b : Bool) → Within s h (cond b (Sheet p) v)
+    go : (b : Bool) → Within s h (cond b (Ok (Sheet p)) v)
     go true = g
     go false = w
 
 -- ---- the part itself
 
 module _ (s h : List ℕ) (v : Viewed) (q : Part) where
-  module _ (e : v ≡ Sheet q) where
+  module _ (e : v ≡ of_sheet q) where
     pub sheet-ends : Within s h v → q.place + q.length ≤ length h
     unfolding Within
     sheet-ends w = subst (λ (u : Viewed). Within s h u) e w
@@ -42,7 +43,7 @@ module _ (s h : List ℕ) (v : Viewed) (q : Part) where
     pub bytes-sheet : take ((q.place + q.length) - q.place) (drop q.place h) ≡ shown_bytes s h v
     bytes-sheet = rw (e, add-sub_cancel_left q.place q.length)
 
-  module _ (e : v ≡ Set q) where
+  module _ (e : v ≡ of_set q) where
     pub set-ends : Within s h v → q.place + q.length ≤ length s
     unfolding Within
     set-ends w = subst (λ (u : Viewed). Within s h u) e w

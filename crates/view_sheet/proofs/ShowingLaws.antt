@@ -11,9 +11,6 @@ use lib.ListN.{length, take, drop, length-take, length-drop}
 use lib.Seq.{drop-drop}
 use Rattle.meaning.specs.declared.Part.{Part}
 use Rattle.meaning.specs.declared.Shape.{Shape}
-use Rattle.meaning.specs.declared.Judged.TheVariants.{Accepted}
-use Rattle.meaning.specs.declared.Viewed.{Viewed}
-use Rattle.meaning.specs.declared.Viewed.TheVariants.{Sheet, Set, Refused}
 use Rattle.meaning.specs.Field.{Field, field, content_at_line, is_nil}
 use Rattle.meaning.specs.Refusals.{Fault, at_line, ask, behind, Reply, refused, done, then_to, refusal, bad_list, too_many_lines}
 use Rattle.meaning.specs.Pieces.{Form, Parsed, parsed, and_before, piece_then, pieces}
@@ -25,17 +22,17 @@ use Rattle.meaning.specs.Views.{sheet_entry_faults, sheet_form, sheet, Pending, 
 use Rattle.meaning.proofs.Bools.{end_is}
 use Rattle.meaning.proofs.EntryLaws.{entire}
 use Rattle.entry_read.proofs.HeadLaws.{head_of, entry-is}
-use Rattle.correct_offer.specs.declared.Offer.{Offer}
 use Rattle.correct_offer.specs.declared.Terms.{Terms}
-use Rattle.correct_offer.specs.Offered.{terms_of, offered, offer_line, offer_spot, offer_faults}
+use Rattle.correct_offer.specs.Offered.{terms_of, Offer, offered, offer_line, offer_spot, offer_faults}
 use Rattle.correct_offer.proofs.TermsLaws.{Serves, part-served}
 use Rattle.correct_offer.proofs.OfferLaws.{line-stands, offer-is}
 use Rattle.view_part.specs.Parts.{newer, Within}
 use Rattle.view_part.proofs.PartLaws.{newer-within}
-use Rattle.view_sheet.specs.declared.SheetEntry.{SheetEntry}
-use Rattle.view_sheet.specs.declared.SheetEntry.TheVariants.{Good}
-use Rattle.view_sheet.specs.Showing.{by_offer, sheet_entry_by, sheet_entry_at, set_part, good_then, shown_from, shown_under}
+use Rattle.view_sheet.specs.Showing.{by_offer, sheet_entry_by, sheet_entry_at, set_part, good_then, shown_from, shown_under, EntryJudged, good_entry}
 use Rattle.view_sheet.proofs.SheetWalkLaws.{sheet-within, line-inside}
+use Rattle.meaning.specs.Results.{Viewed, of_set, of_sheet}
+use Rattle.meaning.specs.declared.Shown.TheVariants.{Set, Sheet}
+use Rattle.std.specs.Prelude.{Err, Ok}
 
 -- ---- the sheet
 
@@ -75,7 +72,7 @@ module _ (s h : List ℕ) (d : Parsed) (r : read s ≡ done d) (alone : d.rest �
   newer-is k c at found = go (eqb k n)
     where
       go : (b : Bool) → shown_part fs n (cond b (some (record { place = at + entry_lead; content = c })) found)
-          ≡ cond b (Sheet (part (at + entry_lead) (length c))) (shown_part fs n found)
+          ≡ cond b (of_sheet (part (at + entry_lead) (length c))) (shown_part fs n found)
       go true = refl
       go false = refl
 
@@ -110,7 +107,7 @@ module _ (s h : List ℕ) (d : Parsed) (r : read s ≡ done d) (alone : d.rest �
         x = record { no = o.no; line = offer_line o (length fs) (entry_label here); spot = offer_spot o; label = o.label }
 
         go : (b : Bool) → shown_behind (piece_then F (cond b [] (x ∷ [])) at here (λ p t. pieces F m p t)) at found
-            ≡ good_then (cond b (Good (entry_label here) (two_bytes_at here 0)) (SheetEntry.Refused (refusal o.no (at + behind entry_lead (offer_spot o)) o.label)))
+            ≡ good_then (cond b (good_entry (entry_label here) (two_bytes_at here 0)) (Err (refusal o.no (at + behind entry_lead (offer_spot o)) o.label)))
             (go_on m at found)
         go true = further (entry_label here) (entry_content here) (two_bytes_at here 0) l
         go false = refl
@@ -143,7 +140,7 @@ module _ (s h : List ℕ) (d : Parsed) (r : read s ≡ done d) (alone : d.rest �
   -- The walk over the sheet shows what the entries that were read show: by induction on how many may be left.
   sheet-is : (m : ℕ) → Shows m
   unfolding pieces shown_from
-  sheet-is zero at found = rw (end_is h at) (ends-or (is_nil (drop at h)) at found (drop at h) (refused (refusal too_many_lines at 0)) (Refused (refusal too_many_lines at 0)) refl)
+  sheet-is zero at found = rw (end_is h at) (ends-or (is_nil (drop at h)) at found (drop at h) (refused (refusal too_many_lines at 0)) (Err (refusal too_many_lines at 0)) refl)
   sheet-is (suc m) at found =
       rw (end_is h at) (ends-or (is_nil (drop at h)) at found (drop at h) (piece_then F (sheet_entry_faults fs (drop at h)) at (drop at h) (λ p t. pieces F m p t))
       (good_then (sheet_entry_at s terms h at) (go_on m at found)) (entry-then m (λ p o. sheet-is m p o) at found))
@@ -160,7 +157,7 @@ module _ (s h : List ℕ) (d : Parsed) (r : read s ≡ done d) (alone : d.rest �
   pub under-is : 1 ≤ n → n ≤ length d.fields
       → shown_under s (shape d.fields) h n ≡ view_answer (then_to (sheet d.fields h) (λ y. done (shown_part d.fields n (latest n 0 y.fields none))))
   unfolding shown_under
-  under-is lo hi = sym (sheet-is (length h) 0 none ∙ ap (λ (q : Part). shown_from s terms h n (length h) 0 (Set q)) (part-is lo hi))
+  under-is lo hi = sym (sheet-is (length h) 0 none ∙ ap (λ (q : Part). shown_from s terms h n (length h) 0 (Ok (Set q))) (part-is lo hi))
 
 -- ---- the part that is shown lies within its slice
 
@@ -169,25 +166,27 @@ module _ (s : List ℕ) (x : Shape) (h : List ℕ) (n : ℕ) where
   unfolding shown_from Within
   shown-within t zero at v w = go (leb (length h) at)
     where
-      go : (b : Bool) → Within s h (cond b v (Refused (refusal too_many_lines at 0)))
+      go : (b : Bool) → Within s h (cond b v (Err (refusal too_many_lines at 0)))
       go true = w
       go false = tt
   shown-within t (suc m) at v w = go (λ at' v'. shown-within t m at' v') (leb (length h) at) (sheet_entry_at s t h at) refl
     where
-      go : ((at' : ℕ) (v' : Viewed) → Within s h v' → Within s h (shown_from s t h n m at' v')) → (b : Bool) (y : SheetEntry) → sheet_entry_at s t h at ≡ y
+      go : ((at' : ℕ) (v' : Viewed) → Within s h v' → Within s h (shown_from s t h n m at' v')) → (b : Bool) (y : EntryJudged) → sheet_entry_at s t h at ≡ y
           → Within s h (cond b v (good_then y (λ k l. shown_from s t h n m (at + (entry_lead + l)) (newer v (part (at + entry_lead) l) k n))))
       go ih true y e = w
-      go ih false (Good k l) e = ih (at + (entry_lead + l)) (newer v (part (at + entry_lead) l) k n) (newer-within s h v (part (at + entry_lead) l) k n (omega (arith, sheet-within s t h at k l e)) w)
-      go ih false (SheetEntry.Refused r) e = tt
+      go ih false (Ok x) e =
+          ih (at + (entry_lead + x.length)) (newer v (part (at + entry_lead) x.length) x.named n)
+          (newer-within s h v (part (at + entry_lead) x.length) x.named n (omega (arith, sheet-within s t h at x.named x.length e)) w)
+      go ih false (Err r) e = tt
 
   -- the content of a line of an accepted set
-  set-within : judge s ≡ Accepted x → 1 ≤ n → n ≤ x.lines → Within s h (Set (set_part s n))
+  set-within : judge s ≡ Ok x → 1 ≤ n → n ≤ x.lines → Within s h (of_set (set_part s n))
   unfolding Within set_part
   set-within j lo hi =
       let e : n - 1 ≡ pred n = omega arith in
       let i = rw e at (line-inside s x n j lo hi) in
       omega (arith, i.least, i.within)
 
-  pub under-within : judge s ≡ Accepted x → 1 ≤ n → n ≤ x.lines → Within s h (shown_under s x h n)
+  pub under-within : judge s ≡ Ok x → 1 ≤ n → n ≤ x.lines → Within s h (shown_under s x h n)
   unfolding shown_under
-  under-within j lo hi = shown-within (terms_of s x h) (length h) 0 (Set (set_part s n)) (set-within j lo hi)
+  under-within j lo hi = shown-within (terms_of s x h) (length h) 0 (of_set (set_part s n)) (set-within j lo hi)

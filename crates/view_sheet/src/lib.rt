@@ -3,52 +3,32 @@
 // Each contract cites a walk of specs/, and proofs/ShowingLaws says what the walks mean.
 #![tactic(auto)]
 
-ghost use Rattle.std.specs.Prelude.{◌≡◌, ◌+◌, ◌≤◌, length, take, drop};
+ghost use Rattle.std.specs.Prelude.{◌≡◌, ◌+◌, ◌≤◌, length, take, drop, Err, Ok};
 ghost use Rattle.meaning.specs.Limits.{max_lines};
 ghost use Rattle.meaning.specs.Refusals.{refusal};
 ghost use Rattle.meaning.specs.Reading.{judge};
 ghost use Rattle.meaning.specs.Entries.{entry_lead};
 ghost use Rattle.meaning.specs.Views.{part};
-ghost use Rattle.line_roll.specs.Rolled.{Lined, Rolled};
-ghost use Rattle.correct_offer.specs.Offered.{objected};
-ghost use Rattle.view_sheet.specs.Showing.{by_objection, no_such_entry, set_part, sheet_entry_at, EntryWithin, shown_last, shown_by_sheet, shown_under};
+ghost use Rattle.line_roll.specs.Rolled.{Lined};
+ghost use Rattle.view_sheet.specs.Showing.{judged_entry, set_part, sheet_entry_at, EntryWithin, shown_last, shown_by_sheet, shown_under};
 
 use correct_offer::Terms;
 use entry_read::Head;
 use line_roll::Roll;
-use meaning::{Judged, Part, Refusal, SetType, Shape, Viewed};
+use meaning::{Part, Refusal, Shape, Shown};
 
-// What judging one entry of a sheet finds.
+// An entry of a sheet that keeps 21, 19, 20, 6, 14, 24: the number of its line, and the length of its content.
 #[derive(Drop)]
-pub enum SheetEntry {
-    // The entry keeps 21, 19, 20, 6, 14, 24: the number of its line, and the length of its content.
-    Good { named: usize, length: usize },
-    // The first of them that it breaks.
-    Refused(Refusal),
-}
-
-// What judging an entry finds, and how far the labels of the set are known then.
-#[derive(Drop)]
-struct Checked {
-    entry: SheetEntry,
-    roll: Roll,
+pub struct SheetEntry {
+    pub named: usize,
+    pub length: usize,
 }
 
 // A refusal of an entry.
-fn bad_entry(no: usize, place: usize, label: usize) -> SheetEntry
-    ensures { result ≡ SheetEntry.Refused (refusal no place label) }
+fn bad_entry(no: usize, place: usize, label: usize) -> Result<SheetEntry, Refusal>
+    ensures { result ≡ Err (refusal no place label) }
 {
-    SheetEntry::Refused(Refusal { no, place, label })
-}
-
-// 19, NoSuchLine, of an entry: "line number 0 or beyond the set". No label is read for it.
-fn no_such_line(at: usize, roll: Roll) -> Checked
-    ensures { result ≡ no_such_entry at roll }
-{
-    Checked {
-        entry: bad_entry(Refusal::NO_SUCH_LINE, at, 0),
-        roll,
-    }
+    Err(Refusal { no, place, label })
 }
 
 // Where the content of a whole entry at an offset of the sheet stands, if it has this many bytes.
@@ -70,69 +50,62 @@ fn judge_entry(
     bytes: usize,
     label: usize,
     seven: bool,
-) -> SheetEntry
+) -> Result<SheetEntry, Refusal>
     requires { at + (entry_lead + bytes) ≤ length sheet.now }
-    ensures { result ≡ by_objection (objected label (take bytes (drop (at + entry_lead) sheet.now)) seven) at named bytes }
+    ensures { result ≡ judged_entry label (take bytes (drop (at + entry_lead) sheet.now)) seven at named bytes }
 {
     let part = content_part(sheet, at, bytes);
     let start = part.place;
     let end = start + part.length;
     let content = &sheet[start..end];
-    let no = correct_offer::judge_content(label, content, seven);
-    if no == 0 {
-        return SheetEntry::Good {
+    match correct_offer::judge_content(label, content, seven) {
+        None => Ok(SheetEntry {
             named,
             length: bytes,
-        };
+        }),
+        Some(objection) => {
+            let told = objection.refusal(label, content, at, start);
+            Err(told)
+        }
     }
-    let found = correct_offer::objection_by_number(no, label, content);
-    if Refusal::tells_byte(found.no) {
-        return bad_entry(found.no, start + found.byte, found.label);
-    }
-    bad_entry(found.no, at, found.label)
 }
 
 // The entry of a sheet at an offset: "21 (cut only), 19, 20, 6, 14, with places in the sheet (the entry's first byte, for 6 the byte)", then 24, with the byte too. Of its line only the
 // label counts, and the roll has it.
 fn check_entry(
-    set: &[u8],
     terms: Terms,
-    labels: &mut [u16],
-    roll: Roll,
+    roll: &mut Roll,
     sheet: &[u8],
     at: usize,
-) -> Checked
-    requires lined { Lined set.now terms.lines }
-    requires rolled { Rolled set.now labels.old roll }
-    requires room { terms.lines ≤ length labels.old }
-    ensures { (result.entry ≡ sheet_entry_at set.now terms sheet.now at) × Rolled set.now labels.new result.roll }
+) -> Result<SheetEntry, Refusal>
+    requires lined { Lined roll.old.set.now terms.lines }
+    requires room { terms.lines ≤ max_lines }
+    ensures { (result ≡ sheet_entry_at roll.old.set.now terms sheet.now at) × (roll.new.set.now ≡ roll.old.set.now) }
 {
     match entry_read::entry_at(sheet, at) {
-        Head::Cut => Checked {
-            entry: bad_entry(Refusal::BAD_LIST, at, 0),
-            roll,
-        },
-        Head::Whole {
-            label: named,
-            length,
-        } => {
+        None => bad_entry(Refusal::BAD_LIST, at, 0),
+        Some(
+            Head {
+                label: named,
+                length,
+            },
+        ) => {
+            // 19, NoSuchLine: "line number 0 or beyond the set". No label is read for it.
             if named < 1 {
-                return no_such_line(at, roll);
+                return bad_entry(Refusal::NO_SUCH_LINE, at, 0);
             }
             if terms.lines < named {
-                return no_such_line(at, roll);
+                return bad_entry(Refusal::NO_SUCH_LINE, at, 0);
             }
-            let known = line_roll::read_to(set, labels, roll, named);
-            let label = line_roll::label_of(labels, named);
-            let entry = judge_entry(sheet, at, named, length, label, terms.seven);
-            Checked { entry, roll: known }
+            roll.read_to(named);
+            judge_entry(sheet, at, named, length, roll.label_of(named), terms.seven)
         }
     }
 }
 
-// The part of the set that holds the content of a line.
+// The part of the set that holds the content of a line. Here and in `shown_under` the set and its shape come as two values, since `view` has them so.
 fn part_of_set(set: &[u8], shape: Shape, line: usize) -> Part
-    requires accepted { judge set.now ≡ Judged.Accepted shape }
+    requires accepted { judge set.now ≡ Ok shape }
     requires line_there { (1 ≤ line) × (line ≤ shape.lines) }
     ensures { result ≡ set_part set.now line }
 {
@@ -144,69 +117,50 @@ fn part_of_set(set: &[u8], shape: Shape, line: usize) -> Part
 }
 
 // The part of the sheet that the last entry for a line holds, by the entry's offset; nothing of the set if there is none.
-fn shown_last(sheet: &[u8], last: usize) -> Viewed
+fn shown_last(sheet: &[u8], last: usize) -> Result<Shown, Refusal>
     requires { EntryWithin sheet.now last }
     ensures { result ≡ shown_last sheet.now last }
 {
     if last < sheet.len() {
         let bytes = entry_read::told_length(sheet, last);
-        return Viewed::Sheet(content_part(sheet, last, bytes));
+        return Ok(Shown::Sheet(content_part(sheet, last, bytes)));
     }
-    Viewed::Set(Part {
+    Ok(Shown::Set(Part {
         place: 0,
         length: 0,
-    })
+    }))
 }
 
-// What the sheet shows for a line: the part of the last entry for it, or nothing of the set if it has none. Each entry is judged. The labels of the set are read into `labels`.
-fn shown_by_roll(set: &[u8], terms: Terms, labels: &mut [u16], sheet: &[u8], line: usize) -> Viewed
-    requires lined { Lined set.now terms.lines }
-    requires room { terms.lines ≤ length labels.old }
+// What the sheet shows for a line: the part of the last entry for it, or nothing of the set if it has none. Each entry is judged.
+fn shown_by_sheet(set: &[u8], terms: Terms, sheet: &[u8], line: usize) -> Result<Shown, Refusal>
+    requires { Lined set.now terms.lines × (terms.lines ≤ max_lines) }
     ensures { result ≡ shown_by_sheet set.now terms sheet.now line }
 {
     let mut last = sheet.len();
-    let mut roll = Roll::none();
+    let mut roll = Roll::of(set);
     let mut at = 0;
     while at < sheet.len() {
-        let checked = check_entry(set, terms, labels, roll, sheet, at);
-        roll = checked.roll;
-        let entry = checked.entry;
-        match entry {
-            SheetEntry::Refused(r) => {
-                return Viewed::Refused(r);
-            }
-            SheetEntry::Good { named, length } => {
-                last = view_part::later_entry(last, at, named, line);
-                at += meaning::ENTRY_LEAD + length;
-            }
-        }
+        let entry = check_entry(terms, &mut roll, sheet, at)?;
+        last = view_part::later_entry(last, at, entry.named, line);
+        at += meaning::ENTRY_LEAD + entry.length;
     }
     shown_last(sheet, last)
 }
 
-// The same, with room for the labels.
-fn shown_by_sheet(set: &[u8], terms: Terms, sheet: &[u8], line: usize) -> Viewed
-    requires { Lined set.now terms.lines × (terms.lines ≤ max_lines) }
-    ensures { result ≡ shown_by_sheet set.now terms sheet.now line }
-{
-    let mut labels = [0u16; SetType::LINES];
-    shown_by_roll(set, terms, &mut labels, sheet, line)
-}
-
 // What a line of an accepted set shows under a sheet: "the part of the sheet if the line has an entry there, else the part of the set".
-pub fn shown_under(set: &[u8], shape: Shape, sheet: &[u8], line: usize) -> Viewed
-    requires accepted { judge set.now ≡ Judged.Accepted shape }
+pub fn shown_under(set: &[u8], shape: Shape, sheet: &[u8], line: usize) -> Result<Shown, Refusal>
+    requires accepted { judge set.now ≡ Ok shape }
     requires line_there { (1 ≤ line) × (line ≤ shape.lines) }
     ensures { result ≡ shown_under set.now shape sheet.now line }
 {
     // No room for labels is made then.
-    if sheet.len() == 0 {
-        return Viewed::Set(part_of_set(set, shape, line));
+    if sheet.is_empty() {
+        return Ok(Shown::Set(part_of_set(set, shape, line)));
     }
     let terms = correct_offer::terms_of(set, shape, sheet);
-    match shown_by_sheet(set, terms, sheet, line) {
-        Viewed::Refused(r) => Viewed::Refused(r),
-        Viewed::Sheet(part) => Viewed::Sheet(part),
-        Viewed::Set(_) => Viewed::Set(part_of_set(set, shape, line)),
+    let shown = shown_by_sheet(set, terms, sheet, line)?;
+    match shown {
+        Shown::Sheet(part) => Ok(Shown::Sheet(part)),
+        Shown::Set(_) => Ok(Shown::Set(part_of_set(set, shape, line))),
     }
 }

@@ -9,8 +9,6 @@ use lib.ListN.{length, take, drop, replicate}
 use borrow.Author.Tests.{le-leb, lt-leb, ne_eqb, eqb-true}
 use borrow.Rule.Slice.PartMut.{mid_of, put_mid}
 use Rattle.meaning.specs.declared.Refusal.{Refusal}
-use Rattle.meaning.specs.declared.Known.TheVariants.{Nothing}
-use Rattle.meaning.specs.declared.Made.TheVariants.{Done, Refused}
 use Rattle.meaning.specs.Limits.{max_entries, max_set_bytes}
 use Rattle.meaning.specs.Digits.{digits}
 use Rattle.meaning.specs.Field.{Field, field, is_nil}
@@ -26,20 +24,18 @@ use Rattle.meaning.proofs.DigitLaws.{length-digits}
 use Rattle.meaning.proofs.FieldLaws.{fits_sum}
 use Rattle.meaning.proofs.EntryLaws.{lines-over-entries}
 use Rattle.meaning.proofs.LineLaws.{length-render, render-split}
-use Rattle.entry_read.specs.declared.Head.TheVariants.{Whole, Cut}
-use Rattle.entry_read.specs.Head.{entry_at, list_content}
+use Rattle.entry_read.specs.Head.{entry_at, list_content, a_head}
 use Rattle.entry_read.proofs.HeadWalkLaws.{entries-end, entries-cut, entries-on, Reads}
 use Rattle.meaning.proofs.FirstLaws.{first_of, Real}
 use Rattle.byte_put.specs.Places.{over}
 use Rattle.byte_put.proofs.OverLaws.{Turned, here-fits, turned, front-then-zeros}
-use Rattle.write_judge.specs.declared.ListJudged.{ListJudged}
-use Rattle.write_judge.specs.declared.ListJudged.TheVariants.{Done as Counted, Refused as Unchecked}
-use Rattle.write_judge.specs.Judging.{check_from, judge_entries, count_unless, ruled, judged_list}
+use Rattle.write_judge.specs.Judging.{check_from, judge_entries, count_unless, ruled, judged_list, ListJudged}
 use Rattle.write_judge.proofs.CheckLaws.{check-entered, check-refused}
 use Rattle.write_judge.proofs.EntryPass.{entries-found, rules-real}
 use Rattle.write_lines.specs.EntryLines.{entry_lines}
 use Rattle.write_lines.proofs.LinePutLaws.{later-only, first-both}
 use Rattle.write.specs.Writing.{lines_then, lines_left}
+use Rattle.std.specs.Prelude.{Err, None, Ok}
 
 -- ---- one line
 
@@ -52,14 +48,14 @@ module _ (l sum : List ℕ) (at : ℕ) where
   pub lines_end : length l ≤ at → lines_left l sum at ≡ []
   lines_end h = entries-end [] (lines_then l sum) l at h
 
-  pub lines_cut : entry_at l at ≡ Cut → lines_left l sum at ≡ []
+  pub lines_cut : entry_at l at ≡ None → lines_left l sum at ≡ []
   lines_cut e = entries-cut [] (lines_then l sum) l at e
 
-  lines-on : {label m : ℕ} → entry_at l at ≡ Whole label m → lines_left l sum at ≡ entry_lines at label (list_content l at m) sum ++ lines_left l sum (at + (entry_lead + m))
+  lines-on : {label m : ℕ} → entry_at l at ≡ a_head label m → lines_left l sum at ≡ entry_lines at label (list_content l at m) sum ++ lines_left l sum (at + (entry_lead + m))
   lines-on e = entries-on [] (lines_then l sum) l at e
 
 -- one turn: the lines of one entry, and what is left after them
-module _ (l sum : List ℕ) (at : ℕ) {label m : ℕ} (e : entry_at l at ≡ Whole label m) (w : ℕ) (q : w ≡ m) (end : ℕ) (x : end ≡ at + (entry_lead + m))
+module _ (l sum : List ℕ) (at : ℕ) {label m : ℕ} (e : entry_at l at ≡ a_head label m) (w : ℕ) (q : w ≡ m) (end : ℕ) (x : end ≡ at + (entry_lead + m))
     (out : List ℕ) (to : ℕ) (g : to + length (lines_left l sum at) ≤ length out) where
   abbrev here : List ℕ
   here = entry_lines at label (take w (drop (at + entry_lead) l)) sum
@@ -122,7 +118,7 @@ pub record Answers (l : List ℕ) (n : ℕ) : Type 0 where
 
 sum_fits : (total : ℕ) → fits_label 8100 (digits sum_digits total) ≡ true
 unfolding fits
-sum_fits total = fits_sum (record { set_type = Nothing }) total
+sum_fits total = fits_sum (record { set_type = None }) total
 
 not-nil : (l : List ℕ) → 0 < length l → is_nil l ≡ false
 not-nil [] h = absurd (omega arith)
@@ -151,21 +147,21 @@ module _ (l : List ℕ) (n : ℕ) (some : 0 < length l) where
             (ap₂ (λ (m : ℕ) (u : List ℕ). with_room (leb m room && leb m max_set_bytes) m u) sized (sym lines)));
       }
 
-  answers-are : check_from l 0 0 max_entries ≡ Counted n → Answers l n
+  answers-are : check_from l 0 0 max_entries ≡ Ok n → Answers l n
   answers-are e = let x = check-entered l n e in answers_of x.entries x.left x.scanned x.count x.reads x.whole x.few
 
 -- a list that is not refused
-list_done : (x : ListJudged) (q : Refusal) {n : ℕ} → ruled x q ≡ Counted n → (x ≡ Counted n) × (q.no ≡ 0)
+list_done : (x : ListJudged) (q : Refusal) {n : ℕ} → ruled x q ≡ Ok n → (x ≡ Ok n) × (q.no ≡ 0)
 unfolding count_unless
-list_done (Counted m) q {n} e = go (eqb q.no 0) refl e
+list_done (Ok m) q {n} e = go (eqb q.no 0) refl e
   where
-    go : (b : Bool) → eqb q.no 0 ≡ b → cond b (Counted m) (Unchecked q) ≡ Counted n → (Counted m ≡ Counted n) × (q.no ≡ 0)
+    go : (b : Bool) → eqb q.no 0 ≡ b → cond b (Ok m) (Err q) ≡ Ok n → (◌≡◌ {A = ListJudged} (Ok m) (Ok n)) × (q.no ≡ 0)
     go true z h = (h, eqb-true q.no 0 z)
     go false z h = let z : ◌≡◌ {A = ℕ} 0 1 = cc in absurd (omega arith)
-list_done (Unchecked r) q e = let z : ◌≡◌ {A = ℕ} 0 1 = cc in absurd (omega arith)
+list_done (Err r) q e = let z : ◌≡◌ {A = ℕ} 0 1 = cc in absurd (omega arith)
 
-module _ (l : List ℕ) (n : ℕ) (some : 0 < length l) (e : judged_list l ≡ Counted n) where
-  not-refused : (check_from l 0 0 max_entries ≡ Counted n) × ((judge_entries l).no ≡ 0)
+module _ (l : List ℕ) (n : ℕ) (some : 0 < length l) (e : judged_list l ≡ Ok n) where
+  not-refused : (check_from l 0 0 max_entries ≡ Ok n) × ((judge_entries l).no ≡ 0)
   unfolding judged_list
   not-refused = list_done (check_from l 0 0 max_entries) (judge_entries l) e
 
@@ -184,14 +180,14 @@ module _ (l : List ℕ) (n : ℕ) (some : 0 < length l) (e : judged_list l ≡ C
     by-room = answers.answer (length b) ∙ rw not-refused.1
 
     -- 22: "over the buffer"
-    pub answer-full : length b < total_of l n → (Refused (refusal no_room (total_of l n) 0) ≡ (write_call l b).answer) × (b ≡ (write_call l b).buffer)
+    pub answer-full : length b < total_of l n → (Err (refusal no_room (total_of l n) 0) ≡ (write_call l b).answer) × (b ≡ (write_call l b).buffer)
     answer-full g =
         let q : refused (refusal no_room (total_of l n) 0) ≡ write l (length b) = sym (by-room ∙ rw (lt-leb (total_of l n) (length b) g)) in
         (ap made q, ap (λ (x : Reply (List ℕ)). bytes_left x b) q)
 
     module _ (g : total_of l n ≤ length b) where
       -- 22: "or over 99,999"
-      pub answer-long : max_set_bytes < total_of l n → (Refused (refusal no_room (total_of l n) 0) ≡ (write_call l b).answer) × (b ≡ (write_call l b).buffer)
+      pub answer-long : max_set_bytes < total_of l n → (Err (refusal no_room (total_of l n) 0) ≡ (write_call l b).answer) × (b ≡ (write_call l b).buffer)
       answer-long m =
           let q : refused (refusal no_room (total_of l n) 0) ≡ write l (length b) = sym (by-room ∙ rw (le-leb (total_of l n) (length b) g, lt-leb (total_of l n) max_set_bytes m)) in
           (ap made q, ap (λ (x : Reply (List ℕ)). bytes_left x b) q)
@@ -199,38 +195,38 @@ module _ (l : List ℕ) (n : ℕ) (some : 0 < length l) (e : judged_list l ≡ C
       -- the set at the front, and zeros after it
       pub answer-set : total_of l n ≤ max_set_bytes → (b' y : List ℕ) → b' ≡ over 0 (lines_left l (sum_of l n) 0) b
           → y ≡ replicate (length (mid_of (total_of l n) (length b' - total_of l n) b')) 0
-          → (Done (total_of l n) ≡ (write_call l b).answer) × (put_mid (total_of l n) (length b' - total_of l n) b' y ≡ (write_call l b).buffer)
+          → (Ok (total_of l n) ≡ (write_call l b).answer) × (put_mid (total_of l n) (length b' - total_of l n) b' y ≡ (write_call l b).buffer)
       answer-set m b' y p z =
           let x : List ℕ = lines_left l (sum_of l n) 0 in
           let q : done x ≡ write l (length b) = sym (by-room ∙ rw (le-leb (total_of l n) (length b) g, le-leb (total_of l n) max_set_bytes m)) in
           let need : total_of l n ≡ length x = sym answers.need in (
-            ap Done need ∙ ap made q,
+            ap Ok need ∙ ap made q,
             front-then-zeros b b' y x (total_of l n) p need z ∙ ap (λ (u : Reply (List ℕ)). bytes_left u b) q,
           )
 
 -- 1
-pub answer-empty : (l b : List ℕ) → length l ≡ 0 → (Refused (refusal empty 0 0) ≡ (write_call l b).answer) × (b ≡ (write_call l b).buffer)
+pub answer-empty : (l b : List ℕ) → length l ≡ 0 → (Err (refusal empty 0 0) ≡ (write_call l b).answer) × (b ≡ (write_call l b).buffer)
 unfolding write
 answer-empty [] b h = (refl, refl)
 answer-empty (x ∷ l) b h = absurd (omega arith)
 
 -- 7, 21, 6
-unchecked-so : (l : List ℕ) (room : ℕ) (r : Refusal) → 0 < length l → check_from l 0 0 max_entries ≡ Unchecked r → write l room ≡ refused r
+unchecked-so : (l : List ℕ) (room : ℕ) (r : Refusal) → 0 < length l → check_from l 0 0 max_entries ≡ Err r → write l room ≡ refused r
 unfolding write
 unchecked-so l room r h e = rw (not-nil l h, check-refused l r e)
 
 -- and 8, 9, 11 to 16, 24
-pub answer-refused : (l b : List ℕ) (r : Refusal) → 0 < length l → judged_list l ≡ Unchecked r → (Refused r ≡ (write_call l b).answer) × (b ≡ (write_call l b).buffer)
+pub answer-refused : (l b : List ℕ) (r : Refusal) → 0 < length l → judged_list l ≡ Err r → (Err r ≡ (write_call l b).answer) × (b ≡ (write_call l b).buffer)
 unfolding judged_list count_unless
 answer-refused l b r h e =
     let q : refused r ≡ write l (length b) = sym (go (check_from l 0 0 max_entries) refl e) in
     (ap made q, ap (λ (x : Reply (List ℕ)). bytes_left x b) q)
   where
-    judged : (n : ℕ) (c : Bool) → check_from l 0 0 max_entries ≡ Counted n → eqb (judge_entries l).no 0 ≡ c
-        → cond c (Counted n) (Unchecked (judge_entries l)) ≡ Unchecked r → write l (length b) ≡ refused r
+    judged : (n : ℕ) (c : Bool) → check_from l 0 0 max_entries ≡ Ok n → eqb (judge_entries l).no 0 ≡ c
+        → cond c (Ok n) (Err (judge_entries l)) ≡ Err r → write l (length b) ≡ refused r
     judged n true x q g = let z : ◌≡◌ {A = ℕ} 0 1 = cc in absurd (omega arith)
     judged n false x q g = let z : judge_entries l ≡ r = cc in (answers-are l n h x).answer (length b) ∙ (rw q (ap refused z))
 
-    go : (x : ListJudged) → check_from l 0 0 max_entries ≡ x → ruled x (judge_entries l) ≡ Unchecked r → write l (length b) ≡ refused r
-    go (Unchecked q) x g = let z : q ≡ r = cc in unchecked-so l (length b) q h x ∙ ap refused z
-    go (Counted n) x g = judged n (eqb (judge_entries l).no 0) x refl g
+    go : (x : ListJudged) → check_from l 0 0 max_entries ≡ x → ruled x (judge_entries l) ≡ Err r → write l (length b) ≡ refused r
+    go (Err q) x g = let z : q ≡ r = cc in unchecked-so l (length b) q h x ∙ ap refused z
+    go (Ok n) x g = judged n (eqb (judge_entries l).no 0) x refl g

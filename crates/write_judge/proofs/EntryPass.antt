@@ -8,9 +8,8 @@ use native.Mathlib.Omega.{arith}
 use lib.Dec.{eqb}
 use lib.ListN.{length, set, take, drop}
 use borrow.Author.Tests.{eqb-true, eq-eqb, ne_eqb}
+use Rattle.std.specs.Prelude.{Result, Ok, Err, None, Some}
 use Rattle.meaning.specs.declared.Refusal.{Refusal}
-use Rattle.meaning.specs.declared.Known.{Known}
-use Rattle.meaning.specs.declared.Known.TheVariants.{Of, Nothing}
 use Rattle.meaning.specs.declared.SetType.{SetType}
 use Rattle.meaning.specs.declared.SetType.TheVariants.{T6300, T6301, T6302, T6310, T6311}
 use Rattle.meaning.specs.Limits.{type_number}
@@ -27,38 +26,47 @@ use Rattle.meaning.specs.Answers.{no_refusal, or_else}
 use Rattle.meaning.proofs.DigitLaws.{length-digits}
 use Rattle.meaning.proofs.FieldLaws.{sum_fits}
 use Rattle.meaning.proofs.TypeLaws.{type-digits}
-use Rattle.entry_read.specs.declared.Head.TheVariants.{Whole}
-use Rattle.entry_read.specs.Head.{entry_at, list_content}
+use Rattle.entry_read.specs.Head.{entry_at, list_content, a_head}
 use Rattle.entry_read.proofs.HeadWalkLaws.{entries-end, entries-on, Reads, list-next}
-use Rattle.judge_missing.specs.Lacks.{Flagged, no_flags, none_seen, lack_under, group_lack, open_lack, first_lack, flagged_of, finish_then}
+use Rattle.judge_missing.specs.declared.State.{State}
+use Rattle.judge_missing.specs.Lacks.{Flagged, no_flags, none_seen, lack_under, group_lack, open_lack, first_lack, flagged_of, told, before_lines, finish_then}
 use Rattle.meaning.proofs.FirstLaws.{first_of, Real, real-append}
 use Rattle.judge_missing.proofs.FlagLaws.{Agrees, none-agrees}
-use Rattle.judge_line.specs.declared.Step.{Step}
 use Rattle.judge_line.specs.Steps.{row_of, repeated_no, place_no, label_no, version_no, content_no, line_no, next_flagged, stays_in, Stepped}
 use Rattle.meaning.proofs.RealLaws.{start_faults_by, real-starts, faults_then_high, real-then-high, of_type}
+use Rattle.judge_line.proofs.StepLaws.{refused-err, refused-ok}
 use Rattle.judge_line.proofs.StartRows.{row-8000, row-8100}
 use Rattle.judge_line.proofs.StepMeaning.{pass_finds, pass-line, pass-finish, pass-finds}
-use Rattle.write_seven.specs.ListSeven.{high_in_list}
+use Rattle.std.proofs.Common.{Some}
+use Rattle.write_seven.specs.ListSeven.{if_any, high_in_list}
 use Rattle.write_seven.proofs.ListSevenMeaning.{high-in-list-is}
-use Rattle.write_judge.specs.Judging.{step_then, step_or_later, entries_pass, row8000, started, by_known, first_entry, judge_entries}
+use Rattle.write_judge.specs.Judging.{step_then, step_or_later, entries_pass, row8000, row8100, started, by_known, first_entry, judge_entries}
+use Rattle.meaning.specs.Results.{Known}
+
+-- a refusal is one if its number is not 0
+pub one-refused : (r : Refusal) → (r.no ≡ 0 → ⊥) → Some r ≡ if_any r
+one-refused r h = rw (ne_eqb r.no 0 h)
 
 -- ---- one line, as the code takes it
 
-module _ (settype : SetType) (st : Flagged) (lack : Refusal) (at l : ℕ) (c : List ℕ) (r : Step) (members top : List Bool)
-    (e : Stepped (row_of settype l) settype st lack at l c r members top) (F : Flagged → Refusal → Refusal) where
-  pub step-bad : (r.no ≡ 0 → ⊥) → step_then settype st lack at l c F ≡ refusal r.no at l
-  step-bad g = rw (← e.number, ne_eqb r.no 0 g)
+module _ (settype : SetType) (x : State) (at l : ℕ) (c : List ℕ) (F : Flagged → Refusal → Refusal) where
+  pub step-bad : {n : ℕ} {y : State} → Stepped (row_of settype l) settype x at l c (Err n) y → step_then settype (flagged_of x) (told x.lack) at l c F ≡ refusal n at l
+  step-bad e =
+      let w = refused-err _ _ e.number in
+      rw (ne_eqb _ 0 w.1, w.0)
 
-  pub step-on : r.no ≡ 0 → step_then settype st lack at l c F ≡ F (flagged_of r.group members top) r.group.lack
-  step-on g = rw (← e.number, g) (ap₂ F (sym (e.flagged-so g)) (sym (e.lack-so g)))
+  pub step-on : {y : State} → Stepped (row_of settype l) settype x at l c (Ok tt) y → step_then settype (flagged_of x) (told x.lack) at l c F ≡ F (flagged_of y) (told y.lack)
+  step-on e =
+      let z : line_no (row_of settype l) (flagged_of x) l c ≡ 0 = refused-ok _ e.number in
+      rw z (ap₂ F (sym (e.flagged-so refl)) (sym (e.lack-so refl)))
 
 -- the content as the code cuts it out
-pub step-entry : (l : List ℕ) (at m : ℕ) {settype : SetType} {st : Flagged} {lack : Refusal} {label : ℕ} {r : Step} {members top : List Bool}
-    → Stepped (row_of settype label) settype st lack at label (take (at + entry_lead + m - (at + entry_lead)) (drop (at + entry_lead) l)) r members top
-    → Stepped (row_of settype label) settype st lack at label (list_content l at m) r members top
-step-entry l at m {settype} {st} {lack} {label} {r} {members} {top} e =
+pub step-entry : (l : List ℕ) (at m : ℕ) {settype : SetType} {x : State} {label : ℕ} {r : Result Unit ℕ} {y : State}
+    → Stepped (row_of settype label) settype x at label (take (at + entry_lead + m - (at + entry_lead)) (drop (at + entry_lead) l)) r y
+    → Stepped (row_of settype label) settype x at label (list_content l at m) r y
+step-entry l at m {settype} {x} {label} {r} {y} e =
     let w : at + entry_lead + m - (at + entry_lead) ≡ m = omega arith in
-    subst (λ (n : ℕ). Stepped (row_of settype label) settype st lack at label (take n (drop (at + entry_lead) l)) r members top) w e
+    subst (λ (n : ℕ). Stepped (row_of settype label) settype x at label (take n (drop (at + entry_lead) l)) r y) w e
 
 -- ---- an entry after the first: there is none, it is refused, or the pass goes on
 
@@ -67,20 +75,34 @@ module _ (l : List ℕ) (settype : SetType) (at : ℕ) (st : Flagged) (lack : Re
   unfolding entries_pass
   pass-end h = ap (λ (F : Flagged → Refusal → Refusal). F st lack) (entries-end (λ st lack. finish_then settype st lack (high_in_list l)) (step_or_later l settype) l at h)
 
-  module _ {label m : ℕ} (q : entry_at l at ≡ Whole label m) where
+  module _ {label m : ℕ} (q : entry_at l at ≡ a_head label m) where
     pass-here : entries_pass l settype at st lack ≡ step_then settype st lack at label (list_content l at m) (entries_pass l settype (at + (entry_lead + m)))
     unfolding entries_pass
     pass-here = ap (λ (F : Flagged → Refusal → Refusal). F st lack) (entries-on (λ st lack. finish_then settype st lack (high_in_list l)) (step_or_later l settype) l at q)
 
-    module _ (r : Step) (members top : List Bool) (e : Stepped (row_of settype label) settype st lack at label (list_content l at m) r members top) where
-      pub pass-bad : (r.no ≡ 0 → ⊥) → entries_pass l settype at st lack ≡ refusal r.no at label
-      pass-bad g = pass-here ∙ step-bad settype st lack at label (list_content l at m) r members top e (entries_pass l settype (at + (entry_lead + m))) g
+-- the same at a state of the code: the entry is refused, or the pass goes on
+module _ (l : List ℕ) (settype : SetType) (at : ℕ) (x : State) {label m : ℕ} (q : entry_at l at ≡ a_head label m) where
+  pub pass-bad : {n : ℕ} {y : State} → Stepped (row_of settype label) settype x at label (list_content l at m) (Err n) y
+      → entries_pass l settype at (flagged_of x) (told x.lack) ≡ refusal n at label
+  pass-bad e =
+      pass-here l settype at (flagged_of x) (told x.lack) q ∙ step-bad settype x at label (list_content l at m) (entries_pass l settype (at + (entry_lead + m))) e
 
-      pub pass_on : r.no ≡ 0 → entries_pass l settype at st lack ≡ entries_pass l settype (at + entry_lead + m) (flagged_of r.group members top) r.group.lack
-      pass_on g =
-          let w : at + (entry_lead + m) ≡ at + entry_lead + m = omega arith in
-          pass-here ∙ (step-on settype st lack at label (list_content l at m) r members top e (entries_pass l settype (at + (entry_lead + m))) g
-          ∙ ap (λ (n : ℕ). entries_pass l settype n (flagged_of r.group members top) r.group.lack) w)
+  pub pass_on : {y : State} → Stepped (row_of settype label) settype x at label (list_content l at m) (Ok tt) y
+      → entries_pass l settype at (flagged_of x) (told x.lack) ≡ entries_pass l settype (at + entry_lead + m) (flagged_of y) (told y.lack)
+  pass_on {y} e =
+      let w : at + (entry_lead + m) ≡ at + entry_lead + m = omega arith in
+      pass-here l settype at (flagged_of x) (told x.lack) q ∙ (step-on settype x at label (list_content l at m) (entries_pass l settype (at + (entry_lead + m))) e
+      ∙ ap (λ (n : ℕ). entries_pass l settype n (flagged_of y) (told y.lack)) w)
+
+-- an entry that is refused has a refusal
+pub some-refused : {settype : SetType} {x y : State} {at l n : ℕ} {c : List ℕ} → Stepped (row_of settype l) settype x at l c (Err n) y → Some (refusal n at l) ≡ if_any (refusal n at l)
+some-refused {n = n} {c = c} e = let r = refused-err _ n e.number in one-refused _ (λ z. r.1 (r.0 ∙ z))
+
+-- the state that the loop starts from
+pub starts : (l : List ℕ) (settype : SetType) (at : ℕ) {x : State} → x ≡ before_lines
+    → entries_pass l settype at (flagged_of (record { header = 8100; place = x.place; lack = x.lack; members = x.members; top = set (set x.top row8000 true) row8100 true }))
+    (told x.lack) ≡ entries_pass l settype at started no_refusal
+starts l settype at e = rw e
 
 -- ---- line 1 and line 2
 
@@ -106,7 +128,7 @@ line-2 T6311 c F e = rw (row-8100 T6311, e)
 
 -- ---- 8 and 9
 
-module _ (l : List ℕ) {label m : ℕ} (q : entry_at l 0 ≡ Whole label m) where
+module _ (l : List ℕ) {label m : ℕ} (q : entry_at l 0 ≡ a_head label m) where
   pub first-other : (label ≡ 8000 → ⊥) → judge_entries l ≡ refusal no_start 0 0
   unfolding judge_entries first_entry
   first-other h = rw (q, ne_eqb label 8000 h)
@@ -116,11 +138,11 @@ module _ (l : List ℕ) {label m : ℕ} (q : entry_at l 0 ≡ Whole label m) whe
     cut_out : type_named (take (entry_lead + m - entry_lead) (drop entry_lead l)) ≡ type_named (list_content l 0 m)
     cut_out = let w : entry_lead + m - entry_lead ≡ m = omega arith in ap (λ (n : ℕ). type_named (take n (drop entry_lead l))) w
 
-    pub first-unknown : type_named (take (entry_lead + m - entry_lead) (drop entry_lead l)) ≡ Nothing → judge_entries l ≡ refusal unknown_set 0 0
+    pub first-unknown : type_named (take (entry_lead + m - entry_lead) (drop entry_lead l)) ≡ None → judge_entries l ≡ refusal unknown_set 0 0
     unfolding judge_entries first_entry
     first-unknown e = rw (q, eq-eqb label 8000 h, ← cut_out, e)
 
-    pub first-known : {settype : SetType} → type_named (take (entry_lead + m - entry_lead) (drop entry_lead l)) ≡ Of settype
+    pub first-known : {settype : SetType} → type_named (take (entry_lead + m - entry_lead) (drop entry_lead l)) ≡ Some settype
         → judge_entries l ≡ entries_pass l settype (entry_lead + m) started no_refusal
     unfolding judge_entries first_entry
     first-known e = rw (q, eq-eqb label 8000 h, ← cut_out, e)
@@ -175,8 +197,8 @@ entries-found l f fs sum rd w g = rw (rd.0, rd.1) (go (eqb f.label 8000) refl (t
         → cond a (by_known k (refusal unknown_set 0 0) (λ settype. entries_pass l settype (entry_lead + length f.content) started no_refusal)) (refusal no_start 0 0)
         ≡ first_of (in_list (f ∷ fs)) (start_faults_by a (is_known k) true ++ faults_then_high (record { set_type = k }) all)
     go false e k q = refl
-    go true e Nothing q = refl
-    go true e (Of settype) q =
+    go true e None q = refl
+    go true e (Some settype) q =
         let four : length f.content ≡ type_digits = ap length (type-digits f.content settype q) ∙ length-digits type_digits (type_number settype) in
         let x : field 8000 f.content ≡ f = λ i. record { label = sym (eqb-true f.label 8000 e) i; content = f.content } in
         subst (λ (y : Field). entries_pass l settype (entry_lead + length y.content) started no_refusal

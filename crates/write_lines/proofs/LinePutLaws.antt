@@ -5,12 +5,13 @@ use mathlib.Core.List.{List, [], ◌∷◌, ◌++◌, append_assoc, append-nil}
 use Prim.Native.Nat.{ℕ, suc, ◌+◌, ◌≤◌}
 use native.Mathlib.Omega.{arith}
 use lib.Dec.{eqb}
-use lib.ListN.{length, set, take, drop, length-append}
+use lib.ListN.{length, replicate, set, take, drop, length-append}
 use lib.Seq.{sets-eq}
 use borrow.Author.Tests.{eq-eqb, ne_eqb, eqb-true, eqb-false}
 use Rattle.meaning.specs.Digits.{digits}
 use Rattle.meaning.specs.Field.{field}
 use Rattle.meaning.specs.Lines.{cr, lf, line_lead, line_end, line_then}
+use Rattle.meaning.specs.Lists.{sum_digits}
 use Rattle.meaning.proofs.LineLaws.{length-line}
 use Rattle.byte_put.specs.Places.{over}
 use Rattle.byte_put.proofs.OverLaws.{over-then}
@@ -46,6 +47,11 @@ unfolding over
 end-put b at h =
     let e : at + 1 ≡ suc at = omega arith in
     rw e (sets-eq (cr ∷ lf ∷ []) b at h ∙ append_assoc (take at b) (cr ∷ lf ∷ []) (drop (at + 2) b))
+
+-- the digits of a sum, put over as many bytes
+pub five-digits : (n : ℕ) → over 0 (digits sum_digits n) (replicate sum_digits 0) ≡ digits sum_digits n
+unfolding over
+five-digits n = refl
 
 -- ---- the lines of one entry
 

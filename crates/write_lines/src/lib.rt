@@ -42,16 +42,9 @@ fn put_sum(total: usize, out: &mut [u8], to: usize)
     requires { to + sum_line ≤ length out.old }
     ensures { out.new ≡ over to (line_then (sum_field total) []) out.old }
 {
-    byte_put::put_digits(out, to, meaning::LENGTH_DIGITS, meaning::SUM_LINE);
-    byte_put::put_digits(
-        out,
-        to + meaning::LENGTH_DIGITS,
-        meaning::LABEL_DIGITS,
-        meaning::LABEL_8100,
-    );
-    let from = to + meaning::LINE_LEAD;
-    byte_put::put_digits(out, from, meaning::SUM_DIGITS, total);
-    put_end(out, from + meaning::SUM_DIGITS);
+    let mut sum = [0; meaning::SUM_DIGITS];
+    byte_put::put_digits(&mut sum, 0, meaning::SUM_DIGITS, total);
+    put_line(meaning::LABEL_8100, &sum, out, to);
 }
 
 // The lines of the entry at `from` in the list, at an offset: its own, and after the first that of 8100. The offset after them.

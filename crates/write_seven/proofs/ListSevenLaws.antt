@@ -14,10 +14,10 @@ use Rattle.meaning.specs.Entries.{entry_lead}
 use Rattle.meaning.specs.Answers.{no_refusal}
 use Rattle.meaning.proofs.Bools.{and_no, byte-then}
 use Rattle.byte_high.specs.High.{first_high}
-use Rattle.entry_read.specs.declared.Head.TheVariants.{Whole, Cut}
-use Rattle.entry_read.specs.Head.{entry_at, list_content}
+use Rattle.entry_read.specs.Head.{entry_at, list_content, a_head}
 use Rattle.entry_read.proofs.HeadWalkLaws.{entries-cut, entries-on}
 use Rattle.write_seven.specs.ListSeven.{seven_or_later, list_says_seven, high_or_later, high_in_contents, high_in_list}
+use Rattle.std.specs.Prelude.{None}
 
 -- ---- the content of an entry is 1
 
@@ -47,11 +47,11 @@ module _ (l : List ℕ) (at n : ℕ) (h : at + (entry_lead + n) ≤ length l) wh
 -- ---- 9206 = 1
 
 module _ (l : List ℕ) (at : ℕ) where
-  pub seven-cut : entry_at l at ≡ Cut → false ≡ list_says_seven l at
+  pub seven-cut : entry_at l at ≡ None → false ≡ list_says_seven l at
   unfolding list_says_seven
   seven-cut e = sym (entries-cut false (seven_or_later l) l at e)
 
-  module _ {label n : ℕ} (e : entry_at l at ≡ Whole label n) where
+  module _ {label n : ℕ} (e : entry_at l at ≡ a_head label n) where
     pub seven-here : label ≡ 9206 → same_bytes (list_content l at n) (digits 1 1) ≡ list_says_seven l at
     unfolding list_says_seven
     seven-here q = sym (entries-on false (seven_or_later l) l at e ∙ rw (eq-eqb label 9206 q))
@@ -63,11 +63,11 @@ module _ (l : List ℕ) (at : ℕ) where
 -- ---- 24
 
 module _ (l : List ℕ) (at : ℕ) where
-  pub high_cut : entry_at l at ≡ Cut → no_refusal ≡ high_in_contents l at
+  pub high_cut : entry_at l at ≡ None → no_refusal ≡ high_in_contents l at
   unfolding high_in_contents
   high_cut e = sym (entries-cut no_refusal (high_or_later l) l at e)
 
-  module _ {label n : ℕ} (e : entry_at l at ≡ Whole label n) (high : ℕ) (q : high ≡ first_high l (at + entry_lead) n) where
+  module _ {label n : ℕ} (e : entry_at l at ≡ a_head label n) (high : ℕ) (q : high ≡ first_high l (at + entry_lead) n) where
     pub high-here : high < at + entry_lead + n → refusal high_byte high 0 ≡ high_in_contents l at
     unfolding high_in_contents
     high-here h = sym (entries-on no_refusal (high_or_later l) l at e ∙ rw (← q, lt-leb (at + entry_lead + n) high h))

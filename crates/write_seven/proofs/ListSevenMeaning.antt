@@ -25,8 +25,7 @@ use Rattle.meaning.proofs.FirstLaws.{first_of}
 use Rattle.meaning.proofs.RealLaws.{first-high}
 use Rattle.meaning.proofs.SevenLaws.{seven-once, seven-none}
 use Rattle.byte_high.proofs.HighLaws.{high_is}
-use Rattle.entry_read.specs.declared.Head.TheVariants.{Whole}
-use Rattle.entry_read.specs.Head.{entry_at, list_content}
+use Rattle.entry_read.specs.Head.{entry_at, list_content, a_head}
 use Rattle.entry_read.proofs.HeadLaws.{whole_back}
 use Rattle.entry_read.proofs.HeadWalkLaws.{entries-end, entries-on, Reads, list-next}
 use Rattle.write_seven.specs.ListSeven.{seven_or_later, list_says_seven, high_or_later, high_in_contents, high_in_list}
@@ -64,7 +63,7 @@ module _ (l : List ℕ) (b : Bool) where
 
 module _ (l : List ℕ) (es : List Field) where
   -- the content of one entry, if what the contents after it give is known
-  high-entry : (f : Field) (line at : ℕ) (rest : List Fault) → entry_at l at ≡ Whole f.label (length f.content) → list_content l at (length f.content) ≡ f.content
+  high-entry : (f : Field) (line at : ℕ) (rest : List Fault) → entry_at l at ≡ a_head f.label (length f.content) → list_content l at (length f.content) ≡ f.content
       → at ≡ in_list es line start → high_in_contents l (at + (entry_lead + length f.content)) ≡ first_of (in_list es) rest
       → high_in_contents l at ≡ first_of (in_list es) (high_bytes line 0 f.content ++ rest)
   unfolding high_in_contents

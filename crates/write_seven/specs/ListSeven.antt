@@ -1,5 +1,5 @@
 -- The walks of `list_says_seven` and `high_in_contents`, over the bytes of a list, entry by entry. What they are for entries that keep the rules is in proofs/ListSevenMeaning.
-use Rattle.std.specs.Prelude.{Bool, false, cond, List, ℕ, ◌+◌, leb, eqb}
+use Rattle.std.specs.Prelude.{Bool, false, cond, List, ℕ, ◌+◌, leb, eqb, Option, None, Some}
 use Rattle.meaning.specs.declared.Refusal.{Refusal}
 use Rattle.meaning.specs.Digits.{digits}
 use Rattle.meaning.specs.Refusals.{refusal, high_byte}
@@ -17,6 +17,10 @@ seven_or_later l at label n rest = cond (eqb label 9206) (same_bytes (list_conte
 -- the first 9206 entry from an offset on has content 1
 unfoldable pub list_says_seven : List ℕ → ℕ → Bool
 list_says_seven l at = entries_left false (seven_or_later l) l at
+
+-- the refusal, if there is one: its number is not 0
+abbrev pub if_any : Refusal → Option Refusal
+if_any r = cond (eqb r.no 0) None (Some r)
 
 -- 24 at the first byte over 7Fh of an entry's content; else what the entries after it give
 abbrev pub high_or_later : List ℕ → ℕ → ℕ → ℕ → Refusal → Refusal

@@ -8,7 +8,7 @@ ghost use Rattle.meaning.specs.Digits.{digits};
 ghost use Rattle.meaning.specs.Kinds.{same_bytes};
 ghost use Rattle.meaning.specs.Entries.{entry_lead};
 ghost use Rattle.entry_read.specs.Head.{list_content};
-ghost use Rattle.write_seven.specs.ListSeven.{list_says_seven, high_in_contents, high_in_list};
+ghost use Rattle.write_seven.specs.ListSeven.{if_any, list_says_seven, high_in_contents, high_in_list};
 
 use entry_read::Head;
 use meaning::Refusal;
@@ -29,42 +29,38 @@ fn list_says_seven(list: &[u8]) -> bool
     ensures { result ≡ list_says_seven list.now 0 }
 {
     let mut at: usize = 0;
-    loop {
-        let Head::Whole { label, length } = entry_read::entry_at(list, at) else {
-            return false;
-        };
+    while let Some(Head { label, length }) = entry_read::entry_at(list, at) {
         if label == meaning::LABEL_9206 {
             return is_one(list, at, length);
         }
         at += meaning::ENTRY_LEAD + length;
     }
+    false
 }
 
 // 24, HighByte: "place of the first such byte". The contents are searched one by one, since a head may have bytes over 7Fh.
-fn high_in_contents(list: &[u8]) -> Refusal
-    ensures { result ≡ high_in_contents list.now 0 }
+fn high_in_contents(list: &[u8]) -> Option<Refusal>
+    ensures { result ≡ if_any (high_in_contents list.now 0) }
 {
     let mut at: usize = 0;
-    loop {
-        let Head::Whole { label: _, length } = entry_read::entry_at(list, at) else {
-            return Refusal::none();
-        };
+    while let Some(Head { label: _, length }) = entry_read::entry_at(list, at) {
         let content = at + meaning::ENTRY_LEAD;
         let end = content + length;
         let high = byte_high::first_high(list, content, length);
         if high < end {
-            return Refusal::at(Refusal::HIGH_BYTE, high);
+            return Some(Refusal::at(Refusal::HIGH_BYTE, high));
         }
         at = end;
     }
+    None
 }
 
 // 24 of a list: no content is searched if 9206 says 2 or 3.
-pub fn high_in_list(list: &[u8]) -> Refusal
-    ensures { result ≡ high_in_list list.now }
+pub fn high_in_list(list: &[u8]) -> Option<Refusal>
+    ensures { result ≡ if_any (high_in_list list.now) }
 {
     if list_says_seven(list) {
         return high_in_contents(list);
     }
-    Refusal::none()
+    None
 }

@@ -1,19 +1,12 @@
-use mathlib.Core.Path.{sym, ◌∙◌}
-use native.Mathlib.Omega.{arith}
-use Rattle.byte_digits.proofs.AllDigitsLaws.{digits-stop, digits_more, digits-end}
+-- `all_digits` asks each byte of the chain, which are those from `from` on.
+use borrow.Author.Tests.{tests}
+use borrow.Author.Rules.{rules}
+use Rattle.std.proofs.lemmas.Iterator.{YieldsList-from_slice}
+use Rattle.std.proofs.lemmas.Iterator.Adapters.{YieldsList-from_skip}
+use Rattle.std.proofs.lemmas.Iterator.Search.{all_from_yields_List}
+use Rattle.meaning.specs.Digits.{digit}
 use Rattle.byte_digits.proofs.all_digits.Goals as goal
-
-pub loop-i-preserved : goal.loop-i-preserved
-loop-i-preserved c =
-    let l = c.loop-i in
-    sym (digits_more _ l.i (omega arith) (sym c.is_digit.ensures ∙ c.if-is_digit.true)) ∙ l.invariant
-
-pub returns-else-is_digit : goal.returns-else-is_digit
-returns-else-is_digit c =
-    let l = c.loop-i in
-    sym (digits-stop _ l.i (omega arith) (sym c.is_digit.ensures ∙ c.if-is_digit.false)) ∙ l.invariant
 
 pub returns : goal.returns
 returns c =
-    let l = c.loop-i in
-    sym (digits-end _ l.i (omega arith)) ∙ l.invariant
+    all_from_yields_List digit _ _ _ c.all.ensures.ran (YieldsList-from_skip c.args.from (YieldsList-from_slice c.args.c.now cc) cc) (λ x b q k. search (rules, tests))

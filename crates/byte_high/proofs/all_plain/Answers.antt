@@ -1,29 +1,20 @@
+-- `all_plain`: the search among the bytes after plain blocks finds what the search among all finds, and in the last block it finds nothing.
 use mathlib.Core.Path.{sym, ap, ◌∙◌}
-use Prim.Native.Nat.{◌-◌}
 use native.Mathlib.Omega.{arith}
+use lib.ListN.{length}
 use borrow.Author.Tests.{eqb-true}
-use Rattle.byte_low.proofs.SeekLaws.{seek-on, seek-tail}
+use Rattle.byte_low.proofs.SeekLaws.{seek-tail, seek_from, passed_on}
 use Rattle.byte_high.specs.High.{seven_bits, first_high}
 use Rattle.byte_high.proofs.all_plain.Goals as goal
 
-pub returns-then-s-lt-BLOCK : goal.returns-then-s-lt-BLOCK
-returns-then-s-lt-BLOCK c = λ e. sym c.seek_high.ensures ∙ eqb-true _ _ e
-
-pub loop-i-init : goal.loop-i-init
-loop-i-init c = (omega arith, ap (first_high _ _) (omega arith))
-
-pub loop-i-preserved : goal.loop-i-preserved
-loop-i-preserved c =
-    let l = c.loop-i in
-    (omega arith, sym (seek-on seven_bits _ _ l.i _ (omega arith) (c.plain.ensures c.if-plain.true)) ∙ l.invariant.1)
-
-pub loop-i-2-init : goal.loop-i-2-init
-loop-i-2-init c = c.loop-i.invariant
-
-pub loop-i-2-preserved : goal.loop-i-2-preserved
-loop-i-2-preserved c =
-    let l = c.loop-i-2 in
-    (omega arith, sym (seek-on seven_bits _ _ l.i _ (omega arith) (c.plain-in-loop-i-2.ensures c.if-plain-2.true)) ∙ l.invariant.1)
+pub returns-then-end-lt-BLOCK : goal.returns-then-end-lt-BLOCK
+returns-then-end-lt-BLOCK c = λ e. sym c.seek.ensures ∙ eqb-true _ _ e
 
 pub returns : goal.returns
-returns c = λ e. sym c.loop-i-2.invariant.1 ∙ seek-tail seven_bits _ _ _ _ (omega arith) (omega arith) (omega arith) (c.plain-2.ensures e)
+returns c = λ e.
+    let wide = c.in-Ok.ensures in
+    let blocks = c.in-Ok-pass_blocks.ensures in
+    let both = passed_on seven_bits _ _ _ _ _ (length c.args.s.now) wide.0 blocks.0 (omega arith) in
+    ap (first_high _ 0) (omega arith)
+    ∙ (sym (seek_from seven_bits _ _ _ _ both)
+    ∙ seek-tail seven_bits _ _ _ _ (omega arith) (omega (arith, blocks.1)) (omega (arith, both.most)) (c.all_pass.ensures e))

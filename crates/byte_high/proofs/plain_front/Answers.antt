@@ -6,4 +6,4 @@ use Rattle.byte_high.proofs.plain_front.Goals as goal
 pub returns : goal.returns
 returns c =
     let p = c.pass_plain-from.ensures in
-    c.seek_high.ensures ∙ front-after _ _ p.1 p.2
+    c.seek.ensures ∙ front-after _ _ p.1 p.2

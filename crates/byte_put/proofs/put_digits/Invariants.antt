@@ -8,6 +8,3 @@ use Rattle.byte_put.proofs.put_digits.Given as goal
 
 abbrev pub invariant-loop-i : goal.invariant-loop-i
 invariant-loop-i l = (l.i ≤ l.k) × ((l.left ≤ l.n) × ((over l.at (digits l.i l.left) l.s ≡ over l.at (digits l.k l.n) l.initial.s) × (length l.s ≡ length l.initial.s)))
-
-abbrev pub decreases-loop-i : goal.decreases-loop-i
-decreases-loop-i l = l.i

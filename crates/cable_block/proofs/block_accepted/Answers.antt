@@ -67,7 +67,7 @@ put_block-requires c =
     let within = data-within a.set.now a.shape e _ l a.i (omega (arith, m, c.if-blocks-i.false)) _ _ c.cut_for-start.ensures c.end_for.ensures _
     c.place_of-from.ensures in
     let short = data-short a.set.now a.shape e _ l a.i (omega (arith, m, c.if-blocks-i.false)) _ _ c.cut_for-start.ensures c.end_for.ensures in
-    record { numbers = (omega (arith, c.if-count-gt-COUNT.false), c.label_for-label.ensures.1); room = (within, short, c.requires.1) }
+    record { numbers = omega (arith, c.if-count-gt-COUNT.false); room = (within, short, c.requires.1) }
 
 pub returns : goal.returns
 returns c =
@@ -77,4 +77,4 @@ returns c =
     let m = c.count_for-blocks.ensures in
     let r = c.put_block.ensures in
     answer-made a.set.now a.shape e _ l a.i (omega (arith, m, c.if-blocks-i.false)) _ _ c.cut_for-start.ensures c.end_for.ensures _
-    c.place_of-from.ensures _ a.count _ _ a.out.now _ m (omega (arith, c.if-count-gt-COUNT.false)) c.label_for-label.ensures.0 r.0 r.1
+    c.place_of-from.ensures _ a.count _ _ a.out.now _ m (omega (arith, c.if-count-gt-COUNT.false)) c.label_for-label.ensures r.0 r.1

@@ -7,10 +7,6 @@ use Rattle.cable_block.proofs.end_for.Goals as goal
 pub overflow_add-i : goal.overflow_add-i
 overflow_add-i c = omega (arith, count-few c.args.n, c.requires.0, c.requires.1)
 
-pub returns-then-n-end : goal.returns-then-n-end
-unfolding end_for
-returns-then-n-end c = omega (arith, c.cut_for-end.ensures, c.if-n-end.true)
-
 pub returns : goal.returns
 unfolding end_for
-returns c = omega (arith, c.cut_for-end.ensures, c.if-n-end.false)
+returns c = omega (arith, c.cut_for.ensures, c.min.ensures)

@@ -1,18 +1,12 @@
-use mathlib.Core.Path.{sym, ap, ◌∙◌}
-use Prim.Native.Nat.{ℕ, ◌+◌, ◌-◌}
-use native.Mathlib.Omega.{arith}
-use lib.ListN.{drop}
-use Rattle.meaning_cable.specs.Crc.{crc_from}
-use Rattle.cable_crc.proofs.ByteLaws.{crc-more, crc-end}
+-- `crc_of`: the fold over the bytes is the register after all of them.
+use borrow.Author.Tests.{tests}
+use borrow.Author.Rules.{rules}
+use Rattle.std.proofs.lemmas.Iterator.{YieldsList-from_slice}
+use Rattle.std.proofs.lemmas.Iterator.Consumers.{fold_from_yields_List}
+use Rattle.meaning_cable.specs.Crc.{byte_all, crc_from}
 use Rattle.cable_crc.proofs.crc_of.Goals as goal
 
-pub loop-i-preserved : goal.loop-i-preserved
-loop-i-preserved c =
-    let s = c.args.s.now in
-    let l = c.loop-i in
-    ap (λ (x : ℕ). crc_from x (drop (l.i + 1) s)) c.crc_byte-crc.ensures ∙ (sym (crc-more s l.i (omega arith) l.crc) ∙ l.invariant)
-
 pub returns : goal.returns
+unfolding crc_from
 returns c =
-    let l = c.loop-i in
-    sym (crc-end _ l.i (omega arith) l.crc) ∙ l.invariant
+    fold_from_yields_List _ byte_all 0 _ c.fold.ensures.ran (YieldsList-from_slice c.args.s.now cc) (λ a x b q k. search (rules, tests))

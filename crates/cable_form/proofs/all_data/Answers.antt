@@ -1,16 +1,16 @@
-use mathlib.Core.Path.{refl, sym, ◌∙◌}
-use Prim.Native.Nat.{◌-◌}
-use native.Mathlib.Omega.{arith}
-use Rattle.meaning_cable.specs.Stream.{data_byte, all_data}
-use Rattle.cable_form.proofs.EachByteLaws.{all-turn, all-over}
+-- `all_data` asks each byte of the chain.
+use mathlib.Core.Path.{◌∙◌}
+use mathlib.Core.Bool.{true, ◌&&◌}
+use borrow.Author.Tests.{tests}
+use borrow.Author.Rules.{rules}
+use Rattle.std.proofs.lemmas.Iterator.{YieldsList-from_slice}
+use Rattle.std.proofs.lemmas.Iterator.Consumers.{fold_from_yields_List}
+use Rattle.meaning_cable.specs.Stream.{data_byte}
+use Rattle.cable_form.proofs.EachByteLaws.{data-so-far}
 use Rattle.cable_form.proofs.all_data.Goals as goal
-
-pub loop-i-preserved : goal.loop-i-preserved
-loop-i-preserved c =
-    let l = c.loop-i in
-    all-turn data_byte all_data refl (λ b bs. refl) _ l.i l.fit c.is_data-fit.ensures (omega arith) ∙ l.invariant
 
 pub returns : goal.returns
 returns c =
-    let l = c.loop-i in
-    sym (all-over data_byte all_data refl (λ b bs. refl) _ l.i l.fit (omega arith)) ∙ l.invariant
+    let s = c.args.bytes.now in
+    fold_from_yields_List _ (λ fit b. fit && data_byte b) true _ c.fold.ensures.ran (YieldsList-from_slice s cc) (λ a x b q k. search (rules, tests))
+    ∙ data-so-far true s

@@ -1,21 +1,10 @@
-use mathlib.Core.Path.{refl, sym, ◌∙◌}
-use Prim.Native.Nat.{◌-◌}
-use native.Mathlib.Omega.{arith}
-use Rattle.meaning_cable.specs.Receiving.{is_hex, all_hex}
-use Rattle.cable_form.proofs.EachByteLaws.{all-stop, all_more, all_end}
+-- `all_hex` asks each byte of the chain.
+use borrow.Author.Tests.{tests}
+use borrow.Author.Rules.{rules}
+use Rattle.std.proofs.lemmas.Iterator.{YieldsList-from_slice}
+use Rattle.std.proofs.lemmas.Iterator.Search.{all_from_yields_List}
+use Rattle.meaning_cable.specs.Receiving.{is_hex}
 use Rattle.cable_form.proofs.all_hex.Goals as goal
 
-pub loop-i-preserved : goal.loop-i-preserved
-loop-i-preserved c =
-    let l = c.loop-i in
-    sym (all_more is_hex all_hex refl (λ b bs. refl) _ l.i (omega arith) (sym c.is_hex.ensures ∙ c.if-is_hex.true)) ∙ l.invariant
-
-pub returns-else-is_hex : goal.returns-else-is_hex
-returns-else-is_hex c =
-    let l = c.loop-i in
-    sym (all-stop is_hex all_hex refl (λ b bs. refl) _ l.i (omega arith) (sym c.is_hex.ensures ∙ c.if-is_hex.false)) ∙ l.invariant
-
 pub returns : goal.returns
-returns c =
-    let l = c.loop-i in
-    sym (all_end is_hex all_hex refl (λ b bs. refl) _ l.i (omega arith)) ∙ l.invariant
+returns c = all_from_yields_List is_hex _ _ _ c.all.ensures.ran (YieldsList-from_slice c.args.digits.now cc) (λ x b q k. search (rules, tests))

@@ -1,14 +1,11 @@
--- `put_lead`: the four stores are the four bytes.
-use native.Mathlib.Omega.{arith}
-use lib.ListN.{length-set}
-use Rattle.cable_frame.proofs.FramedLaws.{lead-put}
+-- `put_lead`: the four bytes.
+use mathlib.Core.Path.{refl, ap, ◌∙◌}
+use mathlib.Core.List.{List, [], ◌∷◌}
+use Prim.Native.Nat.{ℕ, ◌+◌}
+use Rattle.cable_frame.proofs.FramedLaws.{lent-put}
 use Rattle.cable_frame.proofs.put_lead.Goals as goal
 
-pub bounds-out-1 : goal.bounds-out-1
-bounds-out-1 c = simp length-set (omega arith)
-
-pub bounds-out-2 : goal.bounds-out-2
-bounds-out-2 c = simp length-set (omega arith)
-
 pub returns : goal.returns
-returns c = lead-put c.args.out.now _ _ c.requires.2
+returns c =
+    let a = c.args in
+    lent-put a.out.now _ _ 0 4 refl (c.copy_from_slice.ensures.after ∙ ap (λ (y : ℕ). (48 + a.count) ∷ 66 ∷ 48 ∷ y ∷ []) c.label_byte.ensures)

@@ -1,14 +1,14 @@
 -- `build_counted`: each return by the law of the answer.
 use mathlib.Core.Path.{ap, ◌∙◌}
-use Rattle.meaning.specs.declared.Made.TheVariants.{Refused}
 use Rattle.day_index.proofs.DayAnswerLaws.{build-full, build-made}
 use Rattle.day_index.proofs.build_counted.Goals as goal
+use Rattle.std.specs.Prelude.{Err}
 
 pub returns-then-index-count : goal.returns-then-index-count
 returns-then-index-count c =
     let a = c.args in
     let r = build-full a.file.now a.index.now a.count c.requires c.if-index-count.true in
-    (ap Refused c.at.ensures ∙ r.0, r.1)
+    (ap Err c.at.ensures ∙ r.0, r.1)
 
 pub returns : goal.returns
 returns c =

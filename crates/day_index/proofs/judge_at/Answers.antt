@@ -8,15 +8,15 @@ use Rattle.day_index.proofs.judge_at.Goals as goal
 pub overflow_add-result : goal.overflow_add-result
 overflow_add-result c =
     let a = c.args in
-    let q = judged-refused a.file.now a.at _ (sym c.in-Refused.is ∙ c.judge.ensures) in
+    let q = judged-refused a.file.now a.at _ (sym c.in-Err.is ∙ c.judge.ensures) in
     omega (arith, q.1, length-drop a.at a.file.now, c.requires, c.ranges, c.well_formed)
 
-pub returns-in-Accepted : goal.returns-in-Accepted
-returns-in-Accepted c =
+pub returns-in-Ok : goal.returns-in-Ok
+returns-in-Ok c =
     let a = c.args in
-    judged-accepted a.file.now a.at _ (sym c.in-Accepted.is ∙ c.judge.ensures)
+    judged-accepted a.file.now a.at _ (sym c.in-Ok.is ∙ c.judge.ensures)
 
-pub returns-in-Refused : goal.returns-in-Refused
-returns-in-Refused c =
+pub returns-in-Err : goal.returns-in-Err
+returns-in-Err c =
     let a = c.args in
-    (judged-refused a.file.now a.at _ (sym c.in-Refused.is ∙ c.judge.ensures)).0
+    (judged-refused a.file.now a.at _ (sym c.in-Err.is ∙ c.judge.ensures)).0

@@ -1,51 +1,36 @@
 -- Each turn is a law of the loop, and the plan says what the loop leaves: `fills`.
 use mathlib.Core.Path.{◌≡◌, sym, ap, subst, ◌∙◌}
-use mathlib.Core.List.{List}
-use Prim.Native.Nat.{ℕ, ◌<◌, zero-le}
+use mathlib.Core.List.{List, ◌++◌}
 use native.Mathlib.Omega.{arith}
-use lib.ListN.{length, set}
+use lib.ListN.{length, drop, length-take}
 use Rattle.meaning.specs.declared.Entry.{Entry}
-use Rattle.meaning.specs.Reading.{judge}
-use Rattle.face_replies.specs.declared.IndexPlan.{IndexPlan}
-use Rattle.face_replies.specs.IndexPlans.{plan_index}
-use Rattle.index_walk.specs.Walking.{walk_start, next_entry}
-use Rattle.gdt.specs.Filling.{stored}
-use Rattle.gdt.proofs.FillingLaws.{walk_none, stored-none, walk-next, stored_next, Fills, fills}
+use Rattle.face_replies.specs.Replies.{made_reply}
+use Rattle.gdt.proofs.FillingLaws.{filled-next, filled-all, Fills, fills, front-part, left-as, nothing-left}
 use Rattle.gdt.proofs.gdt_index.Goals as goal
+use Rattle.gdt.proofs.gdt_index.Goals.{in-Ok+else-loop-entry-test, in_default}
+use Rattle.std.specs.Prelude.{Err, Ok}
 
--- what the plan that was made says of the loop
-planned : (s : List ℕ) (d : List Entry) (p : IndexPlan) → p ≡ plan_index (judge s) (length d) → Fills s d p
-planned s d p e = subst (Fills s d) (sym e) (fills s d)
-
-pub loop-i-init : goal.loop-i-init
-loop-i-init c =
-    let a = c.args in
-    (zero-le, (c.start-walk.ensures ∙ walk_none a.set.now walk_start, stored-none a.set.now walk_start a.out.now))
-
-pub offset_bounds-out-i : goal.offset_bounds-out-i
-offset_bounds-out-i c =
-    let a = c.args in
-    let f = planned a.set.now a.out.now _ c.plan_of-plan.ensures in
-    let below : c.loop-i.i < length c.loop-i.out = omega (arith, f.within, c.loop-i.auto.out) in
-    omega arith
-
-pub bounds-out-i : goal.bounds-out-i
-bounds-out-i c =
-    let a = c.args in
-    omega (arith, (planned a.set.now a.out.now _ c.plan_of-plan.ensures).within, c.loop-i.auto.out)
-
-pub loop-i-preserved : goal.loop-i-preserved
-loop-i-preserved c =
-    let a = c.args in
-    let l = c.loop-i in
-    let e = c.next_entry-next.ensures ∙ ap (next_entry a.set.now) l.invariant.1.0 in
-    let o = ap (λ (d : List Entry). set d l.i c.next_entry-next.result.entry) l.invariant.1.1 in
-    (omega arith, (walk-next a.set.now walk_start l.i _ e, o ∙ stored_next a.set.now walk_start l.i a.out.now _ e))
+pub loop-entry-preserved : goal.loop-entry-preserved
+loop-entry-preserved c =
+    let l = c.loop-entry in
+    filled-next c.args.set.now l.entry-items l.entry-index l.walk l.invariant _ c.next_entry-next.ensures (omega arith)
 
 pub returns : goal.returns
 returns c =
-    let a = c.args in
-    let l = c.loop-i in
-    let f = planned a.set.now a.out.now _ c.plan_of-plan.ensures in
-    let all : l.i ≡ c.plan_of-plan.result.count = omega arith in
-    (f.answers, l.invariant.1.1 ∙ ap (λ (n : ℕ). stored a.set.now walk_start n a.out.now) all ∙ f.leaves)
+    let s = c.args.set.now in
+    let d = c.args.out.now in
+    let f : Fills s d c.plan_of-plan.result = subst (Fills s d) (sym c.plan_of-plan.ensures) (fills s d) in
+    elim c.match-plan.branch [
+      | in-Ok+else-loop-entry-test w ↦
+          let n = w.in-Ok.count in
+          let l = w.loop-entry in
+          let k : Fills s d (Ok n) = subst (Fills s d) w.in-Ok.is f in
+          let all : length l.entry-items ≡ n = omega (arith, length-take n d, k.within) in
+          let last : l.entry-index ≡ n = omega (arith, all) in
+          let stored = filled-all s l.entry-items l.entry-index l.walk l.invariant n last all in
+          let written = ap (λ (es : List Entry). es ++ drop n d) stored ∙ k.leaves in
+          (c.into.ensures ∙ ap made_reply (w.plan-is ∙ k.answers), left-as _ _ (l.entry-items ++ drop n d) _ w.out-is written (search (arith, front-part)))
+      | in_default w ↦
+          let k : Fills s d (Err w.in_default.field-0) = subst (Fills s d) w.in_default.is f in
+          (c.into.ensures ∙ ap made_reply (w.plan-is ∙ f.answers), w.out-is ∙ nothing-left s d _ k)
+    ]

@@ -1,12 +1,6 @@
--- `gdt_index`: after i turns the first i entries of the walk are stored.
-use mathlib.Core.Path.{◌≡◌}
-use Prim.Native.Nat.{◌-◌, ◌≤◌}
-use Rattle.index_walk.specs.Walking.{walk_start}
-use Rattle.gdt.specs.Filling.{walk_after, stored}
+-- `gdt_index`: after so many turns so many entries of the walk are stored.
+use Rattle.gdt.proofs.FillingLaws.{Filled}
 use Rattle.gdt.proofs.gdt_index.Given as goal
 
-abbrev pub invariant-loop-i : goal.invariant-loop-i
-invariant-loop-i l = (l.i ≤ l.plan.count) × ((l.walk ≡ walk_after l.set walk_start l.i) × (l.out ≡ stored l.set walk_start l.i l.initial.out))
-
-abbrev pub decreases-loop-i : goal.decreases-loop-i
-decreases-loop-i l = l.plan.count - l.i
+abbrev pub invariant-loop-entry : goal.invariant-loop-entry
+invariant-loop-entry l = Filled l.set l.entry-items l.entry-index l.walk

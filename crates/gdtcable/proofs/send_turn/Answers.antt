@@ -3,12 +3,12 @@ use mathlib.Core.Path.{◌∙◌}
 use Rattle.gdtcable.proofs.CableReplyLaws.{turn_is}
 use Rattle.gdtcable.proofs.send_turn.Goals as goal
 
-pub returns-in-Next : goal.returns-in-Next
-returns-in-Next c =
+pub returns-in-Ok : goal.returns-in-Ok
+returns-in-Ok c =
     let a = c.args in
-    c.next_turn.ensures ∙ turn_is a.link a.begin _ _ _ c.send.ensures c.in-Next.is
+    c.next_turn.ensures ∙ turn_is a.link a.begin _ _ _ c.send.ensures c.in-Ok.is
 
-pub returns-in-Refused : goal.returns-in-Refused
-returns-in-Refused c =
+pub returns-in-Err : goal.returns-in-Err
+returns-in-Err c =
     let a = c.args in
-    c.refused_turn.ensures ∙ turn_is a.link a.begin _ _ _ c.send.ensures c.in-Refused.is
+    c.refused_turn.ensures ∙ turn_is a.link a.begin _ _ _ c.send.ensures c.in-Err.is

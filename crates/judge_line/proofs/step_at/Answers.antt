@@ -1,57 +1,42 @@
 -- `step_at`: each return by the law of the line that leads to it.
-use mathlib.Core.Path.{refl, sym, ◌∙◌}
-use native.Mathlib.Omega.{arith}
-use Rattle.table_find.proofs.RowCodeLaws.{code-nothing, coded}
-use Rattle.judge_line.proofs.StepLaws.{row_at, step-unknown, step-misplaced, step-unfit, step-opened, member-pair, step-joined}
+use mathlib.Core.Path.{sym, ◌∙◌}
+use Rattle.std.proofs.lemmas.Result.{err_from_is_err_and}
+use Rattle.table_find.proofs.TableRowLaws.{none-answered, answered}
+use Rattle.judge_line.proofs.StepLaws.{step-unknown, step-misplaced, step-unfit, step-opened, member-pair, step-joined}
 use Rattle.judge_line.proofs.step_at.Goals as goal
 
-pub returns-then-code-eq-NOTHING : goal.returns-then-code-eq-NOTHING
-returns-then-code-eq-NOTHING c = step-unknown (code-nothing _ _ _ c.find_row-code.ensures c.if-code-eq-NOTHING.true) c.refused_step.ensures
+pub returns-in_default : goal.returns-in_default
+returns-in_default c = step-unknown (none-answered _ _ (sym c.in_default.is ∙ c.find_row.ensures))
 
-pub place_no-misplaced-requires : goal.place_no-misplaced-requires
-place_no-misplaced-requires c =
-    let h = coded _ _ _ c.find_row-code.ensures c.if-code-eq-NOTHING.false in
-    omega (arith, h.below, c.number_of-i.ensures)
+pub placed-requires : goal.placed-requires
+placed-requires c = (answered _ _ _ c.in-Some.ensures).below
 
-pub returns-then-misplaced-ne0 : goal.returns-then-misplaced-ne0
-returns-then-misplaced-ne0 c =
-    let h = coded _ _ _ c.find_row-code.ensures c.if-code-eq-NOTHING.false in
-    step-misplaced _ _ (row_at h c.number_of-i.ensures) _
-    (c.place_no-misplaced.ensures h.row (h.under-so ∙ sym c.under_of-under.ensures) (h.many-so ∙ sym c.many_of-many.ensures))
-    c.if-misplaced-ne0.true c.refused_step-then-misplaced-ne0.ensures
+pub returns-in_err-placed : goal.returns-in_err-placed
+returns-in_err-placed c =
+    let h = answered _ _ _ c.in-Some.ensures in
+    let p = err_from_is_err_and c.from_residual.result c.from_residual.ensures.1 in
+    rw (p.1, p.2) (step-misplaced _ _ h.is (c.in_err-placed.ensures h.row h.under-so h.many-so))
 
-pub returns-then-unfit-ne0 : goal.returns-then-unfit-ne0
-returns-then-unfit-ne0 c =
-    let h = coded _ _ _ c.find_row-code.ensures c.if-code-eq-NOTHING.false in
-    step-unfit _ _ (row_at h c.number_of-i.ensures) _
-    (c.place_no-misplaced.ensures h.row (h.under-so ∙ sym c.under_of-under.ensures) (h.many-so ∙ sym c.many_of-many.ensures))
-    c.if-misplaced-ne0.false _ (c.content_no-unfit.ensures (c.field_of.ensures ∙ h.field-so)) c.if-unfit-ne0.true
-    c.refused_step-then-unfit-ne0.ensures
+pub returns-in_err-fits : goal.returns-in_err-fits
+returns-in_err-fits c =
+    let h = answered _ _ _ c.in-Some.ensures in
+    let p = err_from_is_err_and c.from_residual-in_err-fits.result c.from_residual-in_err-fits.ensures.1 in
+    rw (p.1, p.2) (step-unfit _ _ h.is (c.in_ok-placed.ensures h.row h.under-so h.many-so) (c.in_err-fits.ensures h.field-so))
 
-pub opened-group-requires : goal.opened-group-requires
-opened-group-requires c =
-    let h = coded _ _ _ c.find_row-code.ensures c.if-code-eq-NOTHING.false in
-    omega (arith, h.below, c.number_of-i.ensures)
+pub opened-requires : goal.opened-requires
+opened-requires c = (answered _ _ _ c.in-Some.ensures).below
 
-pub returns-then-under-eq0 : goal.returns-then-under-eq0
-returns-then-under-eq0 c =
-    let h = coded _ _ _ c.find_row-code.ensures c.if-code-eq-NOTHING.false in
-    step-opened _ _ (row_at h c.number_of-i.ensures) _
-    (c.place_no-misplaced.ensures h.row (h.under-so ∙ sym c.under_of-under.ensures) (h.many-so ∙ sym c.many_of-many.ensures))
-    c.if-misplaced-ne0.false _ (c.content_no-unfit.ensures (c.field_of.ensures ∙ h.field-so)) c.if-unfit-ne0.false
-    (h.under-so ∙ (sym c.under_of-under.ensures ∙ c.if-under-eq0.true)) refl c.opened-group.ensures.0 c.opened-group.ensures.1
-    c.opened-group.ensures.2
+pub returns-then-row-eq-SET_LEVEL : goal.returns-then-row-eq-SET_LEVEL
+returns-then-row-eq-SET_LEVEL c =
+    let h = answered _ _ _ c.in-Some.ensures in
+    step-opened _ _ h.is (c.in_ok-placed.ensures h.row h.under-so h.many-so) (c.in_ok-fits.ensures h.field-so)
+    (h.under-so ∙ c.if-row-eq-SET_LEVEL.true) c.opened.ensures
 
-pub joined-group-requires : goal.joined-group-requires
-joined-group-requires c =
-    let h = coded _ _ _ c.find_row-code.ensures c.if-code-eq-NOTHING.false in
-    omega (arith, h.below, c.number_of-i.ensures)
+pub joined-requires : goal.joined-requires
+joined-requires c = (answered _ _ _ c.in-Some.ensures).below
 
 pub returns : goal.returns
 returns c =
-    let h = coded _ _ _ c.find_row-code.ensures c.if-code-eq-NOTHING.false in
-    step-joined _ _ (row_at h c.number_of-i.ensures) _
-    (c.place_no-misplaced.ensures h.row (h.under-so ∙ sym c.under_of-under.ensures) (h.many-so ∙ sym c.many_of-many.ensures))
-    c.if-misplaced-ne0.false _ (c.content_no-unfit.ensures (c.field_of.ensures ∙ h.field-so)) c.if-unfit-ne0.false _
-    (h.under-so ∙ sym c.under_of-under.ensures) c.if-under-eq0.false (member-pair h c.under_of-under.ensures c.if-under-eq0.false) refl
-    c.joined-group.ensures.0 c.joined-group.ensures.1 refl
+    let h = answered _ _ _ c.in-Some.ensures in
+    step-joined _ _ h.is (c.in_ok-placed.ensures h.row h.under-so h.many-so) (c.in_ok-fits.ensures h.field-so)
+    h.under-so c.if-row-eq-SET_LEVEL.false (member-pair h c.if-row-eq-SET_LEVEL.false) c.joined.ensures

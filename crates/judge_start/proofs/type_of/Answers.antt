@@ -6,9 +6,9 @@ use Rattle.judge_start.proofs.type_of.Goals as goal
 pub returns-then-content-ne-TYPE_DIGITS : goal.returns-then-content-ne-TYPE_DIGITS
 returns-then-content-ne-TYPE_DIGITS c = type-other _ c.if-content-ne-TYPE_DIGITS.true
 
-pub returns-in-Is : goal.returns-in-Is
-returns-in-Is c =
-    c.of.ensures ∙ type-known _ c.if-content-ne-TYPE_DIGITS.false _ (sym c.number_at.ensures ∙ c.in-Is.is)
+pub returns-in-Some : goal.returns-in-Some
+returns-in-Some c =
+    c.of.ensures ∙ type-known _ c.if-content-ne-TYPE_DIGITS.false _ (sym c.number_at.ensures ∙ c.in-Some.is)
 
 pub returns-in-None : goal.returns-in-None
 returns-in-None c =

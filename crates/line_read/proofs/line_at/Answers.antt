@@ -7,12 +7,12 @@ use Rattle.line_read.proofs.line_at.Goals as goal
 
 pub sized_line-requires : goal.sized_line-requires
 sized_line-requires c =
-    omega (arith, number-within _ _ _ (sym c.number_at.ensures ∙ c.in-Is.is))
+    omega (arith, number-within _ _ _ (sym c.number_at.ensures ∙ c.in-Some.is))
 
-pub returns-in-Is : goal.returns-in-Is
+pub returns-in-Some : goal.returns-in-Some
 unfolding must_read line_at
-returns-in-Is c =
-    c.sized_line.ensures ∙ search (← c.number_at.ensures, c.in-Is.is)
+returns-in-Some c =
+    c.sized_line.ensures ∙ search (← c.number_at.ensures, c.in-Some.is)
 
 pub returns-in-None : goal.returns-in-None
 unfolding must_read line_at

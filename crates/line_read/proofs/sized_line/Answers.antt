@@ -12,20 +12,16 @@ pub returns-then-s-at : goal.returns-then-s-at
 unfolding must must_read sized_line
 returns-then-s-at c = c.refused-then-s-at.ensures ∙ search tests
 
-pub returns-then-s-at-ne-CR : goal.returns-then-s-at-ne-CR
+pub returns-then-not-line_ends : goal.returns-then-not-line_ends
 unfolding must must_read sized_line
-returns-then-s-at-ne-CR c = c.refused-then-s-at-ne-CR.ensures ∙ search tests
+returns-then-not-line_ends c = c.refused-then-not-line_ends.ensures ∙ search (tests, ← c.line_ends.ensures, c.if-not-line_ends.true)
 
-pub returns-then-s-at-ne-LF : goal.returns-then-s-at-ne-LF
+pub returns-in-Some : goal.returns-in-Some
 unfolding must must_read sized_line
-returns-then-s-at-ne-LF c = c.refused-then-s-at-ne-LF.ensures ∙ search tests
-
-pub returns-in-Is : goal.returns-in-Is
-unfolding must must_read sized_line
-returns-in-Is c =
-    search (tests, ← c.number_at.ensures, c.in-Is.is)
+returns-in-Some c =
+    search (tests, ← c.line_ends.ensures, c.if-not-line_ends.false, ← c.number_at.ensures, c.in-Some.is)
 
 pub returns-in-None : goal.returns-in-None
 unfolding must must_read sized_line
 returns-in-None c =
-    c.refused-in-None.ensures ∙ search (tests, ← c.number_at.ensures, c.in-None.is)
+    c.refused-in-None.ensures ∙ search (tests, ← c.line_ends.ensures, c.if-not-line_ends.false, ← c.number_at.ensures, c.in-None.is)

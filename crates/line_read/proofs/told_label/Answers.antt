@@ -1,17 +1,33 @@
 -- `told_label` is the walk `told_label`.
-use mathlib.Core.Path.{◌∙◌}
+use mathlib.Core.Path.{sym, ◌∙◌}
+use Prim.Native.Nat.{◌+◌}
 use native.Mathlib.Omega.{arith}
-use Rattle.line_read.proofs.ToldLaws.{label-cut, label-told}
+use borrow.Author.Tests.{leb-true, leb-false}
+use Rattle.meaning.specs.Lines.{length_digits}
+use Rattle.line_read.proofs.ToldLaws.{label-cut, label-told, four-made}
 use Rattle.line_read.proofs.told_label.Goals as goal
 
-pub returns-then-s-lt-LINE_LEAD : goal.returns-then-s-lt-LINE_LEAD
-returns-then-s-lt-LINE_LEAD c = label-cut _ _ (omega arith)
+pub returns-then-not-has_lead : goal.returns-then-not-has_lead
+returns-then-not-has_lead c = label-cut _ _ (leb-false _ _ (sym c.has_lead.ensures ∙ c.if-not-has_lead.true))
 
-pub returns-then-s-at : goal.returns-then-s-at
-returns-then-s-at c = label-cut _ _ (omega arith)
+pub overflow_add-at : goal.overflow_add-at
+overflow_add-at c =
+    let h = leb-true _ _ (sym c.has_lead.ensures ∙ c.if-not-has_lead.false) in
+    omega (arith, h)
+
+pub digits_at-n-requires : goal.digits_at-n-requires
+digits_at-n-requires c =
+    let h = leb-true _ _ (sym c.has_lead.ensures ∙ c.if-not-has_lead.false) in
+    (omega arith, omega (arith, h))
 
 pub returns-then-n-lt-FOUR_ZEROS : goal.returns-then-n-lt-FOUR_ZEROS
-returns-then-n-lt-FOUR_ZEROS c = omega arith ∙ label-told _ _ (omega arith) _ c.four_at-n.ensures
+returns-then-n-lt-FOUR_ZEROS c =
+    let h = leb-true _ _ (sym c.has_lead.ensures ∙ c.if-not-has_lead.false) in
+    let n = four-made c.args.s.now (c.args.at + length_digits) c.digits_at-n.result (omega (arith, h)) c.digits_at-n.ensures.0 in
+    omega arith ∙ label-told _ _ h _ n
 
 pub returns : goal.returns
-returns c = label-told _ _ (omega arith) _ c.four_at-n.ensures
+returns c =
+    let h = leb-true _ _ (sym c.has_lead.ensures ∙ c.if-not-has_lead.false) in
+    let n = four-made c.args.s.now (c.args.at + length_digits) c.digits_at-n.result (omega (arith, h)) c.digits_at-n.ensures.0 in
+    label-told _ _ h _ n

@@ -1,17 +1,27 @@
 -- `told_length` is the walk `told_length`.
-use mathlib.Core.Path.{◌∙◌}
+use mathlib.Core.Path.{sym, ◌∙◌}
 use native.Mathlib.Omega.{arith}
-use Rattle.line_read.proofs.ToldLaws.{length_cut, length-told}
+use borrow.Author.Tests.{leb-true, leb-false}
+use Rattle.line_read.proofs.ToldLaws.{length_cut, length-told, three-made}
 use Rattle.line_read.proofs.told_length.Goals as goal
 
-pub returns-then-s-lt-LINE_LEAD : goal.returns-then-s-lt-LINE_LEAD
-returns-then-s-lt-LINE_LEAD c = (length_cut _ _ (omega arith), omega arith)
+pub returns-then-not-has_lead : goal.returns-then-not-has_lead
+returns-then-not-has_lead c =
+    (length_cut _ _ (leb-false _ _ (sym c.has_lead.ensures ∙ c.if-not-has_lead.true)), omega arith)
 
-pub returns-then-s-at : goal.returns-then-s-at
-returns-then-s-at c = (length_cut _ _ (omega arith), omega arith)
+pub digits_at-n-requires : goal.digits_at-n-requires
+digits_at-n-requires c =
+    let h = leb-true _ _ (sym c.has_lead.ensures ∙ c.if-not-has_lead.false) in
+    (omega arith, omega (arith, h))
 
 pub returns-then-n : goal.returns-then-n
-returns-then-n c = (omega arith ∙ length-told _ _ (omega arith) _ c.three_at-n.ensures.0, omega arith)
+returns-then-n c =
+    let h = leb-true _ _ (sym c.has_lead.ensures ∙ c.if-not-has_lead.false) in
+    let n = three-made c.args.s.now c.args.at c.digits_at-n.result (omega (arith, h)) c.digits_at-n.ensures.0 in
+    (omega arith ∙ length-told _ _ h _ n, omega arith)
 
 pub returns : goal.returns
-returns c = (length-told _ _ (omega arith) _ c.three_at-n.ensures.0, omega arith)
+returns c =
+    let h = leb-true _ _ (sym c.has_lead.ensures ∙ c.if-not-has_lead.false) in
+    let n = three-made c.args.s.now c.args.at c.digits_at-n.result (omega (arith, h)) c.digits_at-n.ensures.0 in
+    (length-told _ _ h _ n, omega (arith, c.digits_at-n.ensures.1))

@@ -1,27 +1,18 @@
-use mathlib.Core.Path.{◌≡◌, sym, ap₂, ◌∙◌}
-use Prim.Native.Nat.{ℕ, ◌+◌, ◌-◌}
+use mathlib.Core.Path.{◌≡◌, sym, ◌∙◌}
+use Prim.Native.Nat.{◌+◌, ◌-◌}
 use native.Mathlib.Omega.{arith}
-use lib.ListN.{take, drop}
-use Rattle.meaning.specs.Digits.{all_digits}
 use Rattle.meaning.specs.Lines.{line_lead}
 use Rattle.meaning.proofs.Bools.{and_left, and_right}
 use Rattle.line_read.proofs.LineWalkLaws.{digits-further, digits-done}
 use Rattle.line_read.proofs.usual_lead.Goals as goal
 
-pub loop-i-init : goal.loop-i-init
-loop-i-init c =
-    let a = c.args in
-    let n : line_lead - 0 ≡ line_lead = omega arith in
-    let o : a.at + 0 ≡ a.at = omega arith in
-    (omega arith, λ h. ap₂ (λ (n o : ℕ). all_digits (take n (drop o a.s.now))) n o)
-
-pub loop-i-preserved : goal.loop-i-preserved
-loop-i-preserved c = (
-  omega arith,
-  λ h.
-      let l = c.loop-i in
-      digits-further _ _ l.i _ (omega arith) (λ _. and_right l.fit _ h) ∙ l.invariant.1 (and_left l.fit _ h),
-)
+pub loop-b-preserved : goal.loop-b-preserved
+loop-b-preserved c = λ h.
+    let l = c.loop-b in
+    digits-further _ l.b-index c.loop-b-test.true (and_right l.fit _ h) ∙ l.invariant (and_left l.fit _ h)
 
 pub returns : goal.returns
-returns c = λ e. let l = c.loop-i in sym (l.invariant.1 e) ∙ sym (digits-done _ _ l.i _ (omega arith))
+returns c = λ e.
+    let l = c.loop-b in
+    let n : c.args.at + line_lead - c.args.at ≡ line_lead = omega arith in
+    rw n at (sym (l.invariant e) ∙ sym (digits-done _ l.b-index c.loop-b-test.false))

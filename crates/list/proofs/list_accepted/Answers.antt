@@ -1,9 +1,9 @@
 -- `list_accepted`: the need is the length of what is put; each return by the law of the answer.
 use mathlib.Core.Path.{refl, ap, ◌∙◌}
 use native.Mathlib.Omega.{arith}
-use Rattle.meaning.specs.declared.Made.TheVariants.{Refused}
 use Rattle.list.proofs.ListLaws.{listed-are, answer-full, answer-made}
 use Rattle.list.proofs.list_accepted.Goals as goal
+use Rattle.std.specs.Prelude.{Err}
 
 pub overflow_sub-need : goal.overflow_sub-need
 overflow_sub-need c =
@@ -29,7 +29,7 @@ pub returns-then-out-need : goal.returns-then-out-need
 returns-then-out-need c =
     let a = c.args in
     let r = answer-full a.set.now a.shape c.requires a.out.now _ refl c.if-out-need.true in
-    (ap Refused c.at.ensures ∙ r.0, r.1)
+    (ap Err c.at.ensures ∙ r.0, r.1)
 
 pub put_entries-requires : goal.put_entries-requires
 put_entries-requires c =

@@ -15,7 +15,6 @@ loop-k-init c =
     let a = c.args in
     let z : a.lines - 0 ≡ a.lines = omega arith in (
       omega arith,
-      omega arith,
       subst (AllRead a.set.now 0) (sym z) c.requires.all_read,
       refl,
       omega (arith, ap (λ (n : ℕ). length (listed_from a.set.now 0 0 n)) z),
@@ -27,7 +26,7 @@ overflow_add-from c =
     let l = c.loop-k in
     omega (
       arith,
-      all-within c.args.set.now l.at l.k c.args.lines (omega arith) l.invariant.2 _ c.told_length-length.ensures.0,
+      all-within c.args.set.now l.at l.k c.args.lines (omega arith) l.invariant.1 _ c.told_length-length.ensures.0,
       c.ranges,
       c.well_formed,
     )
@@ -37,7 +36,7 @@ overflow_add-from-in-loop-k c =
     let l = c.loop-k in
     omega (
       arith,
-      all-within c.args.set.now l.at l.k c.args.lines (omega arith) l.invariant.2 _ c.told_length-length.ensures.0,
+      all-within c.args.set.now l.at l.k c.args.lines (omega arith) l.invariant.1 _ c.told_length-length.ensures.0,
       c.ranges,
       c.well_formed,
     )
@@ -47,7 +46,7 @@ slice_bounds-put_listed-count c =
     let l = c.loop-k in
     omega (
       arith,
-      all-within c.args.set.now l.at l.k c.args.lines (omega arith) l.invariant.2 _ c.told_length-length.ensures.0,
+      all-within c.args.set.now l.at l.k c.args.lines (omega arith) l.invariant.1 _ c.told_length-length.ensures.0,
       c.ranges,
       c.well_formed,
     )
@@ -57,7 +56,7 @@ slice_bounds-put_listed-start c =
     let l = c.loop-k in
     omega (
       arith,
-      all-within c.args.set.now l.at l.k c.args.lines (omega arith) l.invariant.2 _ c.told_length-length.ensures.0,
+      all-within c.args.set.now l.at l.k c.args.lines (omega arith) l.invariant.1 _ c.told_length-length.ensures.0,
       c.ranges,
       c.well_formed,
     )
@@ -67,7 +66,7 @@ slice_bounds-put_listed-end c =
     let l = c.loop-k in
     omega (
       arith,
-      all-within c.args.set.now l.at l.k c.args.lines (omega arith) l.invariant.2 _ c.told_length-length.ensures.0,
+      all-within c.args.set.now l.at l.k c.args.lines (omega arith) l.invariant.1 _ c.told_length-length.ensures.0,
       c.ranges,
       c.well_formed,
     )
@@ -76,11 +75,11 @@ pub put_listed-to-requires : goal.put_listed-to-requires
 put_listed-to-requires c =
     let a = c.args in
     let l = c.loop-k in
-    let t = all_told a.set.now l.at l.k a.lines (omega arith) l.invariant.2 _ _ c.told_length-length.ensures.0
+    let t = all_told a.set.now l.at l.k a.lines (omega arith) l.invariant.1 _ _ c.told_length-length.ensures.0
     c.told_label-label.ensures in (
       omega (arith, (read_back a.set.now l.at t.0).label-fits),
-      line-short a.set.now l.at l.k a.lines (omega arith) t.0 _ (content-length l.at _) l.out l.to l.invariant.4,
-      line-fits a.set.now l.at l.k a.lines (omega arith) t.0 _ (content-length l.at _) l.out l.to l.invariant.4,
+      line-short a.set.now l.at l.k a.lines (omega arith) t.0 _ (content-length l.at _) l.out l.to l.invariant.3,
+      line-fits a.set.now l.at l.k a.lines (omega arith) t.0 _ (content-length l.at _) l.out l.to l.invariant.3,
     )
 
 pub overflow_add-at-in-loop-k : goal.overflow_add-at-in-loop-k
@@ -88,30 +87,26 @@ overflow_add-at-in-loop-k c =
     let l = c.loop-k in
     omega (
       arith,
-      all-within c.args.set.now l.at l.k c.args.lines (omega arith) l.invariant.2 _ c.told_length-length.ensures.0,
+      all-within c.args.set.now l.at l.k c.args.lines (omega arith) l.invariant.1 _ c.told_length-length.ensures.0,
       c.ranges,
       c.well_formed,
     )
-
-pub overflow_add-k : goal.overflow_add-k
-overflow_add-k c =
-    omega (arith, c.loop-k-test.true, c.ranges, c.well_formed)
 
 pub loop-k-preserved : goal.loop-k-preserved
 loop-k-preserved c =
     let a = c.args in
     let l = c.loop-k in
-    let t = all_told a.set.now l.at l.k a.lines (omega arith) l.invariant.2 _ _ c.told_length-length.ensures.0
+    let t = all_told a.set.now l.at l.k a.lines (omega arith) l.invariant.1 _ _ c.told_length-length.ensures.0
     c.told_label-label.ensures in
-    let u = put-turn a.set.now l.at l.k a.lines (omega arith) t.0 _ (content-length l.at _) l.out l.to l.invariant.4 _ _
+    let u = put-turn a.set.now l.at l.k a.lines (omega arith) t.0 _ (content-length l.at _) l.out l.to l.invariant.3 _ _
     c.put_listed-to.ensures.0 c.put_listed-to.ensures.1 in
-    (omega arith, (read_back a.set.now l.at t.0).within, t.1, u.same-room ∙ l.invariant.3, u.has_room, u.same ∙ l.invariant.5)
+    ((read_back a.set.now l.at t.0).within, t.1, u.same-room ∙ l.invariant.2, u.has_room, u.same ∙ l.invariant.4)
 
 pub shape_of-out : goal.shape_of-out
-shape_of-out c = c.loop-k.invariant.3
+shape_of-out c = c.loop-k.invariant.2
 
 pub returns : goal.returns
 returns c =
     let a = c.args in
     let l = c.loop-k in
-    over_none l.out l.to ∙ (ap (λ (u : List ℕ). over l.to u l.out) (sym (entries-end a.set.now l.at l.k a.lines (omega arith))) ∙ l.invariant.5)
+    over_none l.out l.to ∙ (ap (λ (u : List ℕ). over l.to u l.out) (sym (entries-end a.set.now l.at l.k a.lines (omega arith))) ∙ l.invariant.4)

@@ -8,9 +8,6 @@ use Rattle.list.proofs.put_entries.Given as goal
 
 abbrev pub invariant-loop-k : goal.invariant-loop-k
 invariant-loop-k l =
-    (l.k ≤ l.lines) × (l.at ≤ length l.set) × AllRead l.set l.at (l.lines - l.k) × (length l.out ≡ length l.initial.out)
+    (l.at ≤ length l.set) × AllRead l.set l.at (l.lines - l.k) × (length l.out ≡ length l.initial.out)
     × (l.to + length (listed_from l.set l.at l.k (l.lines - l.k)) ≤ length l.out)
     × (over l.to (listed_from l.set l.at l.k (l.lines - l.k)) l.out ≡ over 0 (listed_from l.set 0 0 l.lines) l.initial.out)
-
-abbrev pub decreases-loop-k : goal.decreases-loop-k
-decreases-loop-k l = l.lines - l.k

@@ -1,32 +1,39 @@
 -- A set that is refused, or after which nothing stands, is the last; any other is followed by the next.
-use mathlib.Core.Path.{ap, ◌∙◌}
+use mathlib.Core.Path.{◌∙◌}
 use native.Mathlib.Omega.{arith}
-use borrow.Author.Rules.{rules}
-use Rattle.face_replies.specs.Replies.{judged_reply}
-use Rattle.program_status.proofs.StopLaws.{answered, refused-last, whole-last, ahead-next}
+use Rattle.program_status.proofs.StopLaws.{asked, refused-at, refused-no, refused-number, whole-at, whole-no, ahead-some, ahead-next}
 use Rattle.program_status.proofs.list_sets.Goals as goal
 
-pub returns-then-length-eq0-clause-at_value : goal.returns-then-length-eq0-clause-at_value
-returns-then-length-eq0-clause-at_value g c =
-    let l = c.loop-out in
-    let s = c.args.s.now in
-    let r = c.judged_reply-reply in
-    let asked = answered s l.at r.result (r.ensures ∙ ap judged_reply c.judge.ensures) in
-    λ e. refused-last s l.at r.result.length r.result.no l.invariant.1.1 asked c.if-length-eq0.true
+pub returns-in-Err : goal.returns-in-Err
+returns-in-Err g c =
+    let s = c.args.input.now in
+    let at = c.loop-refusal.at in
+    let r = c.in-Err.refusal in
+    let e = asked s at _ c.judge.ensures ∙ c.in-Err.is in
+    let a = c.loop-refusal.invariant.ahead in
+    record { at-is = refused-at s at r e a; no-is = refused-no s at r e a; numbered = refused-number s at r e }
 
-pub returns-then-s-at-clause-at_value : goal.returns-then-s-at-clause-at_value
-returns-then-s-at-clause-at_value g c =
-    let l = c.loop-out in
-    let s = c.args.s.now in
-    let r = c.judged_reply-reply in
-    let asked = answered s l.at r.result (r.ensures ∙ ap judged_reply c.judge.ensures) in
-    λ e. whole-last s l.at r.result.length r.result.no l.invariant.1.1 asked c.if-length-eq0.false (omega (arith, c.if-s-at.true))
+pub returns-then-set-shape : goal.returns-then-set-shape
+returns-then-set-shape g c =
+    let s = c.args.input.now in
+    let at = c.loop-refusal.at in
+    let x = c.in-Ok.shape in
+    let e = asked s at _ c.judge.ensures ∙ c.in-Ok.is in
+    let a = c.loop-refusal.invariant.ahead in
+    record { at-is = whole-at s at x e (omega arith) a; no-is = whole-no s at x e (omega arith) a; numbered = tt }
 
-pub loop-out-preserved : goal.loop-out-preserved
-loop-out-preserved g c =
-    let l = c.loop-out in
-    let s = c.args.s.now in
-    let r = c.judged_reply-reply in
-    let asked = answered s l.at r.result (r.ensures ∙ ap judged_reply c.judge.ensures) in
-    let next = ahead-next s l.at r.result.length r.result.no l.invariant.1.1 asked c.if-length-eq0.false (omega (arith, c.if-s-at.false)) in
-    (search rules, (search rules, next))
+pub loop-refusal-smaller : goal.loop-refusal-smaller
+loop-refusal-smaller g c =
+    let s = c.args.input.now in
+    let at = c.loop-refusal.at in
+    let x = c.in-Ok.shape in
+    let some = ahead-some s at x (asked s at _ c.judge.ensures ∙ c.in-Ok.is) in
+    omega arith
+
+pub loop-refusal-preserved : goal.loop-refusal-preserved
+loop-refusal-preserved g c =
+    let s = c.args.input.now in
+    let at = c.loop-refusal.at in
+    let x = c.in-Ok.shape in
+    let e = asked s at _ c.judge.ensures ∙ c.in-Ok.is in
+    record { within = omega arith; ahead = ahead-next s at x e (omega arith) c.loop-refusal.invariant.ahead }

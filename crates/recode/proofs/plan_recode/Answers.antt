@@ -1,13 +1,14 @@
 -- `plan_recode` answers what was planned.
 use mathlib.Core.Path.{sym, ◌∙◌}
+use Rattle.meaning.proofs.ResultLaws.{handed-on}
 use Rattle.recode.proofs.RecodeCallLaws.{plan-unread}
 use Rattle.recode.proofs.plan_recode.Goals as goal
 
-pub plan_judged-requires : goal.plan_judged-requires
-plan_judged-requires c =
-    (sym c.judge.ensures ∙ c.in-Accepted.is, c.requires.0, c.requires.1)
+pub invariant_of-accepted : goal.invariant_of-accepted
+invariant_of-accepted c =
+    record { accepted = sym c.judge.ensures ∙ c.in_ok-shape.was }
 
-pub returns-in-Refused : goal.returns-in-Refused
-returns-in-Refused c =
+pub returns-in_err-shape : goal.returns-in_err-shape
+returns-in_err-shape c =
     let a = c.args in
-    sym (plan-unread a.set.now a.room a.wanted _ (sym c.judge.ensures ∙ c.in-Refused.is))
+    handed-on _ c.from_residual.ensures.1 ∙ (sym (plan-unread a.set.now a.room a.wanted _ (sym c.judge.ensures ∙ c.in_err-shape.was)))

@@ -1,5 +1,4 @@
 use mathlib.Core.Path.{sym, ◌∙◌}
-use Prim.Native.Nat.{◌-◌}
 use native.Mathlib.Omega.{arith}
 use Rattle.byte_high.proofs.HighLaws.{front-most}
 use Rattle.byte_low.proofs.SeekLaws.{seek-end}
@@ -19,7 +18,7 @@ returns-then-found-end c =
     let l = c.loop-i in
     let p = c.pass_plain-from.ensures in
     let q = c.part_end-end.ensures in
-    part-stops a.table.now a.s.now c.requires.1 l.i _ _ _ p.0 q.0 q.1 p.2 c.seek_without-found.ensures c.if-found-end.true ∙ l.invariant.1
+    part-stops a.table.now a.s.now c.requires.1 l.i _ _ _ p.0 q.0 q.1 p.2 c.seek-found.ensures c.if-found-end.true ∙ l.invariant.1
 
 pub loop-i-smaller : goal.loop-i-smaller
 loop-i-smaller c =
@@ -35,7 +34,7 @@ loop-i-preserved c =
     let l = c.loop-i in
     let p = c.pass_plain-from.ensures in
     let q = c.part_end-end.ensures in
-    (q.1, part-over a.table.now a.s.now c.requires.1 l.i _ _ _ p.0 q.0 q.1 p.2 c.seek_without-found.ensures c.if-found-end.false ∙ l.invariant.1)
+    (q.1, part-over a.table.now a.s.now c.requires.1 l.i _ _ _ p.0 q.0 q.1 p.2 c.seek-found.ensures c.if-found-end.false ∙ l.invariant.1)
 
 pub returns : goal.returns
 returns c =

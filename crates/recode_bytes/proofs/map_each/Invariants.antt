@@ -1,12 +1,12 @@
--- `map_each`: after i turns the bytes before i are mapped. A turn is `map-one`.
+-- `map_each`: after some turns as many bytes of the part are mapped.
 use mathlib.Core.Path.{◌≡◌}
-use Prim.Native.Nat.{◌-◌, ◌≤◌}
-use lib.ListN.{length}
-use Rattle.recode_bytes.specs.Mapped.{mapped_at}
+use mathlib.Core.List.{◌++◌}
+use Prim.Native.Nat.{◌≤◌}
+use lib.ListN.{length, take, drop}
+use Rattle.recode_bytes.specs.Mapped.{mapped}
 use Rattle.recode_bytes.proofs.map_each.Given as goal
 
-abbrev pub invariant-loop-i : goal.invariant-loop-i
-invariant-loop-i l = (l.at ≤ l.i) × ((l.i ≤ l.end) × ((l.s ≡ mapped_at l.table l.at (l.i - l.at) l.initial.s) × (length l.s ≡ length l.initial.s)))
-
-abbrev pub decreases-loop-i : goal.decreases-loop-i
-decreases-loop-i l = l.end - l.i
+abbrev pub invariant-loop-b : goal.invariant-loop-b
+invariant-loop-b l =
+    (l.b-index ≤ length l.initial.b-items)
+    × (l.b-items ≡ mapped l.table (take l.b-index l.initial.b-items) ++ drop l.b-index l.initial.b-items)

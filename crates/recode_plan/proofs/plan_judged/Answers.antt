@@ -3,17 +3,15 @@ use mathlib.Core.Path.{sym, ◌∙◌}
 use Rattle.recode_plan.proofs.RecodePlanLaws.{plan-followed}
 use Rattle.recode_plan.proofs.plan_judged.Goals as goal
 
-pub returns-then-shape-set : goal.returns-then-shape-set
-returns-then-shape-set c =
+pub returns-then-set : goal.returns-then-set
+returns-then-set c =
     let a = c.args in
-    c.refused_plan.ensures ∙ sym (plan-followed a.set.now a.shape a.room a.wanted c.requires.0 c.if-shape-set.true)
+    c.refused_plan.ensures ∙ sym (plan-followed a.set.bytes.now a.set.shape a.room a.wanted a.set.accepted c.if-set.true)
 
 pub plan_unmarked-requires : goal.plan_unmarked-requires
 plan_unmarked-requires c =
-    let p = c.requires in
-    (record { accepted-so = p.0; alone = c.if-shape-set.false; in-room = p.1; table-so = p.2 }, sym c.first_place-place.ensures.0 ∙ c.if-place-eq0.true)
+    (record { accepted-so = c.args.set.accepted; alone = c.if-set.false; in-room = c.requires }, sym c.first_place-place.ensures.0 ∙ c.if-place-eq0.true)
 
 pub plan_marked-requires : goal.plan_marked-requires
 plan_marked-requires c =
-    let p = c.requires in
-    (record { accepted-so = p.0; alone = c.if-shape-set.false; in-room = p.1; table-so = p.2 }, c.first_place-place.ensures.0, c.if-place-eq0.false)
+    (record { accepted-so = c.args.set.accepted; alone = c.if-set.false; in-room = c.requires }, c.first_place-place.ensures.0, c.if-place-eq0.false)

@@ -1,94 +1,11 @@
 -- `find_6301` is the search of the table: an arm knows the label, the last arm that it is none of the 20.
 use mathlib.Core.Path.{refl, sym, ap}
-use Rattle.meaning.specs.Tables.{rows6301, row_label}
-use Rattle.meaning.specs.FieldTable.{field_table, field_row_in}
-use Rattle.table_fields.specs.FieldCodes.{kind_number, field_code}
-use Rattle.table_fields.specs.LabelNumbers.{label_number, rows_before}
+use Rattle.meaning.specs.Tables.{rows6301}
 use Rattle.table_find.specs.LookUp.{find_from}
-use Rattle.table_find.specs.RowCodes.{code}
+use Rattle.table_find.specs.TableRows.{table_row}
 use Rattle.table_find.proofs.FindLaws.{plain_labels, find_none}
 use Rattle.table_find.proofs.find_6301.Goals as goal
 
-pub returns-in-8000 : goal.returns-in-8000
-unfolding code find_from label_number rows_before rows6301 row_label field_code kind_number field_row_in field_table
-returns-in-8000 c = rw c.in-8000.is c.at.ensures
-
-pub returns-in-8100 : goal.returns-in-8100
-unfolding code find_from label_number rows_before rows6301 row_label field_code kind_number field_row_in field_table
-returns-in-8100 c = rw c.in-8100.is c.at-in-8100.ensures
-
-pub returns-in-8315 : goal.returns-in-8315
-unfolding code find_from label_number rows_before rows6301 row_label field_code kind_number field_row_in field_table
-returns-in-8315 c = rw c.in-8315.is c.at-in-8315.ensures
-
-pub returns-in-8316 : goal.returns-in-8316
-unfolding code find_from label_number rows_before rows6301 row_label field_code kind_number field_row_in field_table
-returns-in-8316 c = rw c.in-8316.is c.at-in-8316.ensures
-
-pub returns-in-9206 : goal.returns-in-9206
-unfolding code find_from label_number rows_before rows6301 row_label field_code kind_number field_row_in field_table
-returns-in-9206 c = rw c.in-9206.is c.at-in-9206.ensures
-
-pub returns-in-9218 : goal.returns-in-9218
-unfolding code find_from label_number rows_before rows6301 row_label field_code kind_number field_row_in field_table
-returns-in-9218 c = rw c.in-9218.is c.at-in-9218.ensures
-
-pub returns-in-3000 : goal.returns-in-3000
-unfolding code find_from label_number rows_before rows6301 row_label field_code kind_number field_row_in field_table
-returns-in-3000 c = rw c.in-3000.is c.at-in-3000.ensures
-
-pub returns-in-3100 : goal.returns-in-3100
-unfolding code find_from label_number rows_before rows6301 row_label field_code kind_number field_row_in field_table
-returns-in-3100 c = rw c.in-3100.is c.at-in-3100.ensures
-
-pub returns-in-3101 : goal.returns-in-3101
-unfolding code find_from label_number rows_before rows6301 row_label field_code kind_number field_row_in field_table
-returns-in-3101 c = rw c.in-3101.is c.at-in-3101.ensures
-
-pub returns-in-3102 : goal.returns-in-3102
-unfolding code find_from label_number rows_before rows6301 row_label field_code kind_number field_row_in field_table
-returns-in-3102 c = rw c.in-3102.is c.at-in-3102.ensures
-
-pub returns-in-3103 : goal.returns-in-3103
-unfolding code find_from label_number rows_before rows6301 row_label field_code kind_number field_row_in field_table
-returns-in-3103 c = rw c.in-3103.is c.at-in-3103.ensures
-
-pub returns-in-3104 : goal.returns-in-3104
-unfolding code find_from label_number rows_before rows6301 row_label field_code kind_number field_row_in field_table
-returns-in-3104 c = rw c.in-3104.is c.at-in-3104.ensures
-
-pub returns-in-3105 : goal.returns-in-3105
-unfolding code find_from label_number rows_before rows6301 row_label field_code kind_number field_row_in field_table
-returns-in-3105 c = rw c.in-3105.is c.at-in-3105.ensures
-
-pub returns-in-3106 : goal.returns-in-3106
-unfolding code find_from label_number rows_before rows6301 row_label field_code kind_number field_row_in field_table
-returns-in-3106 c = rw c.in-3106.is c.at-in-3106.ensures
-
-pub returns-in-3107 : goal.returns-in-3107
-unfolding code find_from label_number rows_before rows6301 row_label field_code kind_number field_row_in field_table
-returns-in-3107 c = rw c.in-3107.is c.at-in-3107.ensures
-
-pub returns-in-3108 : goal.returns-in-3108
-unfolding code find_from label_number rows_before rows6301 row_label field_code kind_number field_row_in field_table
-returns-in-3108 c = rw c.in-3108.is c.at-in-3108.ensures
-
-pub returns-in-3110 : goal.returns-in-3110
-unfolding code find_from label_number rows_before rows6301 row_label field_code kind_number field_row_in field_table
-returns-in-3110 c = rw c.in-3110.is c.at-in-3110.ensures
-
-pub returns-in-3622 : goal.returns-in-3622
-unfolding code find_from label_number rows_before rows6301 row_label field_code kind_number field_row_in field_table
-returns-in-3622 c = rw c.in-3622.is c.at-in-3622.ensures
-
-pub returns-in-3623 : goal.returns-in-3623
-unfolding code find_from label_number rows_before rows6301 row_label field_code kind_number field_row_in field_table
-returns-in-3623 c = rw c.in-3623.is c.at-in-3623.ensures
-
-pub returns-in-3628 : goal.returns-in-3628
-unfolding code find_from label_number rows_before rows6301 row_label field_code kind_number field_row_in field_table
-returns-in-3628 c = rw c.in-3628.is c.at-in-3628.ensures
-
 pub returns-in_default : goal.returns-in_default
-unfolding code find_from rows6301 plain_labels
-returns-in_default c = sym (ap code (find_none _ rows6301 _ c.in_default.in_default-own.rest refl refl))
+unfolding table_row find_from rows6301 plain_labels
+returns-in_default c = sym (ap table_row (find_none _ rows6301 _ c.in_default.in_default-own.rest refl refl))

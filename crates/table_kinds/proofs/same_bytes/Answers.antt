@@ -1,5 +1,4 @@
 use mathlib.Core.Path.{sym, ◌∙◌}
-use Prim.Native.Nat.{◌-◌}
 use native.Mathlib.Omega.{arith}
 use Rattle.table_kinds.proofs.FittingLaws.{same-lengths, same_more, same_stop, same_end}
 use Rattle.table_kinds.proofs.same_bytes.Goals as goal

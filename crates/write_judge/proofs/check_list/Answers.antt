@@ -1,54 +1,47 @@
-use mathlib.Core.Path.{refl, sym, ap, ◌∙◌}
+use mathlib.Core.Path.{◌≡◌, refl, sym, ap, ◌∙◌}
+use Prim.Native.Nat.{◌+◌, ◌-◌, ◌<◌}
+use lib.ListN.{length}
 use native.Mathlib.Omega.{arith}
-use Rattle.write_judge.specs.declared.ListJudged.TheVariants.{Refused}
+use Rattle.meaning.proofs.ResultLaws.{handed-on}
+use Rattle.meaning.specs.Limits.{max_entries}
+use Rattle.meaning.specs.Entries.{entry_lead}
 use Rattle.write_judge.proofs.CheckLaws.{checked-within, some-bad, some-done, some-full, some-on}
 use Rattle.write_judge.proofs.check_list.Goals as goal
+use Rattle.std.specs.Prelude.{Err, Ok}
 
-pub loop-r-init : goal.loop-r-init
-loop-r-init c = (omega arith, omega arith, refl)
+pub loop-before-init : goal.loop-before-init
+loop-before-init c = (λ h. refl, λ h. absurd (omega arith))
 
-pub returns-in-Refused : goal.returns-in-Refused
-returns-in-Refused c =
-    sym (some-bad c.args.list.now c.loop-r.at c.loop-r.left (sym c.check_entry.ensures ∙ c.in-Refused.is)) ∙ c.loop-r.invariant.2
+pub returns-in_err-length : goal.returns-in_err-length
+returns-in_err-length c =
+    let l = c.loop-before in
+    handed-on _ c.from_residual.ensures.1 ∙ (sym (some-bad c.args.list.now l.at (max_entries - l.before) (sym c.check_entry.ensures ∙ c.in_err-length.was)) ∙ l.invariant.0 c.loop-before-test.true)
 
 pub overflow_add-at : goal.overflow_add-at
 overflow_add-at c =
-    omega (arith, checked-within c.args.list.now c.loop-r.at (sym c.check_entry.ensures ∙ c.in-Read.is), c.well_formed)
+    omega (arith, checked-within c.args.list.now c.loop-before.at (sym c.check_entry.ensures ∙ c.in_ok-length.was), c.well_formed)
 
-pub overflow_add-at-in-Read : goal.overflow_add-at-in-Read
-overflow_add-at-in-Read c =
-    omega (arith, checked-within c.args.list.now c.loop-r.at (sym c.check_entry.ensures ∙ c.in-Read.is), c.well_formed)
-
-pub overflow_sub-left : goal.overflow_sub-left
-overflow_sub-left c =
-    omega (arith, c.loop-r.invariant.0)
-
-pub overflow_sub-n : goal.overflow_sub-n
-overflow_sub-n c =
-    omega (arith, c.loop-r.invariant.1)
+pub overflow_add-at-in-loop-before : goal.overflow_add-at-in-loop-before
+overflow_add-at-in-loop-before c =
+    omega (arith, checked-within c.args.list.now c.loop-before.at (sym c.check_entry.ensures ∙ c.in_ok-length.was), c.well_formed)
 
 pub returns-then-at-list : goal.returns-then-at-list
 returns-then-at-list c =
-    sym (some-done c.args.list.now c.loop-r.at c.loop-r.left (sym c.check_entry.ensures ∙ c.in-Read.is)
-    (omega (arith, c.if-at-list.true))) ∙ c.loop-r.invariant.2
+    let l = c.loop-before in
+    let n : l.before + 1 ≡ max_entries - ((max_entries - l.before) - 1) = omega (arith, c.loop-before-test.true) in
+    ap Ok n
+    ∙ (sym (some-done c.args.list.now l.at (max_entries - l.before) (sym c.check_entry.ensures ∙ c.in_ok-length.was) (omega (arith, c.if-at-list.true)))
+    ∙ l.invariant.0 c.loop-before-test.true)
 
-pub returns-then-left-eq0 : goal.returns-then-left-eq0
-returns-then-left-eq0 c =
-    ap Refused c.at.ensures
-    ∙ (sym (some-full c.args.list.now c.loop-r.at c.loop-r.left (sym c.check_entry.ensures ∙ c.in-Read.is)
-    (omega (arith, c.if-at-list.false, checked-within c.args.list.now c.loop-r.at (sym c.check_entry.ensures ∙ c.in-Read.is))) c.if-left-eq0.true)
-    ∙ c.loop-r.invariant.2)
+pub loop-before-preserved : goal.loop-before-preserved
+loop-before-preserved c =
+    let l = c.loop-before in
+    let read = sym c.check_entry.ensures ∙ c.in_ok-length.was in
+    let more : l.at + (entry_lead + c.in_ok-length.length) < length c.args.list.now = omega (arith, c.if-at-list.false, checked-within c.args.list.now l.at read) in
+    let n : max_entries - (l.before + 1) ≡ (max_entries - l.before) - 1 = omega arith in (
+      λ h. rw n (sym (some-on c.args.list.now l.at (max_entries - l.before) read more (omega arith) (omega arith)) ∙ l.invariant.0 c.loop-before-test.true),
+      λ h. sym (some-full c.args.list.now l.at (max_entries - l.before) read more (omega arith)) ∙ l.invariant.0 c.loop-before-test.true,
+    )
 
-pub loop-r-smaller : goal.loop-r-smaller
-loop-r-smaller c =
-    omega (arith, c.loop-r.invariant.0)
-
-pub loop-r-preserved : goal.loop-r-preserved
-loop-r-preserved c = (
-  omega (arith, c.if-left-eq0.false),
-  omega (arith, c.loop-r.invariant.1),
-  sym (some-on c.args.list.now c.loop-r.at c.loop-r.left (sym c.check_entry.ensures ∙ c.in-Read.is)
-      (omega (arith, c.if-at-list.false, checked-within c.args.list.now c.loop-r.at (sym c.check_entry.ensures ∙ c.in-Read.is)))
-      (omega (arith, c.if-left-eq0.false)) c.loop-r.invariant.1)
-      ∙ c.loop-r.invariant.2,
-)
+pub returns : goal.returns
+returns c = ap Err c.at.ensures ∙ c.loop-before.invariant.1 c.loop-before-test.false

@@ -1,6 +1,8 @@
 -- `judge_entries`: 8, 9, and then the other rules.
-use mathlib.Core.Path.{refl, sym, ◌∙◌}
+use mathlib.Core.Path.{refl, sym, ap, ◌∙◌}
 use native.Mathlib.Omega.{arith}
+use Rattle.std.proofs.Common.{Some}
+use Rattle.write_seven.specs.ListSeven.{if_any}
 use Rattle.write_judge.proofs.CheckLaws.{told-head, told-later, told-within, head-there}
 use Rattle.write_judge.proofs.EntryPass.{first-other, first-unknown, first-known}
 use Rattle.write_judge.proofs.judge_entries.Goals as goal
@@ -10,9 +12,9 @@ told_label-requires c = head-there c.args.list.now 0 c.requires.1 c.requires.0
 
 pub returns-then-told_label-ne-LABEL_8000 : goal.returns-then-told_label-ne-LABEL_8000
 returns-then-told_label-ne-LABEL_8000 c =
-    c.at.ensures
-    ∙ sym (first-other c.args.list.now
-    (told-head c.args.list.now 0 c.requires.1 c.requires.0 c.told_label.ensures refl) c.if-told_label-ne-LABEL_8000.true)
+    ap Some c.at.ensures
+    ∙ ap if_any (sym (first-other c.args.list.now
+    (told-head c.args.list.now 0 c.requires.1 c.requires.0 c.told_label.ensures refl) c.if-told_label-ne-LABEL_8000.true))
 
 pub told_length-end-requires : goal.told_length-end-requires
 told_length-end-requires c =
@@ -32,10 +34,10 @@ slice_bounds-type_of-end c =
 
 pub returns-in_default : goal.returns-in_default
 returns-in_default c =
-    c.at-in_default.ensures
-    ∙ sym (first-unknown c.args.list.now
+    ap Some c.at-in_default.ensures
+    ∙ ap if_any (sym (first-unknown c.args.list.now
     (told-head c.args.list.now 0 c.requires.1 c.requires.0 c.told_label.ensures c.told_length-end.ensures)
-    c.if-told_label-ne-LABEL_8000.false (sym c.type_of.ensures ∙ c.in_default.is))
+    c.if-told_label-ne-LABEL_8000.false (sym c.type_of.ensures ∙ c.in_default.is)))
 
 pub pass_entries-requires : goal.pass_entries-requires
 pass_entries-requires c =
@@ -44,6 +46,6 @@ pass_entries-requires c =
 pub returns : goal.returns
 returns c =
     c.pass_entries.ensures
-    ∙ sym (first-known c.args.list.now
+    ∙ ap if_any (sym (first-known c.args.list.now
     (told-head c.args.list.now 0 c.requires.1 c.requires.0 c.told_label.ensures c.told_length-end.ensures)
-    c.if-told_label-ne-LABEL_8000.false (sym c.type_of.ensures ∙ c.in-Of.is))
+    c.if-told_label-ne-LABEL_8000.false (sym c.type_of.ensures ∙ c.in-Some.is)))

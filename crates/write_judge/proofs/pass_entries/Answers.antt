@@ -1,11 +1,9 @@
 use mathlib.Core.Path.{refl, sym, ap, ◌∙◌}
-use Prim.Native.Nat.{◌-◌}
 use native.Mathlib.Omega.{arith}
-use Rattle.meaning.specs.declared.Refusal.{Refusal}
-use Rattle.judge_missing.specs.Lacks.{flagged_of}
-use Rattle.write_judge.specs.Judging.{entries_pass, started}
+use Rattle.judge_missing.specs.Lacks.{flagged_of, told}
+use Rattle.write_seven.specs.ListSeven.{if_any}
 use Rattle.write_judge.proofs.CheckLaws.{told-head, told-later, told-within, head-there}
-use Rattle.write_judge.proofs.EntryPass.{step-entry, pass-end, pass-bad, pass_on}
+use Rattle.write_judge.proofs.EntryPass.{some-refused, starts, step-entry, pass-end, pass-bad, pass_on}
 use Rattle.write_judge.proofs.pass_entries.Goals as goal
 
 pub loop-at-init : goal.loop-at-init
@@ -32,21 +30,21 @@ overflow_add-end c =
       c.well_formed,
     )
 
-pub step_at-r-requires : goal.step_at-r-requires
-step_at-r-requires c = (
+pub step_at-requires : goal.step_at-requires
+step_at-requires c = (
   omega arith,
   told-within c.args.list.now c.loop-at.at c.loop-at.invariant.0 c.loop-at-test.true
       c.told_label-label.ensures c.told_length.ensures,
 )
 
-pub returns-then-no-ne0 : goal.returns-then-no-ne0
-returns-then-no-ne0 c =
+pub returns-in-Err : goal.returns-in-Err
+returns-in-Err c =
     let a = c.args in
     let l = c.loop-at in
-    sym (pass-bad a.list.now a.t l.at (flagged_of l.group l.members l.top) l.group.lack
-    (told-head a.list.now l.at l.invariant.0 c.loop-at-test.true c.told_label-label.ensures c.told_length.ensures)
-    _ _ _ (step-entry a.list.now l.at _ c.step_at-r.ensures) c.if-no-ne0.true)
-    ∙ (l.invariant.1 ∙ ap (λ (r : Refusal). entries_pass a.list.now a.t a.start started r) c.none.ensures)
+    let step = step-entry a.list.now l.at _ c.in-Err.ensures in
+    let head = told-head a.list.now l.at l.invariant.0 c.loop-at-test.true c.told_label-label.ensures c.told_length.ensures in
+    some-refused step
+    ∙ ap if_any (sym (pass-bad a.list.now a.t l.at l.state head step) ∙ (l.invariant.1 ∙ starts a.list.now a.t a.start c.new-state.ensures))
 
 pub loop-at-smaller : goal.loop-at-smaller
 loop-at-smaller c =
@@ -62,9 +60,9 @@ loop-at-preserved c =
     let a = c.args in
     let l = c.loop-at in (
       told-later a.list.now l.at l.invariant.0 c.loop-at-test.true c.told_label-label.ensures c.told_length.ensures,
-      sym (pass_on a.list.now a.t l.at (flagged_of l.group l.members l.top) l.group.lack
+      sym (pass_on a.list.now a.t l.at l.state
           (told-head a.list.now l.at l.invariant.0 c.loop-at-test.true c.told_label-label.ensures c.told_length.ensures)
-          _ _ _ (step-entry a.list.now l.at _ c.step_at-r.ensures) c.if-no-ne0.false)
+          (step-entry a.list.now l.at _ c.in_default.ensures))
           ∙ l.invariant.1,
     )
 
@@ -73,5 +71,5 @@ returns c =
     let a = c.args in
     let l = c.loop-at in
     c.lacks_or_high.ensures
-    ∙ (sym (pass-end a.list.now a.t l.at (flagged_of l.group l.members l.top) l.group.lack c.loop-at-test.false)
-    ∙ (l.invariant.1 ∙ ap (λ (r : Refusal). entries_pass a.list.now a.t a.start started r) c.none.ensures))
+    ∙ ap if_any (sym (pass-end a.list.now a.t l.at (flagged_of l.state) (told l.state.lack) c.loop-at-test.false)
+    ∙ (l.invariant.1 ∙ starts a.list.now a.t a.start c.new-state.ensures))

@@ -1,11 +1,15 @@
--- `put_sum`: four parts put one after the other.
-use Rattle.meaning.specs.Digits.{digits}
-use Rattle.meaning.specs.Lists.{sum_digits}
-use Rattle.write_lines.proofs.LinePutLaws.{line-put}
+-- `put_sum`: the line of a content of five digits.
+use mathlib.Core.Path.{ap, ◌∙◌}
+use mathlib.Core.List.{List, []}
+use Prim.Native.Nat.{ℕ}
+use Rattle.meaning.specs.Field.{field}
+use Rattle.meaning.specs.Lines.{line_then}
+use Rattle.byte_put.specs.Places.{over}
+use Rattle.write_lines.proofs.LinePutLaws.{five-digits}
 use Rattle.write_lines.proofs.put_sum.Goals as goal
 
 pub returns : goal.returns
+unfolding over
 returns c =
     let a = c.args in
-    line-put a.out.now _ _ _ _ (digits sum_digits a.total) 8100 a.to c.requires c.put_digits.ensures
-    c.put_digits-2.ensures c.put_digits-3.ensures c.put_end.ensures
+    c.put_line.ensures ∙ ap (λ (u : List ℕ). over a.to (line_then (field 8100 u) []) a.out.now) (c.put_digits.ensures ∙ five-digits a.total)

@@ -1,2 +1,0 @@
--- The definitions that the contracts of this crate cite beside the meaning.
-pub mod Filling

@@ -1,2 +1,0 @@
--- Laws that the proofs of this crate's functions cite.
-pub mod DigitCount
