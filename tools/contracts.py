@@ -17,7 +17,7 @@ class Function(NamedTuple):
     path: str
     public: bool
     exported: bool
-    asks: bool
+    asks: bool  # by `requires`, or by a type that holds a fact
     given: Dict[str, str]  # its parameters, each with its type
     answers: bool
     ensures: List[str]  # what stands in its clauses `ensures`; nothing of one that is not understood, which `strange` has
@@ -85,6 +85,8 @@ def heads(path, text):
     return found
 
 
+OWN = re.compile(r"^impl(?:<[^\n]*?>)? (\w+)(?:<[^\n]*>)? \{$.*?^\}", re.M | re.S)
+STRUCT = re.compile(r"^pub struct (\w+)(?:<[^\n]*>)? \{$(.*?)^\}", re.M | re.S)
 IMPL = re.compile(r"^impl(?:<[^\n]*?>)? ([^\n]*?) for ([^\n{]*?)(?:<[^\n]*>)? \{$(.*?)^\}", re.M | re.S)
 TRAIT = re.compile(r"^pub trait [^\n]*\{$.*?^\}", re.M | re.S)
 GIVES = re.compile(r"^    ghost from_gives = \{ λ (\w+) (\w+)\. (.*) \};$", re.M)  # the contract of `from`
@@ -99,6 +101,23 @@ def impl_around(text, place):
     """The name that the prover gives the `impl TRAIT for TYPE` around a place, as `ExitCodeFromStatus::`; nothing if there is none."""
     found = around(IMPL, text, place)
     return "".join(word[0].upper() + word[1:] for word in re.findall(r"\w+", found[2] + " " + found[1])) + "::" if found else ""
+
+
+def with_facts(texts):
+    """The types of the project that hold a fact, a `ghost` field, or a value of such a type: whoever gives one has shown it."""
+    inside = {kind: fields for text in texts.values() for kind, fields in STRUCT.findall(text)}
+    found = {kind for kind, fields in inside.items() if re.search(r"^    ghost ", fields, re.M)}
+    while more := {kind for kind in inside.keys() - found if found & set(re.findall(r"\w+", inside[kind]))}:
+        found |= more
+    return found
+
+
+def asked_by_type(text, place, given, held):
+    """Whether a function at a place is given a value of a type that holds a fact."""
+    own, of = around(OWN, text, place), around(IMPL, text, place)
+    selves = {own[1]} if own else {re.match(r"\w+", of[2])[0]} if of else set()
+    kinds = {word for kind in given.values() for word in re.findall(r"\w+", kind)} | (selves if "self" in given else set())
+    return bool(kinds & held)
 
 
 def public_by_trait(text, place):
@@ -117,7 +136,7 @@ def given_by_impl(text, place, given):
 
 def functions(texts) -> Dict[str, Function]:
     """Every function of the code by its name, crate::name, and that of a trait by crate::impl::name."""
-    found = {}
+    found, held = {}, with_facts(texts)
     for path, text in texts.items():
         for head, end in heads(path, text):
             name, contract = "%s::%s%s" % (crate_of(path), impl_around(text, head.start()), head[4]), head[7] or ""
@@ -128,7 +147,8 @@ def functions(texts) -> Dict[str, Function]:
             span = (head.start(), head.end(), end)
             given = parameters(head[5])
             ensures += given_by_impl(text, head.start(), given)
-            found[name] = Function(path, bool(head[2]) or public_by_trait(text, head.start()), bool(head[3] or marked), "requires" in contract, given, bool(head[6]), ensures, strange, [], span)
+            asks = "requires" in contract or asked_by_type(text, head.start(), given, held)
+            found[name] = Function(path, bool(head[2]) or public_by_trait(text, head.start()), bool(head[3] or marked), asks, given, bool(head[6]), ensures, strange, [], span)
     for name, calls in called(texts, found).items():
         found[name].calls.extend(calls)
     return found
@@ -143,8 +163,8 @@ def brought(text):
 
 def called(texts, found):
     """The functions of the project that each function calls: by its crate, a module of its own crate, a type that has it, a name that is imported, or as a method of a
-    crate that stands below its own; `into` calls each `from` of an impl for a type that it names, and a macro that writes calls `write`."""
-    types, methods, made = {}, {}, {}
+    crate that stands below its own, of a trait's if its file names the type; `into` calls each `from` of an impl for a type that it names, and a macro that writes calls `write`."""
+    types, methods, made, own_type = {}, {}, {}, {}
     for name in found:
         if "self" in found[name].given:
             methods.setdefault(name.split("::")[-1], set()).add(name)
@@ -152,6 +172,7 @@ def called(texts, found):
         for one in IMPL.finditer(text):
             inside = {name for name in found if found[name].path == path and one.start() <= found[name].span[0] < one.end()}
             made.setdefault(re.match(r"\w+", one[2])[0], set()).update(inside)
+            own_type.update((name, re.match(r"\w+", one[2])[0]) for name in inside)
     for path, text in texts.items():
         for kind in re.findall(r"^impl(?:<[^\n]*?>)? (\w+)(?:<[^\n]*>)? \{", text, re.M):
             assert kind not in types, "%s: a second crate has functions of a type %s" % (path, kind)
@@ -167,7 +188,7 @@ def called(texts, found):
         for dot, way, last in re.findall(r"(\.?)((?:\b\w+::)*)\b(\w+)(?:::<[^()]*?>)?\(", re.sub(r"\bwrite(ln)?!\(", ".write(", body)):
             of = way[:-2].split("::")[-1] or ("" if "%s::%s" % (own, last) in found else last)
             home = of if of in crates else types.get(of) or uses.get(of, own)
-            others = {"%s::%s" % (own if home == "crate" else home, last)} if not dot else {one for one in methods.get(last, ()) if one.split("::")[0] in near}
+            others = {"%s::%s" % (own if home == "crate" else home, last)} if not dot else {one for one in methods.get(last, ()) if one.split("::")[0] in near and own_type.get(one, own) in {own, *re.findall(r"\w+", text)}}
             kinds = re.findall(r"\w+", whole) if dot and last == "into" else [of]
             others |= {one for kind in kinds for one in made.get(kind, ()) if one.endswith("::from" if dot else "::" + last)}
             calls[name] |= others & set(found)

@@ -30,7 +30,10 @@ pub fn is_digit(b: u8) -> bool
 pub fn all_digits(c: &[u8], from: usize) -> bool
     ensures { result ≡ all_digits (drop from c.now) }
 {
-    c.iter().skip(from).all(|b| is_digit(*b))
+    if c.len() <= from {
+        return true;
+    }
+    c[from..].iter().all(|b| is_digit(*b))
 }
 
 // What two bytes that are not both digits count as: over every bound that is asked of two digits.

@@ -1,1 +1,2 @@
--- No law of this crate's own is needed: the library's contract says it.
+-- The laws that the proofs of this crate cite.
+pub mod MoveLaws

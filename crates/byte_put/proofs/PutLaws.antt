@@ -3,9 +3,10 @@ use mathlib.Core.Path.{◌≡◌, refl, sym, ap, ap₂, ◌∙◌}
 use mathlib.Core.List.{List, [], ◌∷◌, ◌++◌, append_assoc}
 use Prim.Native.Nat.{ℕ, zero, suc, ◌+◌, ◌-◌, ◌*◌, ◌/◌, ◌%◌, ◌≤◌, ◌<◌}
 use native.Mathlib.Nat.{add-zero, not-suc-le-zero}
+use native.Mathlib.Numerals.{add-one}
 use native.Mathlib.Omega.{arith}
 use lib.ListN.{length, get_or, set, take, drop, length-drop, length-append, take-append-drop}
-use lib.Seq.{length-take-le, set_split, drop-cons, append_snoc, take_at, drop_at, take-set-le, drop-drop, drop-append-le, take_all, take-add, sets, sets-eq}
+use lib.Seq.{length-take-le, set_at, set_split, take-suc, drop-cons, append_snoc, take_at, drop_at, take-set-le, drop-drop, drop-append-le, take_all, take-add, sets, sets-eq}
 use borrow.Rule.Slice.PartMut.{mid_of, put_mid}
 use Rattle.meaning.specs.Digits.{digits, digit_zero}
 use Rattle.meaning.proofs.DigitLaws.{length-digits}
@@ -47,6 +48,14 @@ digit-turn b at zero left p h = absurd (not-suc-le-zero p)
 digit-turn b at (suc i) left p h =
     let q : suc i - 1 ≡ i = omega arith in
     rw (q, last-digit left) (digit-step b at i left (omega arith))
+
+-- a turn of a copy to the front, byte by byte
+pub copy-turn : (src dst : List ℕ) (i : ℕ) → i < length src → i < length dst
+    → set (take i src ++ drop i dst) i (get_or src i 0) ≡ take (i + 1) src ++ drop (i + 1) dst
+copy-turn src dst i h k =
+    rw (add-one i, take-suc src i 0 h, append_snoc (take i src) (get_or src i 0) (drop (suc i) dst))
+    (ap (λ (x : List ℕ). set (take i src ++ x) i (get_or src i 0)) (drop-cons dst i 0 k)
+    ∙ set_at (take i src) (get_or dst i 0) (drop (suc i) dst) (get_or src i 0) i (length-take-le i src (omega arith)))
 
 -- ---- a block: read whole, then stored byte after byte
 

@@ -7,11 +7,13 @@ ghost use Rattle.std.specs.Prelude.{◌≡◌, ◌==◌, [], ◌∷◌, ◌+◌,
 ghost use Rattle.meaning.specs.Lines.{cr, lf, line_end};
 ghost use Rattle.byte_put.specs.Places.{over};
 ghost use Rattle.meaning_cable.specs.Stream.{separator, restore_then, restored};
-ghost use Rattle.meaning_cable.specs.Blocks.{max_data, label_digit};
+ghost use Rattle.meaning_cable.specs.Blocks.{max_data};
 ghost use Rattle.meaning_cable.specs.Receiving.{put_by, written};
 
 use meaning::LINE_END;
-use meaning_cable::BlockLabel;
+
+// The last digit of the label B02. A label is any number here, and each but this one puts the data alone.
+const B02: usize = 2;
 
 // ---- how many bytes
 
@@ -34,12 +36,12 @@ fn restored_size(bytes: &[u8]) -> usize
 }
 
 // How many bytes a block with this label and these data puts into the buffer.
-pub fn put_size(label: BlockLabel, bytes: &[u8]) -> usize
+pub fn put_size(label: usize, bytes: &[u8]) -> usize
     requires { length bytes.now ≤ max_data }
-    ensures { result ≡ length (put_by (label_digit label) bytes.now) }
+    ensures { result ≡ length (put_by label bytes.now) }
 {
     let size = restored_size(bytes);
-    if label == BlockLabel::B02 {
+    if label == B02 {
         return size + LINE_END;
     }
     size
@@ -82,12 +84,12 @@ fn put_restored(bytes: &[u8], out: &mut [u8], at: usize) -> usize
 }
 
 // The data of a block with this label, and 0Dh 0Ah "once more after the data of a B02". The offset after them.
-fn put_by(label: BlockLabel, bytes: &[u8], out: &mut [u8], at: usize) -> usize
-    requires { at + length (put_by (label_digit label) bytes.now) ≤ length out.old }
-    ensures { (result ≡ at + length (put_by (label_digit label) bytes.now)) × (out.new ≡ over at (put_by (label_digit label) bytes.now) out.old) }
+fn put_by(label: usize, bytes: &[u8], out: &mut [u8], at: usize) -> usize
+    requires { at + length (put_by label bytes.now) ≤ length out.old }
+    ensures { (result ≡ at + length (put_by label bytes.now)) × (out.new ≡ over at (put_by label bytes.now) out.old) }
 {
     let end = put_restored(bytes, out, at);
-    if label != BlockLabel::B02 {
+    if label != B02 {
         return end;
     }
     put_end(out, end);
@@ -95,9 +97,9 @@ fn put_by(label: BlockLabel, bytes: &[u8], out: &mut [u8], at: usize) -> usize
 }
 
 // The same, and zeros after it: "after each block that is taken".
-pub fn put_block(label: BlockLabel, bytes: &[u8], out: &mut [u8], at: usize)
-    requires { at + length (put_by (label_digit label) bytes.now) ≤ length out.old }
-    ensures { out.new ≡ written out.old at (put_by (label_digit label) bytes.now) }
+pub fn put_block(label: usize, bytes: &[u8], out: &mut [u8], at: usize)
+    requires { at + length (put_by label bytes.now) ≤ length out.old }
+    ensures { out.new ≡ written out.old at (put_by label bytes.now) }
 {
     let used = put_by(label, bytes, out, at);
     byte_put::clear(&mut out[used..]);

@@ -31,6 +31,17 @@ fn took(count: usize, label: BlockLabel, used: usize) -> Taken
     }
 }
 
+// The last digit of a label.
+fn digit_of(label: BlockLabel) -> usize
+    ensures { result ≡ label_digit label }
+{
+    match label {
+        BlockLabel::B00 => 0,
+        BlockLabel::B01 => 1,
+        BlockLabel::B02 => 2,
+    }
+}
+
 // A block is put at an offset. 22, NoRoom, "only if the new used length does not fit, and its need is that length, or 2^64 - 1 if it would be more".
 fn put_at(
     receiver: Receiver,
@@ -43,14 +54,15 @@ fn put_at(
 {
     let label = block.label();
     let bytes = block.data_bytes();
-    let size = cable_put::put_size(label, bytes);
+    let digit = digit_of(label);
+    let size = cable_put::put_size(digit, bytes);
     let Some(used) = at.checked_add(size) else {
         return Err(Refusal::at(Refusal::NO_ROOM, usize::MAX));
     };
     if buffer.len() < used {
         return Err(Refusal::at(Refusal::NO_ROOM, used));
     }
-    cable_put::put_block(label, bytes, buffer, at);
+    cable_put::put_block(digit, bytes, buffer, at);
     Ok(took(block.count(), label, used))
 }
 

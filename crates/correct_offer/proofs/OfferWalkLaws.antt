@@ -1,5 +1,5 @@
 -- The walks of specs/ step by step: one law for each way that the code takes.
-use mathlib.Core.Path.{◌≡◌, refl}
+use mathlib.Core.Path.{◌≡◌, refl, sym, ap, ◌∙◌}
 use mathlib.Core.Bool.{Bool, true, false, cond, not}
 use mathlib.Core.List.{List}
 use Prim.Native.Nat.{ℕ, zero, suc, pred, ◌+◌, ◌-◌, ◌≤◌, ◌<◌}
@@ -13,7 +13,9 @@ use Rattle.meaning.specs.Refusals.{tells_byte, behind, refusal, bad_byte, bad_co
 use Rattle.meaning.specs.FieldTable.{fits_label}
 use Rattle.meaning.specs.Corrections.{fixed}
 use Rattle.byte_low.specs.Low.{first_low}
-use Rattle.byte_high.specs.High.{first_high}
+use Rattle.meaning.specs.Lines.{least_byte}
+use Rattle.byte_low.proofs.SeekLaws.{seek-most}
+use Rattle.byte_high.specs.High.{first_high, seven_bits}
 use Rattle.line_read.specs.Told.{told_length, told_label}
 use Rattle.line_seven.specs.Seven.{says_seven, high_for}
 use Rattle.correct_offer.specs.declared.OneLine.{OneLine}
@@ -136,6 +138,71 @@ against-line x c seven = go (fixed x.label) (leb (length c) low) (fits_label x.l
     go false true true true true = refl
     go false true true true false = refl
 
+-- ---- by its number
+
+-- what a content for line x has against it by the number alone: for 6 and 24 which byte, for 20 and 14 the label
+abbrev by_number : ℕ → List ℕ → OneLine → Offer
+by_number n c x =
+    cond (eqb n 0) (against 0 0 0 x)
+    (cond (eqb n bad_byte) (against bad_byte (first_low c 0 (length c)) 0 x)
+    (cond (eqb n high_byte) (against high_byte (first_high c 0 (length c)) 0 x) (against n 0 x.label x)))
+
+number-is : (o : Option Objection) (c : List ℕ) (x : OneLine) → offer_by o c x ≡ by_number (offer_by o c x).no c x
+number-is None c x = refl
+number-is (Some FixedLine) c x = refl
+number-is (Some BadByte) c x = refl
+number-is (Some BadContent) c x = refl
+number-is (Some HighByte) c x = refl
+
+-- the case, by its number
+abbrev case_of : ℕ → Option Objection
+case_of n =
+    cond (eqb n 0) None
+    (cond (eqb n bad_byte) (Some BadByte) (cond (eqb n high_byte) (Some HighByte) (cond (eqb n bad_content) (Some BadContent) (Some FixedLine))))
+
+case-is : (o : Option Objection) (c : List ℕ) (x : OneLine) → o ≡ case_of (offer_by o c x).no
+case-is None c x = refl
+case-is (Some FixedLine) c x = refl
+case-is (Some BadByte) c x = refl
+case-is (Some BadContent) c x = refl
+case-is (Some HighByte) c x = refl
+
+module _ (o : Option Objection) (c : List ℕ) (x : OneLine) (n : ℕ) (e : n ≡ (offer_by o c x).no) where
+  by-it : offer_by o c x ≡ by_number n c x
+  by-it = rw e (number-is o c x)
+
+  pub number-good : n ≡ 0 → against 0 0 0 x ≡ offer_by o c x
+  number-good z = sym (by-it ∙ rw z refl)
+
+  pub number-low : n ≡ bad_byte → (low : ℕ) → low ≡ first_low c 0 (length c) → against bad_byte low 0 x ≡ offer_by o c x
+  number-low z low f = sym (by-it ∙ rw (z, f) refl)
+
+  pub number-high : n ≡ high_byte → (high : ℕ) → high ≡ first_high c 0 (length c) → against high_byte high 0 x ≡ offer_by o c x
+  number-high z high f = sym (by-it ∙ rw (z, f) refl)
+
+  pub number-label : (n ≡ 0 → ⊥) → (n ≡ bad_byte → ⊥) → (n ≡ high_byte → ⊥) → against n 0 x.label x ≡ offer_by o c x
+  number-label z y w = sym (by-it ∙ rw (ne_eqb n 0 z, ne_eqb n bad_byte y, ne_eqb n high_byte w) refl)
+
+-- The number says the rest: what has the number of what is offered to a line is what speaks against the content, and has its byte and its label.
+pub objection-by : (x : OneLine) (c : List ℕ) (seven : Bool) (o : Option Objection) → (offer_by o c x).no ≡ (offered_high (offered_to x c) c seven).no
+    → (o ≡ objected x.label c seven) × (offer_by o c x ≡ offered_high (offered_to x c) c seven)
+objection-by x c seven o e =
+    let f : o ≡ objected x.label c seven =
+    case-is o c x ∙ (ap case_of (e ∙ ap (λ (p : Offer). p.no) (sym (against-line x c seven))) ∙ sym (case-is (objected x.label c seven) c x)) in
+    (f, ap (λ (p : Option Objection). offer_by p c x) f ∙ against-line x c seven)
+
+-- and so does its refusal: the byte, counted from `from`, or the place `at`, and the label
+pub refused-by : (x : OneLine) (c : List ℕ) (seven : Bool) (o : Objection) → Some o ≡ objected x.label c seven → (at from : ℕ)
+    → let p = offered_high (offered_to x c) c seven in refusal_by o x.label c at from ≡ refusal p.no (cond (tells_byte p.no) (from + p.byte) at) p.label
+unfolding tells_byte
+refused-by x c seven o e at from = rw (← against-line x c seven, ← e) (go o)
+  where
+    go : (o : Objection) → let p = offer_by (Some o) c x in refusal_by o x.label c at from ≡ refusal p.no (cond (tells_byte p.no) (from + p.byte) at) p.label
+    go FixedLine = refl
+    go BadByte = refl
+    go BadContent = refl
+    go HighByte = refl
+
 -- the answer of an offer that is told by what speaks against the content
 pub answer-none : (c : List ℕ) (x : OneLine) → Ok x ≡ answered (offer_by None c x)
 answer-none c x = refl
@@ -165,6 +232,23 @@ placed-so BadContent l c at from lead e = rw (add-zero at) refl
 placed-so HighByte l c at from lead e =
     let p : from + first_high c 0 (length c) ≡ at + (lead + first_high c 0 (length c)) = omega arith in
     rw p refl
+
+-- a refusal that tells a byte of the content, counted from `from`; the others stay as they are
+pub counted-from : (o : Objection) (l : ℕ) (c : List ℕ) (at from : ℕ)
+    → let r = refusal_by o l c at 0 in refusal r.no (cond (tells_byte r.no) (from + r.place) at) r.label ≡ refusal_by o l c at from
+unfolding tells_byte
+counted-from FixedLine l c at from = refl
+counted-from BadByte l c at from = rw (zero-add (first_low c 0 (length c))) refl
+counted-from BadContent l c at from = refl
+counted-from HighByte l c at from = rw (zero-add (first_high c 0 (length c))) refl
+
+-- and the byte stands in the content, or after it
+pub objected-byte : (o : Objection) (l : ℕ) (c : List ℕ) (at : ℕ) → let r = refusal_by o l c at 0 in cond (tells_byte r.no) r.place 0 ≤ length c
+unfolding tells_byte
+objected-byte FixedLine l c at = omega arith
+objected-byte BadByte l c at = omega (arith, seek-most (leb least_byte) c (length c) 0)
+objected-byte BadContent l c at = omega arith
+objected-byte HighByte l c at = omega (arith, seek-most seven_bits c (length c) 0)
 
 module _ (s : List ℕ) (t : Terms) (n : ℕ) (c : List ℕ) where
   pub number-none : n < 1 → against no_such_line 0 0 (after_all t.length) ≡ offered s t n c

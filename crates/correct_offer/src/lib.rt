@@ -1,8 +1,8 @@
 // Whether a line of an accepted set may take a new content: "19, 20, 6, 14", then 24, for a correction and for each entry of a sheet.
-// Assumes nothing of the bytes; `Objection::refusal`, which only other crates here call, assumes that the places of its content are numbers. Each contract cites a walk of specs/, and proofs/OfferLaws and TermsLaws say what the walks of an accepted set mean.
+// Assumes nothing of the bytes: each contract cites a walk of specs/, and proofs/OfferLaws and TermsLaws say what the walks of an accepted set mean.
 #![tactic(auto)]
 
-ghost use Rattle.std.specs.Prelude.{◌≡◌, true, ◌+◌, ◌^◌, ◌<◌, length, Ok};
+ghost use Rattle.std.specs.Prelude.{◌≡◌, true, Ok};
 ghost use Rattle.meaning.specs.Reading.{judge};
 ghost use Rattle.meaning.specs.Corrections.{fixed};
 ghost use Rattle.correct_offer.specs.Offered.{no_line, line_after, asks_seven, terms_of, refusal_by, objected_high, objected, offered, beyond, answered};
@@ -18,7 +18,7 @@ pub struct AcceptedSet<'a> {
 }
 
 // A line of a set: its label, the offset of its first byte, and its whole length.
-#[derive(Drop)]
+#[derive(Clone, Copy)]
 pub struct OneLine {
     pub label: usize,
     pub at: usize,
@@ -26,7 +26,7 @@ pub struct OneLine {
 }
 
 // Why a new content is declined, and the line that would have taken it; for 19 none, after all lines.
-#[derive(Drop)]
+#[derive(Clone, Copy)]
 pub struct Declined {
     pub refusal: Refusal,
     pub line: OneLine,
@@ -62,10 +62,9 @@ pub enum Objection {
 }
 
 impl Objection {
-    // The refusal of a content for a line with this label: 6 and 24 tell the byte, if the content's first one is at place `from`; the others tell `at`, and the label.
-    pub fn refusal(self, label: usize, content: &[u8], at: usize, from: usize) -> Refusal
-        requires { from + length content.now < 2 ^ 64 }
-        ensures { result ≡ refusal_by self label content.now at from }
+    // The refusal of a content for a line with this label: 6 and 24 tell which byte of the content, the others tell `at`, and the label.
+    pub fn refusal(self, label: usize, content: &[u8], at: usize) -> Refusal
+        ensures { result ≡ refusal_by self label content.now at 0 }
     {
         match self {
             Objection::FixedLine => Refusal {
@@ -75,7 +74,7 @@ impl Objection {
             },
             Objection::BadByte => {
                 let low = byte_low::find_low(content, 0, content.len());
-                Refusal::at(Refusal::BAD_BYTE, from + low)
+                Refusal::at(Refusal::BAD_BYTE, low)
             }
             Objection::BadContent => Refusal {
                 no: Refusal::BAD_CONTENT,
@@ -84,7 +83,7 @@ impl Objection {
             },
             Objection::HighByte => {
                 let high = byte_high::first_high(content, 0, content.len());
-                Refusal::at(Refusal::HIGH_BYTE, from + high)
+                Refusal::at(Refusal::HIGH_BYTE, high)
             }
         }
     }
@@ -229,7 +228,7 @@ pub fn judge_change(
     let seven = asks_seven(set, content);
     match judge_content(found.label, content, seven) {
         Some(objection) => {
-            let refusal = objection.refusal(found.label, content, found.at, 0);
+            let refusal = objection.refusal(found.label, content, found.at);
             Err(Declined {
                 refusal,
                 line: found,

@@ -1,13 +1,12 @@
--- Whether the asked bytes and 0Dh 0Ah stand at a place of the file: what each `return` has to show.
+-- Whether the asked bytes and 0Dh 0Ah stand at a place of the file: what each `return`, and each turn of the loop from the last byte on, has to show.
 use mathlib.Core.Path.{◌≡◌, refl, sym, ap, ◌∙◌}
-use mathlib.Core.Bool.{Bool, true, false, true≢false}
+use mathlib.Core.Bool.{Bool, true, false}
 use mathlib.Core.List.{List, [], ◌∷◌, ◌++◌}
-use Prim.Native.Nat.{ℕ, ◌+◌, ◌≤◌, ◌<◌}
+use Prim.Native.Nat.{ℕ, suc, ◌+◌, ◌-◌, ◌≤◌, ◌<◌}
 use native.Mathlib.Omega.{arith}
-use lib.ListN.{length, take, drop, get_or, length-append, length-take, length-drop}
-use lib.Seq.{take_all, drop-drop, take-take, get_or-take, get_or-drop, get_or-append_seam, get_or-append-add}
-use Rattle.std.specs.Prelude.{Decides}
-use Rattle.std.proofs.Math.Seq.{take-add, take-append_seam}
+use native.Mathlib.Nat.{add-zero}
+use lib.ListN.{length, take, drop, get_or, length-append, length-take, length-drop, get_or-append}
+use lib.Seq.{drop-length, get_or-take, get_or-drop, get_or-append_seam, get_or-append-add}
 use Rattle.meaning.specs.Lines.{line_end, cr, lf}
 use Rattle.meaning.proofs.Bools.{byte-then}
 use Rattle.meaning.proofs.SameLaws.{same-bytes, bytes_same}
@@ -49,26 +48,54 @@ module _ (f : List ℕ) (place : ℕ) (c : List ℕ) where
       let m : place + length c + 1 ≡ place + (length c + 1) = omega arith in
       refuted (λ e. n (ap (λ (k : ℕ). get_or f k 0) m ∙ byte-stood (length c + 1) (omega arith) e ∙ get_or-append-add c (cr ∷ lf ∷ []) 1 0))
 
-  -- all of the asked bytes, as a part of them
-  pub asked-whole : (m j : ℕ) → m ≡ length c → j ≡ 0 → take m (drop j c) ≡ c
-  asked-whole m j p q = rw (p, q) (take_all (length c) c (omega arith))
+  pub stands-other : (i : ℕ) → i < length c → (get_or f (place + i) 0 ≡ get_or c i 0 → ⊥) → false ≡ stands_at f place c
+  stands-other i h n = refuted (λ e. n (byte-stood i (omega arith) e ∙ get_or-append c (cr ∷ lf ∷ []) 0 i h))
 
-  -- ---- the end is there: the asked bytes decide
+  -- ---- from the last byte on: the bytes from byte i on are the asked ones
 
-  pub stands-by : place + (length c + line_end) ≤ length f → get_or f (place + length c) 0 ≡ cr → get_or f (place + length c + 1) 0 ≡ lf
-      → (k at : ℕ) (u : List ℕ) (b : Bool) → Decides b (take k (drop at f) ≡ u) → k ≡ length c → at ≡ place → u ≡ c → b ≡ stands_at f place c
+  abbrev pub Tail : ℕ → Type 0
+  Tail i = take (length c - i + line_end) (drop (place + i) f) ≡ drop i c ++ (cr ∷ lf ∷ [])
+
+  tail-end : place + (length c + line_end) ≤ length f → get_or f (place + length c) 0 ≡ cr → get_or f (place + length c + 1) 0 ≡ lf → Tail (length c)
+  tail-end h a b =
+      let z : length c - length c + line_end ≡ 2 = omega arith in
+      rw (z, drop-length c, byte-then f (place + length c) (omega arith), byte-then f (place + length c + 1) (omega arith), a, b)
+
+  tail_more : (i : ℕ) → i < length c → place + (length c + line_end) ≤ length f → get_or f (place + i) 0 ≡ get_or c i 0 → Tail (i + 1) → Tail i
+  tail_more i h g e t =
+      let n : length c - i + line_end ≡ suc (length c - (i + 1) + line_end) = omega arith in
+      let m : place + i + 1 ≡ place + (i + 1) = omega arith in
+      rw (n, byte-then f (place + i) (omega arith), byte-then c i h, e, m) (ap (λ (xs : List ℕ). get_or c i 0 ∷ xs) t)
+
+  tail_all : (i : ℕ) → i ≡ 0 → Tail i → true ≡ stands_at f place c
   unfolding stands_at
-  stands-by h x y k at u b d p q r = go b (rw r at d)
-    where
-      there : take 2 (drop (length c) (drop place f)) ≡ cr ∷ lf ∷ []
-      there = rw (drop-drop (length c) place f, byte-then f (place + length c) (omega arith), byte-then f (place + length c + 1) (omega arith), x, y) refl
+  tail_all i z t =
+      let n : length c - 0 + line_end ≡ length c + line_end = omega arith in
+      let q : take (length c + line_end) (drop place f) ≡ whole = rw (z, n, add-zero place) at t in
+      rw q (sym (bytes_same whole))
 
-      go : (b : Bool) → Decides b (take k (drop at f) ≡ c) → b ≡ stands_at f place c
-      go true d =
-          let e : take (length c) (drop place f) ≡ c = rw (p, q) at (d.0 refl) in
-          let w : take (length c + line_end) (drop place f) ≡ whole = take-add (length c) 2 (drop place f) ∙ rw (e, there) refl in
-          rw w (sym (bytes_same whole))
-      go false d = refuted (λ e.
-          let w : take (length c) (drop place f) ≡ c =
-          sym (take-take (length c) (length c + line_end) (drop place f) (omega arith)) ∙ ap (take (length c)) (stood e) ∙ take-append_seam c (cr ∷ lf ∷ []) in
-          true≢false (sym (d.1 (rw (p, q) w))))
+  -- ---- the same by how far from the end: the i-th byte from there is next
+
+  abbrev pub Behind : ℕ → Type 0
+  Behind i = Tail (length c + 1 - i)
+
+  pub behind-none : place + (length c + line_end) ≤ length f → get_or f (place + length c) 0 ≡ cr → get_or f (place + length c + 1) 0 ≡ lf → Behind 1
+  behind-none h a b =
+      let n : length c + 1 - 1 ≡ length c = omega arith in
+      rw n (tail-end h a b)
+
+  pub behind_other : (i : ℕ) → 1 ≤ i → i ≤ length c → (get_or f (place + length c - i) 0 ≡ get_or c (length c - i) 0 → ⊥) → false ≡ stands_at f place c
+  behind_other i p q n =
+      let m : place + length c - i ≡ place + (length c - i) = omega arith in
+      stands-other (length c - i) (omega arith) (rw m at n)
+
+  pub behind_more : (i : ℕ) → 1 ≤ i → i ≤ length c → place + (length c + line_end) ≤ length f
+      → get_or f (place + length c - i) 0 ≡ get_or c (length c - i) 0 → Behind i → Behind (i + 1)
+  behind_more i p q h e t =
+      let m : place + length c - i ≡ place + (length c - i) = omega arith in
+      let here : length c + 1 - i ≡ length c - i + 1 = omega arith in
+      let next : length c + 1 - (i + 1) ≡ length c - i = omega arith in
+      rw next (tail_more (length c - i) (omega arith) h (rw m at e) (rw here at t))
+
+  pub behind_all : (i : ℕ) → i ≡ length c + 1 → Behind i → true ≡ stands_at f place c
+  behind_all i e t = tail_all (length c + 1 - i) (omega arith) t

@@ -14,14 +14,16 @@ use meaning_day::ENTRY_NUMBERS;
 // This many numbers of an entry stand before its place.
 const BEFORE_PLACE: usize = ENTRY_NUMBERS - 1;
 
-// Whether "the asked bytes .. and 0Dh 0Ah stand at" a place of the file. The end is asked first.
+// Whether "the asked bytes .. and 0Dh 0Ah stand at" a place of the file. The end is asked first, and then the bytes from the last one on, up to the first that differs: the numbers of two
+// patients often start alike. So a search in which no two entries have one place asks each byte of the file at most once; by `==` of the two slices it would not.
 fn stands_at(file: &[u8], place: usize, asked: &[u8]) -> bool
     ensures { result ≡ stands_at file.now place asked.now }
 {
-    if file.len() < place {
+    let need = asked.len() + meaning::LINE_END;
+    if file.len() < need {
         return false;
     }
-    if file.len() - place < asked.len() + meaning::LINE_END {
+    if file.len() - need < place {
         return false;
     }
     let end = place + asked.len();
@@ -31,7 +33,13 @@ fn stands_at(file: &[u8], place: usize, asked: &[u8]) -> bool
     if file[end + 1] != meaning::LF {
         return false;
     }
-    &file[place..end] == asked
+    // Counted up, the first time one before the end: by `rev` a search takes more instructions.
+    for i in 1..asked.len() + 1 {
+        if file[end - i] != asked[asked.len() - i] {
+            return false;
+        }
+    }
+    true
 }
 
 // How many entries have the asked bytes at their place.

@@ -27,7 +27,7 @@ use Rattle.table_find.proofs.FindLaws.{table-all, found-row, found-passes}
 use Rattle.table_find.proofs.TableRowLaws.{Answered}
 use Rattle.judge_missing.specs.declared.State.{State}
 use Rattle.judge_missing.specs.Lacks.{Flagged, flagged_of, told}
-use Rattle.judge_line.specs.Steps.{refused_by, place_no, label_no, version_no, fit_no, content_no, between, line_no, next_flagged, stays_in, IsOpened, IsJoined, Stepped}
+use Rattle.judge_line.specs.Steps.{row_of, refused_by, place_no, label_no, version_no, fit_no, content_no, between, line_no, next_flagged, stays_in, IsOpened, IsJoined, Stepped}
 
 -- ---- names and their odd labels
 
@@ -38,6 +38,12 @@ after-name h l p = go (eqb h (l - 1)) refl
     go : (b : Bool) → eqb h (l - 1) ≡ b → eqb (h + 1) l ≡ b
     go true e = let q : h ≡ l - 1 = eqb-true h (l - 1) e in eq-eqb (h + 1) l (omega arith)
     go false e = ne_eqb (h + 1) l (λ q. eqb-false h (l - 1) e (omega arith))
+
+-- ---- the row that a look-up answers
+
+-- the row of a label, by its number
+pub row_at : {settype : SetType} {l i : ℕ} {x : TableRow} (h : Answered settype l x) → i ≡ x.number → row_of settype l ≡ At i h.row
+row_at h e = h.is ∙ ap (λ (k : ℕ). At k h.row) (sym e)
 
 -- ---- a member's row
 
@@ -115,6 +121,13 @@ module _ (field : FieldRow) (l : ℕ) (s : List ℕ) (from end : ℕ) (h : from 
     pub content-fits : fit_no field.kind l content ≡ content_no l content
     unfolding content_no fit_no
     content-fits = rw by_kind
+
+-- ---- what is open after a set-level line
+
+-- its header is the line's label
+pub opened-is : {header l place : ℕ} {members top : List Bool} → header ≡ l
+    → ◌≡◌ {A = Flagged} (record { header = header; place = place; members = members; top = top }) (record { header = l; place = place; members = members; top = top })
+opened-is {place = place} {members = members} {top = top} e = λ j. record { header = e j; place = place; members = members; top = top }
 
 -- ---- a number and its answer
 

@@ -99,8 +99,10 @@ fn opened(settype: SetType, state: &mut State, at: usize, label: usize, i: usize
     requires { i < row_count }
     ensures { IsOpened settype at label i state.old state.new }
 {
-    if let Some(lack) = judge_missing::first_lack(settype, state) {
-        state.lack = Some(lack);
+    // by cases: the answer stored as one value takes 13 instructions more a line
+    match judge_missing::first_lack(settype, state) {
+        Some(lack) => state.lack = Some(lack),
+        None => state.lack = None,
     }
     state.header = label;
     state.place = at;

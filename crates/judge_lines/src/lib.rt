@@ -56,7 +56,7 @@ fn ended(s: &[u8], settype: SetType, state: &State, total: usize) -> Result<(), 
     ensures { result ≡ answered (finish_then settype (flagged_of state.now) (told state.now.lack) (high_in_set (take total s.now))) }
 {
     if let Some(lack) = judge_missing::finish_at(settype, state) {
-        return Err(lack.refusal());
+        return Err(lack);
     }
     unless_high(s, &state.top, total)
 }

@@ -1,27 +1,41 @@
--- Without an open header nothing is lacking: for the proof of `first_lack`.
+-- What the group of a header lacks, by the header itself, and that without one nothing is lacking: for the proof of `open_lack`.
 use mathlib.Core.Path.{◌≡◌, refl, sym, ap, ◌∙◌}
-use mathlib.Core.Bool.{Bool, false, true≢false}
+use mathlib.Core.Bool.{Bool, true, false, true≢false}
 use mathlib.Core.List.{List}
-use Prim.Native.Nat.{ℕ, zero, suc, ◌<◌}
+use Prim.Native.Nat.{ℕ, zero, suc, ◌+◌, ◌%◌, ◌≤◌, ◌<◌}
 use native.Mathlib.Omega.{arith}
-use borrow.Author.Tests.{ne_eqb, lt-leb}
+use lib.Dec.{leb}
+use borrow.Author.Tests.{ne_eqb, leb-true, lt-leb}
 use Rattle.meaning.specs.declared.SetType.{SetType}
 use Rattle.meaning.specs.declared.SetType.TheVariants.{T6300, T6301, T6302, T6310, T6311}
 use Rattle.meaning.specs.Tables.{row_label, is_pair_label}
 use Rattle.meaning.specs.Answers.{no_refusal}
-use Rattle.judge_missing.specs.Lacks.{seen, lack_under, group_lack, open_lack}
+use Rattle.meaning.proofs.Bools.{and_right}
+use Rattle.judge_missing.specs.Lacks.{seen, lack_name, lack_under, group_lack, open_lack}
 
--- ---- a header that has no group
+-- ---- what the group of a header lacks, by the header itself
 
 module _ (h : ℕ) where
+  -- a name, and so the label one higher, has four digits
+  pub name_below : is_pair_label h ≡ true → h < 10000
+  name_below p = let z : h ≤ 6399 = leb-true h 6399 (and_right (leb 6330 h) (leb h 6399) p) in omega arith
+
   module _ (has : ℕ → Bool) (place : ℕ) where
-    -- nothing stands under another label than 8410, 6302 and the names
-    under-other : (h ≡ 8410 → ⊥) → (h ≡ 6302 → ⊥) → is_pair_label h ≡ false → no_refusal ≡ lack_under (row_label h) has h place
+    pub under-name : is_pair_label h ≡ true → h % 2 ≡ 0 → lack_name has h place ≡ lack_under (row_label h) has h place
+    unfolding lack_under row_label
+    under-name p e = rw (p, e)
+
+    -- nothing stands under the odd label after a name, nor under any other label
+    pub under-odd : is_pair_label h ≡ true → (h % 2 ≡ 0 → ⊥) → no_refusal ≡ lack_under (row_label h) has h place
+    unfolding lack_under row_label
+    under-odd p n = rw (p, ne_eqb (6330 + h % 2) 8410 (λ q. omega arith), ne_eqb (6330 + h % 2) 6302 (λ q. omega arith), ne_eqb (6330 + h % 2) 6330 (λ q. n (omega arith)))
+
+    pub under-other : (h ≡ 8410 → ⊥) → (h ≡ 6302 → ⊥) → is_pair_label h ≡ false → no_refusal ≡ lack_under (row_label h) has h place
     unfolding lack_under row_label
     under-other a b p = rw (p, ne_eqb h 8410 a, ne_eqb h 6302 b, ne_eqb h 6330 (λ q. true≢false (sym (ap is_pair_label q) ∙ p)))
 
     -- nor under a label lower than 6302
-    under_low : h < 6302 → no_refusal ≡ lack_under (row_label h) has h place
+    pub under_low : h < 6302 → no_refusal ≡ lack_under (row_label h) has h place
     under_low z = under-other (λ q. omega arith) (λ q. omega arith) (rw (lt-leb 6330 h (omega arith)))
 
 -- without a header nothing is lacking

@@ -1,5 +1,5 @@
 -- Which labels were seen, as flags, and what is then missing, as the code walks it. proofs/LackMeaning ties it to `Missing` of `meaning`.
-use Rattle.std.specs.Prelude.{Bool, true, false, cond, not, ◌&&◌, ◌||◌, List, [], ◌∷◌, ℕ, ◌+◌, get_or, replicate, ltb, eqb, Option, Some, None}
+use Rattle.std.specs.Prelude.{Bool, ◌≡◌, true, false, cond, not, ◌&&◌, ◌||◌, List, [], ◌∷◌, ℕ, ◌+◌, get_or, replicate, ltb, eqb, Option, Some, None}
 use Rattle.meaning.specs.declared.Refusal.{Refusal}
 use Rattle.meaning.specs.declared.SetType.{SetType}
 use Rattle.meaning.specs.declared.SetType.TheVariants.{T6300, T6301, T6302, T6310, T6311}
@@ -36,10 +36,20 @@ seen on l = get_or on (label_number l) false
 
 -- ---- 16, by the few labels that are needed
 
--- what is lacking as its refusal; none if nothing is
-abbrev pub told : Option Lack → Refusal
+-- the refusal of what is lacking; none if nothing is
+abbrev pub told : Option Refusal → Refusal
 told None = no_refusal
-told (Some x) = refusal missing x.place x.label
+told (Some r) = r
+
+-- one that is there has a number
+abbrev pub has_number : Option Refusal → Type 0
+has_number None = Unit
+has_number (Some r) = r.no ≡ 0 → ⊥
+
+-- the same of a label that is not there
+abbrev pub told_lack : Option Lack → Refusal
+told_lack None = no_refusal
+told_lack (Some x) = refusal missing x.place x.label
 
 -- a label that is needed and not there
 abbrev pub lacks : (ℕ → Bool) → ℕ → Bool → Bool

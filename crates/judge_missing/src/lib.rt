@@ -6,7 +6,7 @@
 ghost use Rattle.std.specs.Prelude.{◌≡◌, IsTrue, true, false, ◌<◌, get_or, set};
 ghost use Rattle.meaning.specs.Refusals.{refusal, missing};
 ghost use Rattle.meaning.specs.Tables.{row_label};
-ghost use Rattle.judge_missing.specs.Lacks.{row_count, no_flags, seen, valued, lack8437, lack8410, lack_name, lack_under, lack_by, in_rows, group_lack, first_lack, set_lack, finish, told, flagged_of, before_lines};
+ghost use Rattle.judge_missing.specs.Lacks.{row_count, no_flags, seen, valued, lack8437, lack8410, lack_name, lack_under, lack_by, in_rows, group_lack, open_lack, first_lack, set_lack, finish, told, told_lack, has_number, flagged_of, before_lines};
 
 use meaning::{Refusal, SetType};
 use table_fields as fields;
@@ -53,7 +53,7 @@ const ARCHIVE: [(usize, usize); 3] = [
     (fields::NO_6305, meaning::LABEL_6305),
 ];
 
-// What 16 refuses: a label that is not there, and the place of the header's line, 0 at set level.
+// What 16 asks for and is not there: its label, and the place of the header's line, 0 at set level.
 #[derive(Clone, Copy)]
 pub struct Lack {
     pub place: usize,
@@ -61,7 +61,7 @@ pub struct Lack {
 }
 
 impl Lack {
-    // 16, Missing.
+    // The refusal of it: 16, Missing.
     pub fn refusal(self) -> Refusal
         ensures { result ≡ refusal missing self.place self.label }
     {
@@ -73,13 +73,13 @@ impl Lack {
     }
 }
 
-// What the lines so far leave: the open header or name (0: none), the place of its line, what the first group that ended with a lack lacks, and which labels were
-// seen: in the open group, and at set level.
+// What the lines so far leave: the open header or name (0: none), the place of its line, the refusal of the first group that ended with a
+// lack (number 0 is none, too), and which labels were seen: in the open group, and at set level.
 #[derive(Drop)]
 pub struct State {
     pub header: usize,
     pub place: usize,
-    pub lack: Option<Lack>,
+    pub lack: Option<Refusal>,
     pub members: [bool; ROWS],
     pub top: [bool; ROWS],
 }
@@ -141,7 +141,7 @@ fn first_unseen<const N: usize>(
     place: usize,
 ) -> Option<Lack>
     requires { IsTrue (in_rows labels.now) }
-    ensures { told result ≡ lack_by flags.now place labels.now }
+    ensures { told_lack result ≡ lack_by flags.now place labels.now }
 {
     for (number, label) in labels {
         if !has(flags, *number) {
@@ -165,7 +165,7 @@ fn has_value(members: &[bool; ROWS]) -> bool
 // An 8410 group: "8437 is required in a group that has 8438", 8421 in one that has a value or a limit.
 #[tactic(auto, unfolding(crate::specs::Lacks::lack8410, crate::specs::Lacks::seen, table_fields::specs::LabelNumbers::label_number, table_fields::specs::LabelNumbers::rows_before, meaning::specs::FieldTable::field_table))]
 fn lack_8410(members: &[bool; ROWS], place: usize) -> Option<Lack>
-    ensures { told result ≡ lack8410 (seen members.now) place }
+    ensures { told_lack result ≡ lack8410 (seen members.now) place }
 {
     if has_value(members) && !has(members, fields::NO_8421) {
         return Some(Lack {
@@ -178,7 +178,7 @@ fn lack_8410(members: &[bool; ROWS], place: usize) -> Option<Lack>
 
 #[tactic(auto, unfolding(crate::specs::Lacks::lack8437, crate::specs::Lacks::seen, table_fields::specs::LabelNumbers::label_number, table_fields::specs::LabelNumbers::rows_before, meaning::specs::FieldTable::field_table))]
 fn lack_8437(members: &[bool; ROWS], place: usize) -> Option<Lack>
-    ensures { told result ≡ lack8437 (seen members.now) place }
+    ensures { told_lack result ≡ lack8437 (seen members.now) place }
 {
     if has(members, fields::NO_8438) && !has(members, fields::NO_8437) {
         return Some(Lack {
@@ -193,7 +193,7 @@ fn lack_8437(members: &[bool; ROWS], place: usize) -> Option<Lack>
 #[tactic(auto, unfolding(crate::specs::Lacks::lack_name, crate::specs::Lacks::seen, table_fields::specs::LabelNumbers::label_number, table_fields::specs::LabelNumbers::rows_before, meaning::specs::FieldTable::field_table))]
 fn lack_name(members: &[bool; ROWS], name: usize, place: usize) -> Option<Lack>
     requires { name < 10000 }
-    ensures { told result ≡ lack_name (seen members.now) name place }
+    ensures { told_lack result ≡ lack_name (seen members.now) name place }
 {
     if has(members, fields::NO_6331) {
         return None;
@@ -207,7 +207,7 @@ fn lack_name(members: &[bool; ROWS], name: usize, place: usize) -> Option<Lack>
 // What the group of a header lacks in a 6310 set.
 #[tactic(auto, unfolding(crate::specs::Lacks::lack_under, meaning::specs::Tables::row_label))]
 fn lack_under(members: &[bool; ROWS], header: usize, place: usize) -> Option<Lack>
-    ensures { told result ≡ lack_under (row_label header) (seen members.now) header place }
+    ensures { told_lack result ≡ lack_under (row_label header) (seen members.now) header place }
 {
     // 6302 is the lowest header of a group; 0 is none
     if header < meaning::LABEL_6302 {
@@ -229,7 +229,7 @@ fn lack_under(members: &[bool; ROWS], header: usize, place: usize) -> Option<Lac
 // What the group of a header lacks: only 6310 has groups.
 #[tactic(auto, unfolding(crate::specs::Lacks::group_lack))]
 fn group_lack(settype: SetType, members: &[bool; ROWS], header: usize, place: usize) -> Option<Lack>
-    ensures { told result ≡ group_lack settype (seen members.now) header place }
+    ensures { told_lack result ≡ group_lack settype (seen members.now) header place }
 {
     match settype {
         SetType::T6310 => lack_under(members, header, place),
@@ -237,21 +237,37 @@ fn group_lack(settype: SetType, members: &[bool; ROWS], header: usize, place: us
     }
 }
 
-// What the first group lacks that lacks something, up to the open one, which ends here.
-#[tactic(auto, unfolding(crate::specs::Lacks::first_lack, meaning::specs::Answers::or_else))]
-pub fn first_lack(settype: SetType, state: &State) -> Option<Lack>
-    ensures { told result ≡ first_lack settype state.now.header state.now.place state.now.members (told state.now.lack) }
+// The refusal of what the open group lacks, which ends here. Without one nothing is lacking.
+fn open_lack(settype: SetType, state: &State) -> Option<Refusal>
+    ensures lack_so { told result ≡ open_lack settype state.now.header state.now.place state.now.members }
+    ensures numbered { has_number result }
 {
-    match state.lack {
-        Some(lack) => Some(lack),
-        None => group_lack(settype, &state.members, state.header, state.place),
+    match group_lack(settype, &state.members, state.header, state.place) {
+        Some(lack) => Some(lack.refusal()),
+        None => None,
+    }
+}
+
+// The refusal of the first group that lacks something, up to the open one: one that was found before is told as it is.
+#[tactic(auto, unfolding(crate::specs::Lacks::first_lack, meaning::specs::Answers::or_else))]
+pub fn first_lack(settype: SetType, state: &State) -> Option<Refusal>
+    ensures lack_so { told result ≡ first_lack settype state.now.header state.now.place state.now.members (told state.now.lack) }
+    ensures numbered { has_number result }
+{
+    match &state.lack {
+        Some(lack) if lack.no != 0 => Some(Refusal {
+            no: lack.no,
+            place: lack.place,
+            label: lack.label,
+        }),
+        _ => open_lack(settype, state),
     }
 }
 
 // What the set lacks at set level, lowest label first.
 #[tactic(auto, unfolding(crate::specs::Lacks::set_lack, crate::specs::Lacks::lack_all, crate::specs::Lacks::seen, table_fields::specs::LabelNumbers::label_number, table_fields::specs::LabelNumbers::rows_before, meaning::specs::FieldTable::field_table))]
 fn set_lack(settype: SetType, top: &[bool; ROWS]) -> Option<Lack>
-    ensures { told result ≡ set_lack settype top.now }
+    ensures { told_lack result ≡ set_lack settype top.now }
 {
     match settype {
         SetType::T6300 | SetType::T6311 => first_unseen(top, &BASIC, 0),
@@ -262,11 +278,12 @@ fn set_lack(settype: SetType, top: &[bool; ROWS]) -> Option<Lack>
 
 // 16 after the last line: "set level before groups and pairs in order".
 #[tactic(auto, unfolding(crate::specs::Lacks::finish, meaning::specs::Answers::or_else))]
-pub fn finish_at(settype: SetType, state: &State) -> Option<Lack>
-    ensures { told result ≡ finish settype (flagged_of state.now) (told state.now.lack) }
+pub fn finish_at(settype: SetType, state: &State) -> Option<Refusal>
+    ensures lack_so { told result ≡ finish settype (flagged_of state.now) (told state.now.lack) }
+    ensures numbered { has_number result }
 {
     match set_lack(settype, &state.top) {
-        Some(lack) => Some(lack),
+        Some(lack) => Some(lack.refusal()),
         None => first_lack(settype, state),
     }
 }

@@ -3,34 +3,31 @@
 // proofs/RollLaws says what holds of an accepted set.
 #![tactic(auto)]
 
-ghost use Rattle.std.specs.Prelude.{◌≡◌, ℕ, ◌-◌, ◌≤◌, ◌<◌, slice_index};
-ghost use Rattle.meaning.specs.Limits.{max_lines};
+ghost use Rattle.std.specs.Prelude.{◌≡◌, ℕ, ◌-◌, ◌≤◌, ◌<◌, slice_index, get_or};
 ghost use Rattle.line_read.specs.Told.{told_label};
 ghost use Rattle.line_roll.specs.Rolled.{line_start, Lined};
 
-use meaning::SetType;
-
-// The labels of the first lines of a set, in order.
+// The labels of the first lines of a set, in order, with room for this many.
 #[derive(Drop)]
-pub struct Roll<'a> {
+pub struct Roll<'a, const ROOM: usize> {
     pub set: &'a [u8],
-    labels: [u16; SetType::LINES],
+    pub labels: [u16; ROOM],
     // This many labels are known, and the line after theirs stands at this offset.
     pub known: usize,
-    at: usize,
-    ghost few: { known ≤ max_lines },
+    pub at: usize,
+    ghost few: { known ≤ ROOM },
     ghost at_start: { at ≡ line_start set.now known },
     ghost labelled: { (k : ℕ) → k < known → slice_index labels k ≡ told_label set.now (line_start set.now k) },
 }
 
-impl<'a> Roll<'a> {
+impl<'a, const ROOM: usize> Roll<'a, ROOM> {
     // No label is known.
-    pub fn of(set: &'a [u8]) -> Roll<'a>
-        ensures { result.set.now ≡ set.now }
+    pub fn of(set: &'a [u8]) -> Roll<'a, ROOM>
+        ensures { (result.set.now ≡ set.now) × (result.known ≡ 0) × (result.at ≡ 0) }
     {
         Roll {
             set,
-            labels: [0; SetType::LINES],
+            labels: [0; ROOM],
             known: 0,
             at: 0,
         }
@@ -39,7 +36,7 @@ impl<'a> Roll<'a> {
     // Reads on until the labels of this many lines are known.
     pub fn read_to(&mut self, lines: usize)
         requires lined { Lined self.old.set.now lines }
-        requires room { lines ≤ max_lines }
+        requires room { lines ≤ ROOM }
         ensures { (self.new.set.now ≡ self.old.set.now) × (lines ≤ self.new.known) }
     {
         let mut at = self.at;
@@ -53,10 +50,11 @@ impl<'a> Roll<'a> {
         }
     }
 
-    // The label of the line with this number.
+    // The label of the line with this number, if it is known; what the roll has in its place otherwise.
     pub fn label_of(&self, line: usize) -> usize
-        requires { (1 ≤ line) × (line ≤ self.now.known) }
-        ensures { result ≡ told_label self.now.set.now (line_start self.now.set.now (line - 1)) }
+        requires { (1 ≤ line) × (line ≤ ROOM) }
+        ensures { (result ≡ get_or self.now.labels (line - 1) 0)
+            × (line ≤ self.now.known → result ≡ told_label self.now.set.now (line_start self.now.set.now (line - 1))) }
     {
         usize::from(self.labels[line - 1])
     }

@@ -5,7 +5,7 @@ use mathlib.Core.List.{List, [], ◌∷◌, ◌++◌, append_assoc, cons≢nil}
 use Prim.Native.Nat.{ℕ, ◌+◌, ◌-◌, ◌*◌, ◌≤◌, ◌<◌}
 use native.Mathlib.Omega.{arith}
 use lib.Dec.{leb}
-use lib.ListN.{length, take, drop, replicate, length-append, length-take}
+use lib.ListN.{length, take, drop, set, replicate, length-append, length-take}
 use lib.Seq.{drop-drop}
 use borrow.Author.Tests.{le-leb, lt-leb, eq-eqb, ne_eqb}
 use borrow.Rule.Slice.PartMut.{mid_of, put_mid}
@@ -40,6 +40,12 @@ use Rattle.meaning.proofs.LeftLaws.{one-more, none_left}
 use Rattle.std.specs.Prelude.{Err, Ok}
 
 -- ---- one entry
+
+-- a number in two bytes, stored byte by byte
+pub two-put : (b : List ℕ) (x y : ℕ) → 2 ≤ length b → set (set b 0 x) 1 y ≡ x ∷ y ∷ drop 2 b
+two-put [] x y h = absurd (omega arith)
+two-put (a ∷ []) x y h = absurd (omega arith)
+two-put (a ∷ c ∷ b) x y h = refl
 
 -- an entry and what follows it
 pub entry-then : (f : Field) (t : List ℕ) → entry_then f [] ++ t ≡ entry_then f t

@@ -4,7 +4,8 @@
 
 ghost use Rattle.std.specs.Prelude.{◌≡◌};
 ghost use Rattle.meaning.specs.Limits.{limits, type_of, type_number};
-ghost use Rattle.meaning.specs.Refusals.{numbers, refusal};
+ghost use Rattle.meaning.specs.Refusals.{numbers, refusal, tells_byte};
+ghost use Rattle.meaning.specs.Answers.{no_refusal};
 
 // A byte has this many values.
 pub const BYTE_VALUES: usize = 256;
@@ -171,7 +172,7 @@ impl SetType {
 }
 
 // A refusal: its number, its place and its label. Every lent buffer then holds what it held before.
-#[derive(Drop)]
+#[derive(Clone, Copy)]
 pub struct Refusal {
     pub no: usize,
     pub place: usize,
@@ -268,6 +269,13 @@ impl Refusal {
         ]
     }
 
+    // No refusal.
+    pub fn none() -> Refusal
+        ensures { result ≡ no_refusal }
+    {
+        Refusal::at(0, 0)
+    }
+
     // A refusal that carries no label.
     pub fn at(no: usize, place: usize) -> Refusal
         ensures { result ≡ refusal no place 0 }
@@ -277,6 +285,14 @@ impl Refusal {
             place,
             label: 0,
         }
+    }
+
+    // Of what a correction or an entry of a sheet is refused by for its content, 6 and 24 are placed at a byte of it; 27 is given by recoding alone.
+    #[tactic(auto, unfolding(crate::specs::Refusals::tells_byte))]
+    pub fn tells_byte(no: usize) -> bool
+        ensures { result ≡ tells_byte no }
+    {
+        matches!(no, Refusal::BAD_BYTE | Refusal::HIGH_BYTE)
     }
 }
 

@@ -71,7 +71,7 @@ fn list_input(rt: &HostRuntime, input: &mut impl Read, name: &[u8]) -> Status {
             if MOST_BYTES < n {
                 return list_too_long(rt);
             }
-            program_status::list_bytes(rt.stdout(), &rt.stderr(), &room[..n])
+            program_status::list_bytes(io::writer(&rt.stdout()), &rt.stderr(), &room[..n])
         }
     }
 }

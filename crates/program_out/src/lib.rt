@@ -1,9 +1,11 @@
 // What the program gdtlist writes: standard output, gathered in a block that is written when it is full, and messages on standard error. What is printed of a set is what
-// `judge::judge` and `index_walk::next_entry` answer. No contract says what is written; they say that the block stays whole.
+// `judge::judge` and `index_walk::next_entry` answer. No contract says what is written; they say that the block stays whole, and that a
+// write that failed is kept and told.
 #![tactic(auto)]
 
-ghost use Rattle.std.specs.Prelude.{◌≡◌, ◌≤◌, None};
-ghost use Rattle.std.specs.Io.KnownBytes.{Keeps};
+ghost use Rattle.std.specs.Prelude.{◌≡◌, ◌≤◌, ◌-◌, min, None, Some, OnOk, IfErr, IfSome, length};
+ghost use Rattle.std.specs.Io.{WritesAtMost};
+ghost use Rattle.std.specs.Io.KnownBytes.{Appends, Keeps, WriteAppends};
 ghost use Rattle.program_out.specs.declared.TheConstants.{BLOCK};
 
 use meaning::{Refusal, Shape};
@@ -11,48 +13,99 @@ use std::io;
 use std::io::{Error, Write};
 
 // The bytes of the block.
-const BLOCK: usize = 4096;
+pub const BLOCK: usize = 4096;
 
 // The most bytes that std prints of an error: the system's words, of 256 bytes at most, and their number.
 const MOST_WORDS: usize = 320;
 
-// A stream, and the block that gathers what is put: so many of its bytes are still to be written. std's BufWriter has its block on the heap.
-#[derive(Drop)]
+// The block that gathers what is put: this many of its bytes are still to be written.
+#[derive(Clone, Copy)]
+pub struct Held {
+    bytes: [u8; BLOCK],
+    pub used: usize,
+    ghost within: { used ≤ BLOCK },
+}
+
+// A stream, its block, and why a write failed, if one did. After a write that failed none is tried: what is put then is let go, and `flush` answers the error again. std's
+// BufWriter has its block on the heap.
+#[derive(Clone, Copy, Drop)]
 pub struct Out<W: Write + Drop> {
     to: W,
-    block: [u8; BLOCK],
-    used: usize,
-    ghost within: { used ≤ BLOCK },
+    pub held: Held,
+    pub failed: Option<Error>,
 }
 
 impl<W: Write + Drop> Out<W> {
     // Nothing was put yet.
     pub fn new(to: W) -> Self
-        ensures { result.used ≡ 0 }
+        ensures empty { result.held.used ≡ 0 }
+        ensures none_failed { result.failed ≡ None }
     {
         Out {
             to,
-            block: [0; BLOCK],
-            used: 0,
+            held: Held {
+                bytes: [0; BLOCK],
+                used: 0,
+            },
+            failed: None,
         }
     }
 
+    // Whether every write went well, and else why the first one failed that did not.
+    fn told(&self) -> io::Result<()>
+        ensures none_failed { OnOk result (self.now.failed ≡ None) }
+        ensures kept { IfErr result (λ error. self.now.failed ≡ Some error) }
+    {
+        match self.failed {
+            None => Ok(()),
+            Some(error) => Err(error),
+        }
+    }
+
+    // As much of a text as the block has room for, after what was put.
+    fn put(&mut self, text: &[u8]) -> usize
+        ensures count { result ≡ min (length text.now) (BLOCK - self.old.held.used) }
+        ensures failed { self.new.failed ≡ self.old.failed }
+    {
+        let room = &mut self.held.bytes[self.held.used..];
+        let n = text.len().min(room.len());
+        room[..n].copy_from_slice(&text[..n]);
+        self.held.used += n;
+        n
+    }
+
+    // A text that the block has no room for, part by part if it is longer than the block. No part is tried again, not even after an interruption: then the block is lost, and that
+    // is told. It stands apart from `write_all`, so that the test for room is inlined.
+    #[cold]
+    #[inline(never)]
+    fn put_parts(&mut self, text: &[u8]) -> io::Result<()>
+        ensures kept { IfErr result (λ error. self.new.failed ≡ Some error) }
+        ensures first { IfSome self.old.failed (λ error. self.new.failed ≡ Some error) }
+    {
+        self.told()?;
+        for part in text.chunks(BLOCK) {
+            self.write(part)?;
+        }
+        Ok(())
+    }
+
     // "A refusal prints `refused`, number, place, label."
-    pub fn put_refusal(&mut self, refusal: &Refusal) -> io::Result<()> {
-        writeln!(
-            self,
-            "refused {} {} {}",
-            refusal.no, refusal.place, refusal.label
-        )
+    pub fn put_refusal(&mut self, refusal: &Refusal) -> io::Result<()>
+        ensures none_failed { OnOk result ((self.old.failed ≡ None) × (self.new.failed ≡ None)) }
+    {
+        self.told()?;
+        self.write_all(b"refused")?;
+        writeln!(self, " {} {} {}", refusal.no, refusal.place, refusal.label)?;
+        self.told()
     }
 
     // The set of this shape at the front of some bytes. "First line: type, bytes, lines. Then line number, label, content place, content length, header."
-    pub fn put_set(&mut self, set: &[u8], shape: Shape) -> io::Result<()> {
-        writeln!(
-            self,
-            "set {} {} {}",
-            shape.settype, shape.length, shape.lines
-        )?;
+    pub fn put_set(&mut self, set: &[u8], shape: Shape) -> io::Result<()>
+        ensures none_failed { OnOk result ((self.old.failed ≡ None) × (self.new.failed ≡ None)) }
+    {
+        self.told()?;
+        self.write_all(b"set")?;
+        writeln!(self, " {} {} {}", shape.settype, shape.length, shape.lines)?;
         let mut walk = index_walk::start();
         for number in 1..=shape.lines {
             let next = index_walk::next_entry(set, walk);
@@ -64,31 +117,52 @@ impl<W: Write + Drop> Out<W> {
                 entry.label, entry.place, entry.length, entry.header
             )?;
         }
-        Ok(())
+        self.told()
     }
 }
 
 impl<W: Write + Drop> Write for Out<W> {
-    // What the block has no room for comes after all that was put before.
-    fn write(&mut self, text: &[u8]) -> io::Result<usize> {
-        if BLOCK - self.used < text.len() {
+    // What the block has no room for comes after all that was put before. A text that is no longer than the block is taken whole.
+    fn write(&mut self, text: &[u8]) -> io::Result<usize>
+        ensures bound { WritesAtMost result text.now }
+        ensures bytes { WriteAppends None None result text.now }
+        ensures kept { IfErr result (λ error. self.new.failed ≡ Some error) }
+        ensures first { IfSome self.old.failed (λ error. self.new.failed ≡ Some error) }
+    {
+        if BLOCK - self.held.used < text.len() {
             self.flush()?;
         }
-        let room = &mut self.block[self.used..];
-        let n = text.len().min(room.len());
-        room[..n].copy_from_slice(&text[..n]);
-        self.used += n;
-        Ok(n)
+        Ok(self.put(text))
     }
 
-    // All that was put is written, unless a write fails.
+    // All that was put is written, unless a write fails or failed before.
     fn flush(&mut self) -> io::Result<()>
         ensures bytes { Keeps None None }
-        ensures empty { self.new.used ≡ 0 }
+        ensures empty { self.new.held.used ≡ 0 }
+        ensures none_failed { OnOk result ((self.old.failed ≡ None) × (self.new.failed ≡ None)) }
+        ensures kept { IfErr result (λ error. self.new.failed ≡ Some error) }
+        ensures first { IfSome self.old.failed (λ error. self.new.failed ≡ Some error) }
     {
-        let used = self.used;
-        self.used = 0;
-        self.to.write_all(&self.block[..used])
+        let used = self.held.used;
+        self.held.used = 0;
+        self.told()?;
+        let written = self.to.write_all(&self.held.bytes[..used]);
+        self.failed = written.err();
+        written
+    }
+
+    // The whole text, as `write`.
+    #[inline(always)]
+    fn write_all(&mut self, text: &[u8]) -> io::Result<()>
+        ensures bytes { OnOk result (Appends None None text.now) }
+        ensures kept { IfErr result (λ error. self.new.failed ≡ Some error) }
+        ensures first { IfSome self.old.failed (λ error. self.new.failed ≡ Some error) }
+    {
+        if text.len() <= BLOCK - self.held.used {
+            self.put(text);
+            return Ok(());
+        }
+        self.put_parts(text)
     }
 }
 

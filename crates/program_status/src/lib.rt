@@ -1,7 +1,7 @@
 // The sets of some bytes, listed by the program gdtlist, and its exit status: that of the set that was judged last. Contracts cite specs/Stops.
 #![tactic(auto)]
 
-ghost use Rattle.std.specs.Prelude.{◌≡◌, pos, IfOk};
+ghost use Rattle.std.specs.Prelude.{◌≡◌, None, pos, IfOk, OnOk};
 ghost use Rattle.std.specs.Process.{exit_status};
 ghost use Rattle.program_status.specs.Stops.{trouble, status_of};
 ghost use Rattle.program_status.specs.Statuses.{number_of, StopsThere};
@@ -41,7 +41,8 @@ struct Stopped {
 
 // "prints each set in turn until a refusal"; "after the last set nothing more is printed". An empty input is judged once, and refused.
 fn list_sets<W: Write + Drop>(out: &mut Out<W>, input: &[u8]) -> io::Result<Stopped>
-    ensures { IfOk result (StopsThere input.now) }
+    ensures stops { IfOk result (StopsThere input.now) }
+    ensures none_failed { OnOk result ((out.old.failed ≡ None) × (out.new.failed ≡ None)) }
 {
     let mut at = 0;
     loop {
@@ -65,12 +66,13 @@ fn list_sets<W: Write + Drop>(out: &mut Out<W>, input: &[u8]) -> io::Result<Stop
     }
 }
 
-// The same, on a stream, with all that is put written.
-fn list_all<W: Write + Drop>(to: W, input: &[u8]) -> io::Result<Stopped>
-    ensures { IfOk result (StopsThere input.now) }
+// The same, with all that is put written.
+fn list_all<W: Write + Drop>(out: &mut Out<W>, input: &[u8]) -> io::Result<Stopped>
+    ensures stops { IfOk result (StopsThere input.now) }
+    ensures none_failed { OnOk result ((out.old.failed ≡ None) × (out.new.failed ≡ None)) }
+    ensures empty { OnOk result (out.new.held.used ≡ 0) }
 {
-    let mut out = Out::new(to);
-    let stopped = list_sets(&mut out, input)?;
+    let stopped = list_sets(out, input)?;
     out.flush()?;
     Ok(stopped)
 }
@@ -79,7 +81,8 @@ fn list_all<W: Write + Drop>(to: W, input: &[u8]) -> io::Result<Stopped>
 pub fn list_bytes<W: Write + Drop>(to: W, err: &impl Print, input: &[u8]) -> Status
     ensures { (number_of result ≡ trouble → ⊥) → number_of result ≡ status_of input.now }
 {
-    let stopped = match list_all(to, input) {
+    let mut out = Out::new(to);
+    let stopped = match list_all(&mut out, input) {
         Ok(stopped) => stopped,
         Err(error) => {
             program_out::tell_unwritten(err, error);

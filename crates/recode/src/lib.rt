@@ -36,6 +36,7 @@ pub fn recode(buffer: &mut [u8], used: usize, wanted: Code) -> Result<usize, Ref
         return Err(Refusal::at(Refusal::EMPTY, 0));
     }
     let plan = plan_recode(&buffer[..used], room, wanted)?;
+    let table = recode_table::table_into(wanted);
     match plan {
         Plan::Stays => {
             recode_put::put_nothing(buffer, used);
@@ -46,12 +47,12 @@ pub fn recode(buffer: &mut [u8], used: usize, wanted: Code) -> Result<usize, Ref
             Ok(used)
         }
         Plan::Recodes { plain, place } => {
-            recode_put::put_recoded(buffer, used, plain, place, wanted);
+            recode_put::put_recoded(buffer, used, plain, place, wanted, table);
             Ok(used)
         }
         Plan::Gains { plain } => {
             let total = used + recode_plan::GAINED;
-            recode_put::put_gained(buffer, used, plain, wanted);
+            recode_put::put_gained(buffer, used, plain, wanted, table);
             Ok(total)
         }
     }

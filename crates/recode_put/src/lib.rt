@@ -9,7 +9,7 @@ ghost use Rattle.meaning.specs.Field.{field};
 ghost use Rattle.meaning.specs.Lines.{line_then};
 ghost use Rattle.meaning_recode.specs.Recoding.{charset_of};
 ghost use Rattle.byte_high.specs.High.{plain_front};
-ghost use Rattle.meaning_recode.specs.Codes.{table_into};
+ghost use Rattle.recode_bytes.specs.Mapped.{CodeTable};
 ghost use Rattle.recode_put.specs.Recoded.{line_three, gained_bytes, zeroed_after, remarked, mapped_front, with_line};
 
 use meaning_recode::Code;
@@ -36,11 +36,18 @@ pub fn put_mark(buffer: &mut [u8], used: usize, place: usize, wanted: Code)
 }
 
 // Every content, then that of 9206, at this place.
-pub fn put_recoded(buffer: &mut [u8], used: usize, plain: usize, place: usize, wanted: Code)
-    requires { (place < used) × (used ≤ length buffer.old) × (plain ≡ plain_front (take used buffer.old)) }
-    ensures { buffer.new ≡ zeroed_after used (remarked place wanted (mapped_front (table_into wanted) used buffer.old)) }
+pub fn put_recoded(
+    buffer: &mut [u8],
+    used: usize,
+    plain: usize,
+    place: usize,
+    wanted: Code,
+    table: &[u16; 256],
+)
+    requires { (place < used) × (used ≤ length buffer.old) × (plain ≡ plain_front (take used buffer.old)) × CodeTable table.now }
+    ensures { buffer.new ≡ zeroed_after used (remarked place wanted (mapped_front table.now used buffer.old)) }
 {
-    recode_bytes::map_bytes(&mut buffer[..used], plain, recode_table::table_into(wanted));
+    recode_bytes::map_bytes(&mut buffer[..used], plain, table);
     put_mark(buffer, used, place, wanted);
 }
 
@@ -55,12 +62,12 @@ fn charset_line(wanted: Code) -> [u8; GAINED]
 }
 
 // Every content, then "gains that line as line 3", and the sum.
-pub fn put_gained(buffer: &mut [u8], used: usize, plain: usize, wanted: Code)
-    requires { (line_three ≤ used) × (used + gained_bytes ≤ length buffer.old) × (plain ≡ plain_front (take used buffer.old)) }
-    ensures { buffer.new ≡ with_line wanted used (mapped_front (table_into wanted) used buffer.old) }
+pub fn put_gained(buffer: &mut [u8], used: usize, plain: usize, wanted: Code, table: &[u16; 256])
+    requires { (line_three ≤ used) × (used + gained_bytes ≤ length buffer.old) × (plain ≡ plain_front (take used buffer.old)) × CodeTable table.now }
+    ensures { buffer.new ≡ with_line wanted used (mapped_front table.now used buffer.old) }
 {
-    recode_bytes::map_bytes(&mut buffer[..used], plain, recode_table::table_into(wanted));
     let line = charset_line(wanted);
+    recode_bytes::map_bytes(&mut buffer[..used], plain, table);
     correct_put::replace_middle(buffer, LINE_3, 0, &line, used);
     byte_put::put_digits(
         buffer,

@@ -7,7 +7,7 @@ use native.Mathlib.Omega.{arith}
 use native.Mathlib.Nat.{add-zero, add-sub_cancel_left}
 use borrow.Author.Tests.{le-leb, lt-leb, ne_eqb}
 use lib.Dec.{leb, eqb}
-use lib.ListN.{length, take, drop, get_or, length-take}
+use lib.ListN.{length, take, drop, length-take}
 use Rattle.std.specs.Prelude.{Option, None, Some, Err, Ok}
 use Rattle.meaning.specs.declared.Part.{Part}
 use Rattle.meaning.specs.declared.Refusal.{Refusal}
@@ -27,7 +27,7 @@ use Rattle.correct_offer.specs.Offered.{one_line, line_from, line_after, terms_o
 use Rattle.line_roll.specs.Rolled.{line_start, Lined}
 use Rattle.correct_offer.specs.declared.Objection.{Objection}
 use Rattle.correct_offer.specs.declared.Objection.TheVariants.{FixedLine, BadByte, BadContent, HighByte}
-use Rattle.correct_offer.proofs.OfferWalkLaws.{refused-so, placed-so, number-none, number-beyond, number-there}
+use Rattle.correct_offer.proofs.OfferWalkLaws.{refused-so, placed-so, counted-from, objected-byte, number-none, number-beyond, number-there}
 use Rattle.correct_offer.proofs.OfferLaws.{line-stands}
 use Rattle.view_part.specs.Parts.{newer, later}
 use Rattle.view_sheet.specs.Showing.{by_offer, judged_entry, sheet_entry_by, sheet_entry_at, set_part, good_then, EntryJudged, good_entry}
@@ -53,11 +53,27 @@ module _ (at n : ℕ) (w : Part) (q : w ≡ part (at + entry_lead) n) where
     pub entry-good : None ≡ objected l lent seven → good_entry k n ≡ judged_entry l (take n (drop (at + entry_lead) h)) seven at k n
     entry-good e = rw (← content-so, ← e)
 
-    pub entry-bad : (o : Objection) → Some o ≡ objected l lent seven
-        → Err (refusal_by o l lent at w.place) ≡ judged_entry l (take n (drop (at + entry_lead) h)) seven at k n
-    entry-bad o e =
-        rw (← content-so, ← e, refused-so o lent (one_line l 0 0))
-        (ap Err (placed-so o l lent at w.place entry_lead (ap (λ (y : Part). y.place) q)))
+    -- by its refusal, whose byte is counted from the content's first one
+    module _ (o : Objection) (e : Some o ≡ objected l lent seven) (r : Refusal) (f : r ≡ refusal_by o l lent at 0) where
+      abbrev found : EntryJudged
+      found = judged_entry l (take n (drop (at + entry_lead) h)) seven at k n
+
+      entry-so : Err (refusal r.no (cond (tells_byte r.no) (w.place + r.place) at) r.label) ≡ found
+      entry-so =
+          rw (f, ← content-so, ← e, refused-so o lent (one_line l 0 0))
+          (ap Err (counted-from o l lent at w.place ∙ placed-so o l lent at w.place entry_lead (ap (λ (y : Part). y.place) q)))
+
+      pub entry-byte : tells_byte r.no ≡ true → Err (refusal r.no (w.place + r.place) r.label) ≡ found
+      entry-byte t = rw t at entry-so
+
+      pub entry-bad : tells_byte r.no ≡ false → Err (refusal r.no at r.label) ≡ found
+      entry-bad t = rw t at entry-so
+
+      -- the byte stands in the entry, or after it
+      pub byte-within : tells_byte r.no ≡ true → w.place + r.place ≤ at + (entry_lead + n)
+      byte-within t =
+          let i = rw (← f, t) at (objected-byte o l lent at) in
+          omega (arith, i, length-take ((w.place + w.length) - w.place) (drop w.place h), content-ends)
 
 -- ---- the label of its line
 

@@ -15,7 +15,10 @@ ghost use Rattle.view_sheet.specs.Showing.{judged_entry, set_part, sheet_entry_a
 use correct_offer::Terms;
 use entry_read::Head;
 use line_roll::Roll;
-use meaning::{Part, Refusal, Shape, Shown};
+use meaning::{Part, Refusal, SetType, Shape, Shown};
+
+// The roll has room for the labels of any set.
+const ROOM: usize = SetType::LINES;
 
 // An entry of a sheet that keeps 21, 19, 20, 6, 14, 24: the number of its line, and the length of its content.
 #[derive(Drop)]
@@ -64,8 +67,11 @@ fn judge_entry(
             length: bytes,
         }),
         Some(objection) => {
-            let told = objection.refusal(label, content, at, start);
-            Err(told)
+            let told = objection.refusal(label, content, at);
+            if Refusal::tells_byte(told.no) {
+                return bad_entry(told.no, start + told.place, told.label);
+            }
+            bad_entry(told.no, at, told.label)
         }
     }
 }
@@ -74,7 +80,7 @@ fn judge_entry(
 // label counts, and the roll has it.
 fn check_entry(
     terms: Terms,
-    roll: &mut Roll,
+    roll: &mut Roll<'_, ROOM>,
     sheet: &[u8],
     at: usize,
 ) -> Result<SheetEntry, Refusal>

@@ -74,7 +74,7 @@ fn lacks_or_high(list: &[u8], settype: SetType, state: &State) -> Option<Refusal
     ensures { result ≡ if_any (finish_then settype (flagged_of state.now) (told state.now.lack) (high_in_list list.now)) }
 {
     if let Some(lack) = judge_missing::finish_at(settype, state) {
-        return Some(lack.refusal());
+        return Some(lack);
     }
     if judge_missing::has_9206(&state.top) {
         return write_seven::high_in_list(list);

@@ -1,11 +1,8 @@
 -- `is_ack`: just the two bytes.
-use mathlib.Core.Path.{ap, ◌∙◌}
-use mathlib.Core.List.{List}
-use Prim.Native.Nat.{ℕ}
-use lib.Dec.{eqb}
-use lib.Pointwise.{pointwise}
+use native.Mathlib.Omega.{arith}
+use Rattle.std.proofs.lemmas.Bool.Decides.{nat_tests}
 use Rattle.cable_send.proofs.AckLaws.{ack-bytes}
 use Rattle.cable_send.proofs.is_ack.Goals as goal
 
 pub returns : goal.returns
-returns c = let r = c.args.reply.now in c.eq.ensures ∙ (ap (λ (x : List ℕ). pointwise eqb r x) c.as_slice.ensures ∙ ack-bytes r)
+returns c = rw (c.eq.ensures, c.as_slice.ensures, ack-bytes c.args.reply.now) (grind (arith, nat_tests))

@@ -1,10 +1,15 @@
 -- `recode` answers and leaves what the definition says: by what was planned.
-use mathlib.Core.Path.{sym, ap, ◌∙◌}
+use mathlib.Core.Path.{sym, ap, ◌∙◌, subst}
+use mathlib.Core.List.{List}
+use Prim.Native.Nat.{ℕ}
 use native.Mathlib.Omega.{arith}
 use lib.Seq.{length-take-le}
 use Rattle.std.specs.Prelude.{Ok}
 use Rattle.meaning.proofs.ResultLaws.{handed-on}
 use Rattle.meaning.specs.Refusals.{refused}
+use Rattle.recode_bytes.specs.Mapped.{CodeTable}
+use Rattle.recode_plan.proofs.RecodedLaws.{table-codes}
+use Rattle.recode_put.specs.Recoded.{zeroed_after, remarked, mapped_front, with_line}
 use Rattle.recode.proofs.RecodeCallLaws.{recode-over, recode-empty, kept, plan-refused, stays-made, marks-inside, marks-made}
 use Rattle.recode.proofs.RecodeCallLaws.{recodes-inside, recodes-plain, recodes-made, gains-after, gains-room, gains-plain, gains-made}
 use Rattle.recode.proofs.recode.Goals as goal
@@ -37,10 +42,12 @@ put_mark-requires c =
 pub put_recoded-requires : goal.put_recoded-requires
 put_recoded-requires c =
     let a = c.args in
-    let q = sym c.plan_recode.ensures ∙ (c.in_ok-plan.was ∙ ap Ok c.in-Recodes.is) in (
+    let q = sym c.plan_recode.ensures ∙ (c.in_ok-plan.was ∙ ap Ok c.in-Recodes.is) in
+    let t = subst CodeTable (sym c.table_into-table.ensures) (table-codes a.wanted) in (
       recodes-inside a.buffer.now a.used a.wanted c.if-room-used.false _ _ q,
       c.if-room-used.false,
       recodes-plain a.buffer.now a.used a.wanted c.if-room-used.false _ _ q,
+      t,
     )
 
 pub overflow_add-total : goal.overflow_add-total
@@ -52,10 +59,12 @@ overflow_add-total c =
 pub put_gained-requires : goal.put_gained-requires
 put_gained-requires c =
     let a = c.args in
-    let q = sym c.plan_recode.ensures ∙ (c.in_ok-plan.was ∙ ap Ok c.in-Gains.is) in (
+    let q = sym c.plan_recode.ensures ∙ (c.in_ok-plan.was ∙ ap Ok c.in-Gains.is) in
+    let t = subst CodeTable (sym c.table_into-table.ensures) (table-codes a.wanted) in (
       gains-after a.buffer.now a.used a.wanted c.if-room-used.false _ q,
       gains-room a.buffer.now a.used a.wanted c.if-room-used.false _ q,
       gains-plain a.buffer.now a.used a.wanted c.if-room-used.false _ q,
+      t,
     )
 
 pub returns-in_err-plan : goal.returns-in_err-plan
@@ -80,10 +89,12 @@ pub returns-in-Recodes : goal.returns-in-Recodes
 returns-in-Recodes c =
     let a = c.args in
     let m = recodes-made a.buffer.now a.used a.wanted c.if-room-used.false _ _ (sym c.plan_recode.ensures ∙ (c.in_ok-plan.was ∙ ap Ok c.in-Recodes.is)) in
-    (m.0, c.put_recoded.ensures ∙ m.1)
+    let into = ap (λ (t : List ℕ). zeroed_after a.used (remarked c.in-Recodes.place a.wanted (mapped_front t a.used a.buffer.now))) c.table_into-table.ensures in
+    (m.0, c.put_recoded.ensures ∙ (into ∙ m.1))
 
 pub returns-in-Gains : goal.returns-in-Gains
 returns-in-Gains c =
     let a = c.args in
     let m = gains-made a.buffer.now a.used a.wanted c.if-room-used.false _ (sym c.plan_recode.ensures ∙ (c.in_ok-plan.was ∙ ap Ok c.in-Gains.is)) in
-    (m.0, c.put_gained.ensures ∙ m.1)
+    let into = ap (λ (t : List ℕ). with_line a.wanted a.used (mapped_front t a.used a.buffer.now)) c.table_into-table.ensures in
+    (m.0, c.put_gained.ensures ∙ (into ∙ m.1))

@@ -1,13 +1,9 @@
 -- `put_recoded` leaves the mapped bytes with the mark, and zeros after them.
-use mathlib.Core.Path.{sym, ap, ◌∙◌, subst}
+use mathlib.Core.Path.{sym, ap, ◌∙◌}
 use native.Mathlib.Omega.{arith}
 use mathlib.Core.List.{List}
 use Prim.Native.Nat.{ℕ}
-use lib.ListN.{take}
 use lib.Seq.{length-take-le}
-use Rattle.meaning_recode.specs.Codes.{table_into}
-use Rattle.recode_bytes.specs.Mapped.{CodeTable, mapped}
-use Rattle.recode_plan.proofs.RecodedLaws.{table-codes}
 use Rattle.recode_put.specs.Recoded.{zeroed_after, remarked}
 use Rattle.recode_put.proofs.RecodedPuts.{lent-mapped}
 use Rattle.recode_put.proofs.put_recoded.Goals as goal
@@ -17,12 +13,8 @@ slice_bounds-map_bytes-end-2 c =
     let a = c.args in
     sym (length-take-le a.used a.buffer.now (omega arith))
 
-pub map_bytes-requires : goal.map_bytes-requires
-map_bytes-requires c =
-    (c.requires.2, subst CodeTable (sym c.table_into.ensures) (table-codes c.args.wanted))
-
 pub returns : goal.returns
 returns c =
     let a = c.args in
-    let front = lent-mapped (table_into a.wanted) a.buffer.now _ a.used (c.map_bytes.ensures ∙ ap (λ (t : List ℕ). mapped t (take a.used a.buffer.now)) c.table_into.ensures) in
+    let front = lent-mapped a.table.now a.buffer.now _ a.used c.map_bytes.ensures in
     c.put_mark.ensures ∙ ap (λ (x : List ℕ). zeroed_after a.used (remarked a.place a.wanted x)) front

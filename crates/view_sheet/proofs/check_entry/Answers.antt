@@ -17,7 +17,11 @@ returns-then-terms-named c =
     (c.bad_entry-then-terms-named.ensures ∙ sheet-beyond _ _ _ _ _ _ e c.if-terms-named.true, refl)
 
 pub read_to-requires : goal.read_to-requires
-read_to-requires c = record { lined = fewer-lined _ _ _ c.requires.lined c.if-terms-named.false; room = omega (arith, c.requires.room, c.if-terms-named.false) }
+read_to-requires c =
+    (omega arith, (fewer-lined _ _ _ c.requires.lined c.if-terms-named.false, omega (arith, c.requires.room, c.if-terms-named.false)))
+
+pub label_of-requires : goal.label_of-requires
+label_of-requires c = (omega arith, (c.if-named-lt1.false, omega (arith, c.requires.room, c.if-terms-named.false)))
 
 pub judge_entry-requires : goal.judge_entry-requires
 judge_entry-requires c =
@@ -31,5 +35,5 @@ pub returns-else-terms-named : goal.returns-else-terms-named
 returns-else-terms-named c =
     let e = sym c.entry_at.ensures ∙ c.in-Some.is in
     let r = c.read_to.ensures in
-    let l = c.label_of.ensures ∙ (rw r.0 (roll-line _ _ c.requires.lined _ c.if-named-lt1.false c.if-terms-named.false)) in
+    let l = c.label_of.ensures.1 r.1 ∙ (rw r.0 (roll-line _ _ c.requires.lined _ c.if-named-lt1.false c.if-terms-named.false)) in
     (c.judge_entry.ensures ∙ sheet-there _ _ _ _ _ _ e c.if-named-lt1.false c.if-terms-named.false _ l, r.0)

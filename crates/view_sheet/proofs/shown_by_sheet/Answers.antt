@@ -15,7 +15,7 @@ loop-at-init c =
       length a.sheet.now,
       omega arith,
       ap (shown_from a.set.now a.terms a.sheet.now a.line (length a.sheet.now) 0) (sym (shown-none a.sheet.now (length a.sheet.now) (omega arith))),
-      c.of-roll.ensures,
+      c.of-roll.ensures.0,
       last_none a.sheet.now,
     )
 

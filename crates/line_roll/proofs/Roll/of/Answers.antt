@@ -5,4 +5,4 @@ use Rattle.line_roll.proofs.Roll.of.Goals as goal
 
 pub invariant_of-result-clause-at_start : goal.invariant_of-result-clause-at_start
 unfolding line_start
-invariant_of-result-clause-at_start c = refl
+invariant_of-result-clause-at_start g c = refl

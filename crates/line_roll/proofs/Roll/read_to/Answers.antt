@@ -1,14 +1,11 @@
-use mathlib.Core.Path.{◌≡◌, sym, ap, ◌∙◌}
 use Rattle.std.proofs.Common.{rules}
-use Prim.Native.Nat.{◌-◌, ◌<◌}
 use native.Mathlib.Omega.{arith}
-use lib.ListN.{length}
 use Rattle.line_roll.specs.Rolled.{Lined}
-use Rattle.line_roll.proofs.RollLaws.{start-next, labels-next, next-labelled, next-within, next-there, next-digits, next-size}
+use Rattle.line_roll.proofs.RollLaws.{start-next, labels-next, next-there, next-digits, next-size}
 use Rattle.line_roll.proofs.Roll.read_to.Goals as goal
 
 pub size_at-at-requires : goal.size_at-at-requires
-size_at-at-requires c =
+size_at-at-requires g c =
     let l = c.loop-line in
     let r = c.loop-line.self in
     let d : Lined c.loop-line.self.set.now c.args.lines = rw c.loop-line.invariant.0 c.requires.lined in
@@ -16,7 +13,7 @@ size_at-at-requires c =
     (omega (arith, n), next-digits r.set.now r.labels l.line l.at l.invariant.2 c.args.lines d c.loop-line-test.true)
 
 pub loop-line-preserved : goal.loop-line-preserved
-loop-line-preserved c =
+loop-line-preserved g c =
     let l = c.loop-line in
     let r = c.loop-line.self in
     let d : Lined c.loop-line.self.set.now c.args.lines = rw c.loop-line.invariant.0 c.requires.lined in (

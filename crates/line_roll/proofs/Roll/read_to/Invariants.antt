@@ -7,6 +7,6 @@ use Rattle.line_roll.specs.Rolled.{line_start}
 use Rattle.line_roll.proofs.Roll.read_to.Given as goal
 
 abbrev pub invariant-loop-line : goal.invariant-loop-line
-invariant-loop-line l =
+invariant-loop-line g l =
     (l.self.set ≡ l.initial.self.set) × (l.self.known ≡ l.initial.self.known) × (l.at ≡ line_start l.self.set.now l.line)
     × ((k : ℕ) → k < l.line → get_or l.self.labels k 0 ≡ told_label l.self.set.now (line_start l.self.set.now k))
