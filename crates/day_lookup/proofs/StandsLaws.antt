@@ -56,18 +56,18 @@ module _ (f : List ℕ) (place : ℕ) (c : List ℕ) where
   abbrev pub Tail : ℕ → Type 0
   Tail i = take (length c - i + line_end) (drop (place + i) f) ≡ drop i c ++ (cr ∷ lf ∷ [])
 
-  tail-end : place + (length c + line_end) ≤ length f → get_or f (place + length c) 0 ≡ cr → get_or f (place + length c + 1) 0 ≡ lf → Tail (length c)
+  pub tail-end : place + (length c + line_end) ≤ length f → get_or f (place + length c) 0 ≡ cr → get_or f (place + length c + 1) 0 ≡ lf → Tail (length c)
   tail-end h a b =
       let z : length c - length c + line_end ≡ 2 = omega arith in
       rw (z, drop-length c, byte-then f (place + length c) (omega arith), byte-then f (place + length c + 1) (omega arith), a, b)
 
-  tail_more : (i : ℕ) → i < length c → place + (length c + line_end) ≤ length f → get_or f (place + i) 0 ≡ get_or c i 0 → Tail (i + 1) → Tail i
+  pub tail_more : (i : ℕ) → i < length c → place + (length c + line_end) ≤ length f → get_or f (place + i) 0 ≡ get_or c i 0 → Tail (i + 1) → Tail i
   tail_more i h g e t =
       let n : length c - i + line_end ≡ suc (length c - (i + 1) + line_end) = omega arith in
       let m : place + i + 1 ≡ place + (i + 1) = omega arith in
       rw (n, byte-then f (place + i) (omega arith), byte-then c i h, e, m) (ap (λ (xs : List ℕ). get_or c i 0 ∷ xs) t)
 
-  tail_all : (i : ℕ) → i ≡ 0 → Tail i → true ≡ stands_at f place c
+  pub tail_all : (i : ℕ) → i ≡ 0 → Tail i → true ≡ stands_at f place c
   unfolding stands_at
   tail_all i z t =
       let n : length c - 0 + line_end ≡ length c + line_end = omega arith in
@@ -76,26 +76,26 @@ module _ (f : List ℕ) (place : ℕ) (c : List ℕ) where
 
   -- ---- the same by how far from the end: the i-th byte from there is next
 
-  abbrev pub Behind : ℕ → Type 0
-  Behind i = Tail (length c + 1 - i)
+  abbrev pub Back : ℕ → Type 0
+  Back i = Tail (length c + 1 - i)
 
-  pub behind-none : place + (length c + line_end) ≤ length f → get_or f (place + length c) 0 ≡ cr → get_or f (place + length c + 1) 0 ≡ lf → Behind 1
-  behind-none h a b =
+  pub back-none : place + (length c + line_end) ≤ length f → get_or f (place + length c) 0 ≡ cr → get_or f (place + length c + 1) 0 ≡ lf → Back 1
+  back-none h a b =
       let n : length c + 1 - 1 ≡ length c = omega arith in
       rw n (tail-end h a b)
 
-  pub behind_other : (i : ℕ) → 1 ≤ i → i ≤ length c → (get_or f (place + length c - i) 0 ≡ get_or c (length c - i) 0 → ⊥) → false ≡ stands_at f place c
-  behind_other i p q n =
+  pub back_other : (i : ℕ) → 1 ≤ i → i ≤ length c → (get_or f (place + length c - i) 0 ≡ get_or c (length c - i) 0 → ⊥) → false ≡ stands_at f place c
+  back_other i p q n =
       let m : place + length c - i ≡ place + (length c - i) = omega arith in
       stands-other (length c - i) (omega arith) (rw m at n)
 
-  pub behind_more : (i : ℕ) → 1 ≤ i → i ≤ length c → place + (length c + line_end) ≤ length f
-      → get_or f (place + length c - i) 0 ≡ get_or c (length c - i) 0 → Behind i → Behind (i + 1)
-  behind_more i p q h e t =
+  pub back_more : (i : ℕ) → 1 ≤ i → i ≤ length c → place + (length c + line_end) ≤ length f
+      → get_or f (place + length c - i) 0 ≡ get_or c (length c - i) 0 → Back i → Back (i + 1)
+  back_more i p q h e t =
       let m : place + length c - i ≡ place + (length c - i) = omega arith in
       let here : length c + 1 - i ≡ length c - i + 1 = omega arith in
       let next : length c + 1 - (i + 1) ≡ length c - i = omega arith in
       rw next (tail_more (length c - i) (omega arith) h (rw m at e) (rw here at t))
 
-  pub behind_all : (i : ℕ) → i ≡ length c + 1 → Behind i → true ≡ stands_at f place c
-  behind_all i e t = tail_all (length c + 1 - i) (omega arith) t
+  pub back_all : (i : ℕ) → i ≡ length c + 1 → Back i → true ≡ stands_at f place c
+  back_all i e t = tail_all (length c + 1 - i) (omega arith) t

@@ -254,12 +254,8 @@ pub fn first_lack(settype: SetType, state: &State) -> Option<Refusal>
     ensures lack_so { told result ≡ first_lack settype state.now.header state.now.place state.now.members (told state.now.lack) }
     ensures numbered { has_number result }
 {
-    match &state.lack {
-        Some(lack) if lack.no != 0 => Some(Refusal {
-            no: lack.no,
-            place: lack.place,
-            label: lack.label,
-        }),
+    match state.lack {
+        Some(lack) if lack.no != 0 => Some(lack),
         _ => open_lack(settype, state),
     }
 }

@@ -2,7 +2,7 @@
 // Here are its words and what it reads; `program_status::list_bytes` lists what was read, and `program_out` has all that is written. Every function is proved safe and ending.
 #![tactic(auto)]
 
-use program_out::{tell, tell_failed, tell_unwritten};
+use program_message::{tell, tell_failed, tell_unwritten};
 use program_status::Status;
 use std::env::{Env, FillError};
 use std::fs::File;
@@ -71,6 +71,7 @@ fn list_input(rt: &HostRuntime, input: &mut impl Read, name: &[u8]) -> Status {
             if MOST_BYTES < n {
                 return list_too_long(rt);
             }
+            // this writer tells a write that was interrupted; the stream itself tries it again, without an end
             program_status::list_bytes(io::writer(&rt.stdout()), &rt.stderr(), &room[..n])
         }
     }

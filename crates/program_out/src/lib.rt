@@ -1,9 +1,8 @@
-// What the program gdtlist writes: standard output, gathered in a block that is written when it is full, and messages on standard error. What is printed of a set is what
-// `judge::judge` and `index_walk::next_entry` answer. No contract says what is written; they say that the block stays whole, and that a
-// write that failed is kept and told.
+// What the program gdtlist writes to standard output, gathered in a block that is written when it is full. What is printed of a set is what `judge::judge` and
+// `index_walk::next_entry` answer. No contract says what is written; they say that the block stays whole, and that a write that failed is kept and told.
 #![tactic(auto)]
 
-ghost use Rattle.std.specs.Prelude.{◌≡◌, ◌≤◌, ◌-◌, min, None, Some, OnOk, IfErr, IfSome, length};
+ghost use Rattle.std.specs.Prelude.{◌≡◌, ◌≤◌, None, Some, OnOk, IfErr, IfSome};
 ghost use Rattle.std.specs.Io.{WritesAtMost};
 ghost use Rattle.std.specs.Io.KnownBytes.{Appends, Keeps, WriteAppends};
 ghost use Rattle.program_out.specs.declared.TheConstants.{BLOCK};
@@ -14,9 +13,6 @@ use std::io::{Error, Write};
 
 // The bytes of the block.
 pub const BLOCK: usize = 4096;
-
-// The most bytes that std prints of an error: the system's words, of 256 bytes at most, and their number.
-const MOST_WORDS: usize = 320;
 
 // The block that gathers what is put: this many of its bytes are still to be written.
 #[derive(Clone, Copy)]
@@ -62,33 +58,6 @@ impl<W: Write + Drop> Out<W> {
         }
     }
 
-    // As much of a text as the block has room for, after what was put.
-    fn put(&mut self, text: &[u8]) -> usize
-        ensures count { result ≡ min (length text.now) (BLOCK - self.old.held.used) }
-        ensures failed { self.new.failed ≡ self.old.failed }
-    {
-        let room = &mut self.held.bytes[self.held.used..];
-        let n = text.len().min(room.len());
-        room[..n].copy_from_slice(&text[..n]);
-        self.held.used += n;
-        n
-    }
-
-    // A text that the block has no room for, part by part if it is longer than the block. No part is tried again, not even after an interruption: then the block is lost, and that
-    // is told. It stands apart from `write_all`, so that the test for room is inlined.
-    #[cold]
-    #[inline(never)]
-    fn put_parts(&mut self, text: &[u8]) -> io::Result<()>
-        ensures kept { IfErr result (λ error. self.new.failed ≡ Some error) }
-        ensures first { IfSome self.old.failed (λ error. self.new.failed ≡ Some error) }
-    {
-        self.told()?;
-        for part in text.chunks(BLOCK) {
-            self.write(part)?;
-        }
-        Ok(())
-    }
-
     // "A refusal prints `refused`, number, place, label."
     pub fn put_refusal(&mut self, refusal: &Refusal) -> io::Result<()>
         ensures none_failed { OnOk result ((self.old.failed ≡ None) × (self.new.failed ≡ None)) }
@@ -122,17 +91,15 @@ impl<W: Write + Drop> Out<W> {
 }
 
 impl<W: Write + Drop> Write for Out<W> {
-    // What the block has no room for comes after all that was put before. A text that is no longer than the block is taken whole.
+    // The whole text.
     fn write(&mut self, text: &[u8]) -> io::Result<usize>
         ensures bound { WritesAtMost result text.now }
         ensures bytes { WriteAppends None None result text.now }
         ensures kept { IfErr result (λ error. self.new.failed ≡ Some error) }
         ensures first { IfSome self.old.failed (λ error. self.new.failed ≡ Some error) }
     {
-        if BLOCK - self.held.used < text.len() {
-            self.flush()?;
-        }
-        Ok(self.put(text))
+        self.write_all(text)?;
+        Ok(text.len())
     }
 
     // All that was put is written, unless a write fails or failed before.
@@ -151,59 +118,23 @@ impl<W: Write + Drop> Write for Out<W> {
         written
     }
 
-    // The whole text, as `write`.
-    #[inline(always)]
+    // The whole text. What the block has no room for comes after all that was put before, and is written at once if it is longer than the block.
     fn write_all(&mut self, text: &[u8]) -> io::Result<()>
         ensures bytes { OnOk result (Appends None None text.now) }
         ensures kept { IfErr result (λ error. self.new.failed ≡ Some error) }
         ensures first { IfSome self.old.failed (λ error. self.new.failed ≡ Some error) }
     {
-        if text.len() <= BLOCK - self.held.used {
-            self.put(text);
-            return Ok(());
+        if BLOCK - self.held.used < text.len() {
+            self.flush()?;
         }
-        self.put_parts(text)
+        if BLOCK < text.len() {
+            let passed = self.to.write_all(text);
+            self.failed = passed.err();
+            return passed;
+        }
+        let end = self.held.used + text.len();
+        self.held.bytes[self.held.used..end].copy_from_slice(text);
+        self.held.used = end;
+        Ok(())
     }
-}
-
-// ---- messages on standard error
-
-// A text on standard error. If it cannot be written, nobody can be told.
-pub fn tell(to: &impl Print, text: &[u8]) {
-    let _ = to.write_all(text);
-}
-
-// The system's words for an error, without their number, which std prints after them. They go into a room of their own: nothing is on the heap.
-fn tell_reason(to: &impl Print, error: Error) {
-    let mut room = [0u8; MOST_WORDS];
-    let mut rest = &mut room[..];
-    let _ = write!(rest, "{error}");
-    let used = MOST_WORDS.saturating_sub(rest.len());
-    let Ok(said) = std::str::from_utf8(&room[..used]) else {
-        return;
-    };
-    match said.split_once(" (os error ") {
-        Some((words, _)) => tell(to, words.as_bytes()),
-        None => tell(to, said.as_bytes()),
-    }
-}
-
-// A call that failed, of this file or stream, with the system's reason.
-pub fn tell_failed(to: &impl Print, what: &[u8], name: &[u8], error: Error) {
-    tell(to, b"gdtlist: cannot ");
-    tell(to, what);
-    tell(to, name);
-    tell(to, b": ");
-    tell_reason(to, error);
-    tell(to, b"\n");
-}
-
-// Standard output could not be written.
-pub fn tell_unwritten(to: &impl Print, error: Error) {
-    tell_failed(to, b"write to ", b"standard output", error);
-}
-
-// Places of the list count from the start of its set: so this says where that is.
-pub fn tell_refused(to: &impl Print, no: usize, at: usize) {
-    let _ = println!(to; "gdtlist: refused by {no}, in the set at byte {at} of the input");
 }

@@ -85,14 +85,14 @@ pub fn list_bytes<W: Write + Drop>(to: W, err: &impl Print, input: &[u8]) -> Sta
     let stopped = match list_all(&mut out, input) {
         Ok(stopped) => stopped,
         Err(error) => {
-            program_out::tell_unwritten(err, error);
+            program_message::tell_unwritten(err, error);
             return Status::Trouble;
         }
     };
     match stopped.refused {
         None => Status::Listed,
         Some(refusal) => {
-            program_out::tell_refused(err, refusal.no, stopped.at);
+            program_message::tell_refused(err, refusal.no, stopped.at);
             Status::Refused
         }
     }

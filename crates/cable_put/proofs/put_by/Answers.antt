@@ -10,23 +10,21 @@ put_restored-end-requires c =
 pub returns-then-label-ne-B02 : goal.returns-then-label-ne-B02
 returns-then-label-ne-B02 c =
     let a = c.args in
-    let e = c.if-label-ne-B02.true in
     let p = c.put_restored-end.ensures in
-    (omega (arith, other_length a.label a.bytes.now e, p.0), other-put a.label a.bytes.now a.at a.out.now _ e p.1)
+    (omega (arith, other_length a.label a.bytes.now (λ q. omega arith), p.0), other-put a.label a.bytes.now a.at a.out.now _ (λ q. omega arith) p.1)
 
 pub put_end-requires : goal.put_end-requires
 put_end-requires c =
-    omega (arith, last-length c.args.label c.args.bytes.now c.if-label-ne-B02.false, c.put_restored-end.ensures.0)
+    omega (arith, last-length c.args.label c.args.bytes.now (omega arith), c.put_restored-end.ensures.0)
 
 pub overflow_add-result : goal.overflow_add-result
 overflow_add-result c =
-    omega (arith, last-length c.args.label c.args.bytes.now c.if-label-ne-B02.false, c.put_restored-end.ensures.0)
+    omega (arith, last-length c.args.label c.args.bytes.now (omega arith), c.put_restored-end.ensures.0)
 
 pub returns : goal.returns
 returns c =
     let a = c.args in
-    let e = c.if-label-ne-B02.false in
     let p = c.put_restored-end.ensures in (
-      omega (arith, last-length a.label a.bytes.now e, p.0),
-      last-put a.label a.bytes.now a.at _ a.out.now _ _ e c.requires p.0 p.1 c.put_end.ensures,
+      omega (arith, last-length a.label a.bytes.now (omega arith), p.0),
+      last-put a.label a.bytes.now a.at _ a.out.now _ _ (omega arith) c.requires p.0 p.1 c.put_end.ensures,
     )

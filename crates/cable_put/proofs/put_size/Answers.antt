@@ -6,8 +6,8 @@ use Rattle.cable_put.proofs.put_size.Goals as goal
 
 pub returns-then-label-eq-B02 : goal.returns-then-label-eq-B02
 returns-then-label-eq-B02 c =
-    omega (arith, last-length c.args.label c.args.bytes.now c.if-label-eq-B02.true)
+    omega (arith, last-length c.args.label c.args.bytes.now (omega arith))
 
 pub returns : goal.returns
 returns c =
-    c.restored_size-size.ensures.0 ∙ sym (other_length c.args.label c.args.bytes.now c.if-label-eq-B02.false)
+    c.restored_size-size.ensures.0 ∙ sym (other_length c.args.label c.args.bytes.now (λ q. omega arith))

@@ -1,5 +1,5 @@
 use native.Mathlib.Omega.{arith}
-use Rattle.day_lookup.proofs.StandsLaws.{stands-cut, stands-no-cr, stands-no-lf, behind-none, behind_other, behind_more, behind_all}
+use Rattle.day_lookup.proofs.StandsLaws.{stands-cut, stands-no-cr, stands-no-lf, back-none, back_other, back_more, back_all}
 use Rattle.day_lookup.proofs.stands_at.Goals as goal
 
 pub returns-then-file-need : goal.returns-then-file-need
@@ -21,20 +21,20 @@ returns-then-file-end-ne-LF c =
 pub loop-i-init : goal.loop-i-init
 loop-i-init c =
     let a = c.args in
-    (omega arith, behind-none a.file.now a.place a.asked.now (omega arith) c.if-file-end-ne-CR.false c.if-file-end-ne-LF.false)
+    (omega arith, back-none a.file.now a.place a.asked.now (omega arith) c.if-file-end-ne-CR.false c.if-file-end-ne-LF.false)
 
 pub returns-then-file-end : goal.returns-then-file-end
 returns-then-file-end c =
     let a = c.args in
-    behind_other a.file.now a.place a.asked.now c.loop-i.i (omega arith) (omega arith) c.if-file-end.true
+    back_other a.file.now a.place a.asked.now c.loop-i.i (omega arith) (omega arith) c.if-file-end.true
 
 pub loop-i-preserved : goal.loop-i-preserved
 loop-i-preserved c =
     let a = c.args in
     let l = c.loop-i in
-    (omega arith, behind_more a.file.now a.place a.asked.now l.i (omega arith) (omega arith) (omega arith) c.if-file-end.false l.invariant.1)
+    (omega arith, back_more a.file.now a.place a.asked.now l.i (omega arith) (omega arith) (omega arith) c.if-file-end.false l.invariant.1)
 
 pub returns : goal.returns
 returns c =
     let a = c.args in
-    behind_all a.file.now a.place a.asked.now c.loop-i.i (omega arith) c.loop-i.invariant.1
+    back_all a.file.now a.place a.asked.now c.loop-i.i (omega arith) c.loop-i.invariant.1
