@@ -163,8 +163,8 @@ def brought(text):
 
 def called(texts, found):
     """The functions of the project that each function calls: by its crate, a module of its own crate, a type that has it, a name that is imported, or as a method of a
-    crate that stands below its own, of a trait's if its file names the type; `into` calls each `from` of an impl for a type that it names, and a macro that writes calls `write`."""
-    types, methods, made, own_type = {}, {}, {}, {}
+    crate that stands below its own, one of a trait only if the file that calls names the type that has it; `into` calls each `from` of an impl for a type that it names, and a macro that writes calls `write`."""
+    types, methods, made, of_type = {}, {}, {}, {}
     for name in found:
         if "self" in found[name].given:
             methods.setdefault(name.split("::")[-1], set()).add(name)
@@ -172,7 +172,7 @@ def called(texts, found):
         for one in IMPL.finditer(text):
             inside = {name for name in found if found[name].path == path and one.start() <= found[name].span[0] < one.end()}
             made.setdefault(re.match(r"\w+", one[2])[0], set()).update(inside)
-            own_type.update((name, re.match(r"\w+", one[2])[0]) for name in inside)
+            of_type.update((name, re.match(r"\w+", one[2])[0]) for name in inside)
     for path, text in texts.items():
         for kind in re.findall(r"^impl(?:<[^\n]*?>)? (\w+)(?:<[^\n]*>)? \{", text, re.M):
             assert kind not in types, "%s: a second crate has functions of a type %s" % (path, kind)
@@ -183,12 +183,15 @@ def called(texts, found):
         uses = brought(text)
         uses.update((other, crate) for crate, other in re.findall(r"^use (\w+) as (\w+);", text, re.M))
         calls[name] = set()
-        near = {own, *cited(own)}
+        near, named = {own, *cited(own)}, set(re.findall(r"\w+", text))
         whole, body = text[function.span[0] : function.span[2]], text[function.span[1] : function.span[2]]
         for dot, way, last in re.findall(r"(\.?)((?:\b\w+::)*)\b(\w+)(?:::<[^()]*?>)?\(", re.sub(r"\bwrite(ln)?!\(", ".write(", body)):
             of = way[:-2].split("::")[-1] or ("" if "%s::%s" % (own, last) in found else last)
             home = of if of in crates else types.get(of) or uses.get(of, own)
-            others = {"%s::%s" % (own if home == "crate" else home, last)} if not dot else {one for one in methods.get(last, ()) if one.split("::")[0] in near and own_type.get(one, own) in {own, *re.findall(r"\w+", text)}}
+            if dot:
+                others = {one for one in methods.get(last, ()) if one.split("::")[0] in near and (one not in of_type or of_type[one] in named)}
+            else:
+                others = {"%s::%s" % (own if home == "crate" else home, last)}
             kinds = re.findall(r"\w+", whole) if dot and last == "into" else [of]
             others |= {one for kind in kinds for one in made.get(kind, ()) if one.endswith("::from" if dot else "::" + last)}
             calls[name] |= others & set(found)

@@ -23,7 +23,7 @@ use Rattle.correct_offer.specs.declared.Terms.{Terms}
 use Rattle.correct_offer.specs.declared.Objection.{Objection}
 use Rattle.correct_offer.specs.declared.Objection.TheVariants.{FixedLine, BadByte, BadContent, HighByte}
 use Rattle.correct_offer.specs.Offered.{one_line, no_line, line_from, line_after, asks_seven, Offer, against, after_all, offered_to, offered_at, offered_high, offered}
-use Rattle.correct_offer.specs.Offered.{objected_high, objected, refusal_by, offer_by, offer_spot, beyond, answered}
+use Rattle.correct_offer.specs.Offered.{objected_high, objected, number_by, refusal_by, refusal_by_number, offer_by, offer_spot, beyond, answered}
 
 -- ---- a line, with k lines to skip before it: the line at the offset gives the length n
 
@@ -202,6 +202,14 @@ refused-by x c seven o e at from = rw (← against-line x c seven, ← e) (go o)
     go BadByte = refl
     go BadContent = refl
     go HighByte = refl
+
+-- its number says the same refusal
+pub by-its-number : (o : Objection) (l : ℕ) (c : List ℕ) (at from : ℕ) → refusal_by_number (number_by o) l c at from ≡ refusal_by o l c at from
+unfolding refusal_by_number
+by-its-number FixedLine l c at from = refl
+by-its-number BadByte l c at from = refl
+by-its-number BadContent l c at from = refl
+by-its-number HighByte l c at from = refl
 
 -- the answer of an offer that is told by what speaks against the content
 pub answer-none : (c : List ℕ) (x : OneLine) → Ok x ≡ answered (offer_by None c x)

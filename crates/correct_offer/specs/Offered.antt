@@ -1,10 +1,11 @@
--- The walks of `line_after`, `terms_of`, `judge_content`, `Objection::refusal` and `judge_change`: the lines of a set by offsets, whether seven bits have to be asked for, and the tests
+-- The walks of `line_after`, `terms_of`, `judge_content`, `Objection::refusal`, `refusal_by_number` and `judge_change`: the lines of a set by offsets, whether seven bits have to be asked for, and the tests
 -- 19, 20, 6, 14, 24 in the code's order. What they mean for an accepted set is `line-stands` and `offer-is` in proofs/OfferLaws, and `content-served` and `part-served` in
 -- proofs/TermsLaws.
 use Rattle.std.specs.Prelude.{Bool, cond, not, ◌&&◌, List, [], ◌∷◌, ℕ, zero, suc, pred, ◌+◌, length, leb, eqb, Option, None, Some, Result, Ok, Err}
 use Rattle.meaning.specs.declared.Refusal.{Refusal}
 use Rattle.meaning.specs.declared.Shape.{Shape}
 use Rattle.meaning.specs.Refusals.{Spot, start, byte, Fault, tells_byte, refusal, bad_byte, bad_content, no_such_line, fixed_line, high_byte}
+use Rattle.meaning.specs.Answers.{no_refusal}
 use Rattle.meaning.specs.Lines.{line_lead, line_end}
 use Rattle.meaning.specs.FieldTable.{fits_label}
 use Rattle.meaning.specs.Corrections.{fixed}
@@ -94,12 +95,26 @@ objected l c seven =
     cond (fixed l) (Some FixedLine)
     (cond (leb (length c) (first_low c 0 (length c))) (cond (fits_label l c) (objected_high c seven) (Some BadContent)) (Some BadByte))
 
+-- its number
+abbrev pub number_by : Objection → ℕ
+number_by FixedLine = fixed_line
+number_by BadByte = bad_byte
+number_by BadContent = bad_content
+number_by HighByte = high_byte
+
 -- the refusal: for 6 and 24 which byte, if the content's first one is at `from`, for 20 and 14 the place and the label
 abbrev pub refusal_by : Objection → ℕ → List ℕ → ℕ → ℕ → Refusal
 refusal_by FixedLine l c at from = refusal fixed_line at l
 refusal_by BadByte l c at from = refusal bad_byte (from + first_low c 0 (length c)) 0
 refusal_by BadContent l c at from = refusal bad_content at l
 refusal_by HighByte l c at from = refusal high_byte (from + first_high c 0 (length c)) 0
+
+-- the same by its number: for 6 and 24 which byte, for any other but 0 the place and the label
+unfoldable pub refusal_by_number : ℕ → ℕ → List ℕ → ℕ → ℕ → Refusal
+refusal_by_number n l c at from =
+    cond (eqb n 0) no_refusal
+    (cond (eqb n bad_byte) (refusal bad_byte (from + first_low c 0 (length c)) 0)
+    (cond (eqb n high_byte) (refusal high_byte (from + first_high c 0 (length c)) 0) (refusal n at l)))
 
 -- the same as an offer to a line
 abbrev pub offer_by : Option Objection → List ℕ → OneLine → Offer

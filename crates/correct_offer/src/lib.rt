@@ -5,7 +5,7 @@
 ghost use Rattle.std.specs.Prelude.{◌≡◌, true, Ok};
 ghost use Rattle.meaning.specs.Reading.{judge};
 ghost use Rattle.meaning.specs.Corrections.{fixed};
-ghost use Rattle.correct_offer.specs.Offered.{no_line, line_after, asks_seven, terms_of, refusal_by, objected_high, objected, offered, beyond, answered};
+ghost use Rattle.correct_offer.specs.Offered.{no_line, line_after, asks_seven, terms_of, number_by, refusal_by, refusal_by_number, objected_high, objected, offered, beyond, answered};
 
 use meaning::{Refusal, Shape};
 
@@ -62,30 +62,46 @@ pub enum Objection {
 }
 
 impl Objection {
+    // Its number.
+    fn number(self) -> usize
+        ensures { result ≡ number_by self }
+    {
+        match self {
+            Objection::FixedLine => Refusal::FIXED_LINE,
+            Objection::BadByte => Refusal::BAD_BYTE,
+            Objection::BadContent => Refusal::BAD_CONTENT,
+            Objection::HighByte => Refusal::HIGH_BYTE,
+        }
+    }
+
     // The refusal of a content for a line with this label: 6 and 24 tell which byte of the content, the others tell `at`, and the label.
     pub fn refusal(self, label: usize, content: &[u8], at: usize) -> Refusal
         ensures { result ≡ refusal_by self label content.now at 0 }
     {
-        match self {
-            Objection::FixedLine => Refusal {
-                no: Refusal::FIXED_LINE,
-                place: at,
-                label,
-            },
-            Objection::BadByte => {
-                let low = byte_low::find_low(content, 0, content.len());
-                Refusal::at(Refusal::BAD_BYTE, low)
-            }
-            Objection::BadContent => Refusal {
-                no: Refusal::BAD_CONTENT,
-                place: at,
-                label,
-            },
-            Objection::HighByte => {
-                let high = byte_high::first_high(content, 0, content.len());
-                Refusal::at(Refusal::HIGH_BYTE, high)
-            }
+        refusal_by_number(self.number(), label, content, at)
+    }
+}
+
+// The same by its number, whichever number that is; 0 is no refusal.
+#[tactic(auto, unfolding(crate::specs::Offered::refusal_by_number))]
+pub fn refusal_by_number(no: usize, label: usize, content: &[u8], at: usize) -> Refusal
+    ensures { result ≡ refusal_by_number no label content.now at 0 }
+{
+    match no {
+        0 => Refusal::none(),
+        Refusal::BAD_BYTE => {
+            let low = byte_low::find_low(content, 0, content.len());
+            Refusal::at(Refusal::BAD_BYTE, low)
         }
+        Refusal::HIGH_BYTE => {
+            let high = byte_high::first_high(content, 0, content.len());
+            Refusal::at(Refusal::HIGH_BYTE, high)
+        }
+        _ => Refusal {
+            no,
+            place: at,
+            label,
+        },
     }
 }
 
