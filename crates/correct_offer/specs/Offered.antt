@@ -1,6 +1,6 @@
--- The walks of `line_after`, `terms_of`, `judge_content`, `Objection::refusal`, `refusal_by_number` and `judge_change`: the lines of a set by offsets, whether seven bits have to be asked for, and the tests
--- 19, 20, 6, 14, 24 in the code's order. What they mean for an accepted set is `line-stands` and `offer-is` in proofs/OfferLaws, and `content-served` and `part-served` in
--- proofs/TermsLaws.
+-- The walks of `line_after`, `terms_of`, `judge_content`, `Objection::refusal`, `refusal_by_number` and `judge_change`: the lines of a set by offsets, whether seven bits have to be
+-- asked for, and the tests 19, 20, 6, 14, 24 in the code's order. What they mean for an accepted set is `line-stands` and `offer-is` in proofs/OfferLaws, and `content-served` and
+-- `part-served` in proofs/TermsLaws.
 use Rattle.std.specs.Prelude.{Bool, cond, not, ◌&&◌, List, [], ◌∷◌, ℕ, zero, suc, pred, ◌+◌, length, leb, eqb, Option, None, Some, Result, Ok, Err}
 use Rattle.meaning.specs.declared.Refusal.{Refusal}
 use Rattle.meaning.specs.declared.Shape.{Shape}
