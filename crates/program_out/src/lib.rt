@@ -91,7 +91,7 @@ impl<W: Write + Drop> Out<W> {
 }
 
 impl<W: Write + Drop> Write for Out<W> {
-    // The whole text.
+    // The whole text, after all that was put before.
     fn write(&mut self, text: &[u8]) -> io::Result<usize>
         ensures bound { WritesAtMost result text.now }
         ensures bytes { WriteAppends None None result text.now }
@@ -103,6 +103,8 @@ impl<W: Write + Drop> Write for Out<W> {
     }
 
     // All that was put is written, unless a write fails or failed before.
+    #[cold]
+    #[inline(never)]
     fn flush(&mut self) -> io::Result<()>
         ensures bytes { Keeps None None }
         ensures empty { self.new.held.used ≡ 0 }
@@ -119,6 +121,7 @@ impl<W: Write + Drop> Write for Out<W> {
     }
 
     // The whole text. What the block has no room for comes after all that was put before, and is written at once if it is longer than the block.
+    #[inline(always)]
     fn write_all(&mut self, text: &[u8]) -> io::Result<()>
         ensures bytes { OnOk result (Appends None None text.now) }
         ensures kept { IfErr result (λ error. self.new.failed ≡ Some error) }
@@ -126,11 +129,11 @@ impl<W: Write + Drop> Write for Out<W> {
     {
         if BLOCK - self.held.used < text.len() {
             self.flush()?;
-        }
-        if BLOCK < text.len() {
-            let passed = self.to.write_all(text);
-            self.failed = passed.err();
-            return passed;
+            if BLOCK < text.len() {
+                let passed = self.to.write_all(text);
+                self.failed = passed.err();
+                return passed;
+            }
         }
         let end = self.held.used + text.len();
         self.held.bytes[self.held.used..end].copy_from_slice(text);
