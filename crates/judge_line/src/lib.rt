@@ -99,7 +99,7 @@ fn opened(settype: SetType, state: &mut State, at: usize, label: usize, i: usize
     requires { i < row_count }
     ensures { IsOpened settype at label i state.old state.new }
 {
-    // by cases: the answer stored as one value takes 13 instructions more a line
+    // by cases: the answer stored as one value takes more instructions a line
     match judge_missing::first_lack(settype, state) {
         Some(lack) => state.lack = Some(lack),
         None => state.lack = None,

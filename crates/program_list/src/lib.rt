@@ -71,7 +71,7 @@ fn list_input(rt: &HostRuntime, input: &mut impl Read, name: &[u8]) -> Status {
             if MOST_BYTES < n {
                 return list_too_long(rt);
             }
-            // this writer tells a write that was interrupted; the stream itself tries it again, without an end
+            // if writes are interrupted again and again, this writer gives up; the stream itself never would
             program_status::list_bytes(io::writer(&rt.stdout()), &rt.stderr(), &room[..n])
         }
     }

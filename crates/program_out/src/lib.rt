@@ -102,7 +102,7 @@ impl<W: Write + Drop> Write for Out<W> {
         Ok(text.len())
     }
 
-    // All that was put is written, unless a write fails or failed before.
+    // All that was put is written, unless a write fails or failed before. It stands apart from `write_all`, whose test for room is inlined.
     #[cold]
     #[inline(never)]
     fn flush(&mut self) -> io::Result<()>
