@@ -58,13 +58,21 @@ impl<W: Write + Drop> Out<W> {
         }
     }
 
+    // Numbers, each after a space, and the end of the line.
+    fn put_numbers(&mut self, numbers: &[usize]) -> io::Result<()> {
+        for number in numbers {
+            write!(self, " {number}")?;
+        }
+        self.write_all(b"\n")
+    }
+
     // "A refusal prints `refused`, number, place, label."
     pub fn put_refusal(&mut self, refusal: &Refusal) -> io::Result<()>
         ensures none_failed { OnOk result ((self.old.failed ≡ None) × (self.new.failed ≡ None)) }
     {
         self.told()?;
         self.write_all(b"refused")?;
-        writeln!(self, " {} {} {}", refusal.no, refusal.place, refusal.label)?;
+        self.put_numbers(&[refusal.no, refusal.place, refusal.label])?;
         self.told()
     }
 
@@ -74,7 +82,7 @@ impl<W: Write + Drop> Out<W> {
     {
         self.told()?;
         self.write_all(b"set")?;
-        writeln!(self, " {} {} {}", shape.settype, shape.length, shape.lines)?;
+        self.put_numbers(&[shape.settype, shape.length, shape.lines])?;
         let mut walk = index_walk::start();
         for number in 1..=shape.lines {
             let next = index_walk::next_entry(set, walk);
