@@ -7,7 +7,7 @@ ghost use Rattle.std.specs.Prelude.{◌≡◌, true, cond, ◌≤◌, ◌<◌, e
 ghost use Rattle.meaning.specs.declared.Row.{Row};
 ghost use Rattle.meaning.specs.FieldTable.{field_row};
 ghost use Rattle.meaning.specs.Groups.{belongs, names_row};
-ghost use Rattle.judge_missing.specs.Lacks.{row_count, flagged_of};
+ghost use Rattle.judge_missing.specs.Lacks.{row_count, only_missing, flagged_of};
 ghost use Rattle.judge_line.specs.Steps.{row_of, refused_by, repeated_no, place_no, version_no, fit_no, content_no, between, IsOpened, IsJoined, Stepped};
 
 use judge_missing::State;
@@ -97,7 +97,8 @@ fn fits(field: FieldRow, label: usize, s: &[u8], from: usize, end: usize) -> Res
 // A set-level line with row number i opens its own group, with no member yet. The group before it ends.
 fn opened(settype: SetType, state: &mut State, at: usize, label: usize, i: usize)
     requires { i < row_count }
-    ensures { IsOpened settype at label i state.old state.new }
+    ensures next { IsOpened settype at label i state.old state.new }
+    ensures by_missing { only_missing state.old.lack → only_missing state.new.lack }
 {
     // by cases: the answer stored as one value takes more instructions a line
     match judge_missing::first_lack(settype, state) {
@@ -132,7 +133,8 @@ pub fn step_at(
     end: usize,
 ) -> Result<(), usize>
     requires { (from ≤ end) × (end ≤ length s.now) }
-    ensures { Stepped (row_of settype label) settype state.old at label (between s.now from end) result state.new }
+    ensures step { Stepped (row_of settype label) settype state.old at label (between s.now from end) result state.new }
+    ensures by_missing { only_missing state.old.lack → only_missing state.new.lack }
 {
     let Some(row) = table_find::find_row(settype, label) else {
         return Err(Refusal::NOT_IN_SET);

@@ -6,7 +6,7 @@
 ghost use Rattle.std.specs.Prelude.{◌≡◌, IsTrue, true, false, ◌<◌, get_or, set};
 ghost use Rattle.meaning.specs.Refusals.{refusal, missing};
 ghost use Rattle.meaning.specs.Tables.{row_label};
-ghost use Rattle.judge_missing.specs.Lacks.{row_count, no_flags, seen, valued, lack8437, lack8410, lack_name, lack_under, lack_by, in_rows, group_lack, open_lack, first_lack, set_lack, finish, told, told_lack, has_number, flagged_of, before_lines};
+ghost use Rattle.judge_missing.specs.Lacks.{row_count, no_flags, seen, valued, lack8437, lack8410, lack_name, lack_under, lack_by, in_rows, group_lack, open_lack, first_lack, set_lack, finish, told, told_lack, has_number, only_missing, flagged_of, before_lines};
 
 use meaning::{Refusal, SetType};
 use table_fields as fields;
@@ -241,6 +241,7 @@ fn group_lack(settype: SetType, members: &[bool; ROWS], header: usize, place: us
 fn open_lack(settype: SetType, state: &State) -> Option<Refusal>
     ensures lack_so { told result ≡ open_lack settype state.now.header state.now.place state.now.members }
     ensures numbered { has_number result }
+    ensures by_missing { only_missing result }
 {
     match group_lack(settype, &state.members, state.header, state.place) {
         Some(lack) => Some(lack.refusal()),
@@ -253,6 +254,7 @@ fn open_lack(settype: SetType, state: &State) -> Option<Refusal>
 pub fn first_lack(settype: SetType, state: &State) -> Option<Refusal>
     ensures lack_so { told result ≡ first_lack settype state.now.header state.now.place state.now.members (told state.now.lack) }
     ensures numbered { has_number result }
+    ensures by_missing { only_missing state.now.lack → only_missing result }
 {
     match state.lack {
         Some(lack) if lack.no != 0 => Some(lack),
@@ -277,6 +279,7 @@ fn set_lack(settype: SetType, top: &[bool; ROWS]) -> Option<Lack>
 pub fn finish_at(settype: SetType, state: &State) -> Option<Refusal>
     ensures lack_so { told result ≡ finish settype (flagged_of state.now) (told state.now.lack) }
     ensures numbered { has_number result }
+    ensures by_missing { only_missing state.now.lack → only_missing result }
 {
     match set_lack(settype, &state.top) {
         Some(lack) => Some(lack.refusal()),

@@ -7,8 +7,8 @@ use Rattle.judge_line.proofs.StepLaws.{opened-is}
 use Rattle.judge_line.proofs.opened.Goals as goal
 use Rattle.judge_line.proofs.opened.Goals.{in-Some, in-None}
 
-pub returns : goal.returns
-returns c =
+pub returns-clause-next : goal.returns-clause-next
+returns-clause-next c =
     elim c.match-first_lack.branch [
       | in-Some w ↦ (rw (c.clear.ensures, c.mark.ensures, w.state-is) (opened-is (omega arith)), ap (λ (y : State). told y.lack) w.state-is ∙ w.in-Some.ensures.lack_so)
       | in-None w ↦ (rw (c.clear.ensures, c.mark.ensures, w.state-is) (opened-is (omega arith)), ap (λ (y : State). told y.lack) w.state-is ∙ w.in-None.ensures.lack_so)

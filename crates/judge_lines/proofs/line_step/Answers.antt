@@ -4,4 +4,4 @@ use Rattle.judge_lines.proofs.line_step.Goals as goal
 
 pub returns : goal.returns
 returns c =
-    step_line _ c.args.at c.args.size c.requires.0 c.step_at.ensures
+    step_line _ c.args.at c.args.size c.requires.0 c.step_at.ensures.step

@@ -41,7 +41,7 @@ pub returns-in-Err : goal.returns-in-Err
 returns-in-Err c =
     let a = c.args in
     let l = c.loop-at in
-    let step = step-entry a.list.now l.at _ c.in-Err.ensures in
+    let step = step-entry a.list.now l.at _ c.in-Err.ensures.step in
     let head = told-head a.list.now l.at l.invariant.0 c.loop-at-test.true c.told_label-label.ensures c.told_length.ensures in
     some-refused step
     ∙ ap if_any (sym (pass-bad a.list.now a.t l.at l.state head step) ∙ (l.invariant.1 ∙ starts a.list.now a.t a.start c.new-state.ensures))
@@ -62,7 +62,7 @@ loop-at-preserved c =
       told-later a.list.now l.at l.invariant.0 c.loop-at-test.true c.told_label-label.ensures c.told_length.ensures,
       sym (pass_on a.list.now a.t l.at l.state
           (told-head a.list.now l.at l.invariant.0 c.loop-at-test.true c.told_label-label.ensures c.told_length.ensures)
-          (step-entry a.list.now l.at _ c.in_default.ensures))
+          (step-entry a.list.now l.at _ c.in_default.ensures.step))
           ∙ l.invariant.1,
     )
 
