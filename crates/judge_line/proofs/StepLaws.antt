@@ -150,10 +150,10 @@ placed-number o st l c i row q e =
 
 module _ {o : Found} {settype : SetType} {x : State} {at l : ℕ} {c : List ℕ} where
   -- a line that is refused
-  stopped : {n : ℕ} → Err n ≡ refused_by (line_no o (flagged_of x) l c) → Stepped o settype x at l c (Err n) x
+  stopped : {n : ℕ} {y : State} → Err n ≡ refused_by (line_no o (flagged_of x) l c) → Stepped o settype x at l c (Err n) y
   stopped e = record { number = e; flagged-so = λ z. absurd cc; lack-so = λ z. absurd cc }
 
-  pub step-unknown : o ≡ NoRow → Stepped o settype x at l c (Err not_in_set) x
+  pub step-unknown : {y : State} → o ≡ NoRow → Stepped o settype x at l c (Err not_in_set) y
   unfolding line_no label_no
   step-unknown q = stopped (ap (λ (w : Found). refused_by (line_no w (flagged_of x) l c)) (sym q))
 

@@ -148,3 +148,27 @@ pub fn step_at(
     joined(state, row.under, row.number);
     Ok(())
 }
+
+#[cfg(test)]
+mod tests {
+    use super::*;
+
+    // A line with this content at an offset, in a 6310 set.
+    fn step(state: &mut State, at: usize, label: usize, content: &[u8]) -> Result<(), usize> {
+        step_at(SetType::T6310, state, at, label, content, 0, content.len())
+    }
+
+    #[test]
+    fn a_group_that_ends_is_told_by_16(rt: HostRuntime) {
+        let mut state = State::new();
+        assert_eq!(rt; step(&mut state, 40, 8410, b"HF"), Ok(()));
+        assert_eq!(rt; step(&mut state, 60, 8420, b"171"), Ok(()));
+        assert_eq!(rt; step(&mut state, 80, 6303, b"1"), Err(Refusal::STRAY));
+        assert!(rt; state.lack.is_none());
+        assert_eq!(rt; step(&mut state, 80, 8410, b"VO2"), Ok(()));
+        assert_eq!(rt;
+            state.lack.map(|r| (r.no, r.place, r.label)),
+            Some((16, 40, 8421))
+        );
+    }
+}

@@ -286,3 +286,65 @@ pub fn finish_at(settype: SetType, state: &State) -> Option<Refusal>
         None => first_lack(settype, state),
     }
 }
+
+#[cfg(test)]
+mod tests {
+    use super::*;
+
+    // The place of the 8410 line.
+    const AT: usize = 40;
+
+    // An 8410 group that has a value and no unit.
+    fn group_without_a_unit() -> State {
+        let mut state = State::new();
+        state.header = meaning::LABEL_8410;
+        state.place = AT;
+        mark(&mut state.members, fields::NO_8420);
+        state
+    }
+
+    // Number, place and label; three zeros are no refusal.
+    fn numbers(refusal: Option<Refusal>) -> (usize, usize, usize) {
+        match refusal {
+            Some(r) => (r.no, r.place, r.label),
+            None => (0, 0, 0),
+        }
+    }
+
+    #[test]
+    fn a_group_lacks_its_unit(rt: HostRuntime) {
+        let state = group_without_a_unit();
+        assert_eq!(rt; numbers(first_lack(SetType::T6310, &state)), (16, AT, 8421));
+        assert_eq!(rt;
+            numbers(first_lack(SetType::T6301, &state)),
+            (0, 0, 0),
+            "only 6310 has groups"
+        );
+    }
+
+    #[test]
+    fn a_lack_found_before_is_told(rt: HostRuntime) {
+        let mut state = group_without_a_unit();
+        for (no, told) in [
+            (16, (16, 7, 8437)),
+            (14, (14, 7, 8437)),
+            (0, (16, AT, 8421)),
+        ] {
+            state.lack = Some(Refusal {
+                no,
+                place: 7,
+                label: 8437,
+            });
+            assert_eq!(rt; numbers(first_lack(SetType::T6310, &state)), told);
+        }
+    }
+
+    #[test]
+    fn the_set_level_comes_first(rt: HostRuntime) {
+        let mut state = group_without_a_unit();
+        assert_eq!(rt; numbers(finish_at(SetType::T6310, &state)), (16, 0, 3000));
+        state.top = [true; ROWS];
+        assert_eq!(rt; numbers(finish_at(SetType::T6310, &state)), (16, AT, 8421));
+        assert_eq!(rt; numbers(finish_at(SetType::T6301, &state)), (0, 0, 0));
+    }
+}
