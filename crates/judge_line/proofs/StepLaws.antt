@@ -143,7 +143,8 @@ refused-ok (suc m) e = absurd cc
 -- ---- one line
 
 -- the number of a line that is in its place
-placed-number : (o : Found) (st : Flagged) (l : ℕ) (c : List ℕ) (i : ℕ) (row : Row) → o ≡ At i row → place_no i row st.header st.members st.top l ≡ 0 → line_no o st l c ≡ content_no l c
+placed-number : (o : Found) (st : Flagged) (l : ℕ) (c : List ℕ) (i : ℕ) (row : Row)
+    → o ≡ At i row → place_no i row st.header st.members st.top l ≡ 0 → line_no o st l c ≡ content_no l c
 unfolding line_no label_no
 placed-number o st l c i row q e =
     ap (λ (x : Found). line_no x st l c) q ∙ ap (λ (x : ℕ). cond (eqb x 0) (content_no l c) x) e

@@ -153,8 +153,11 @@ pub fn step_at(
 mod tests {
     use super::*;
 
-    // A line with this content at an offset, in a 6310 set.
-    fn step(state: &mut State, at: usize, label: usize, content: &[u8]) -> Result<(), usize> {
+    // A line with this content at an offset, in a 6310 set, for a caller that knows 16 alone.
+    fn step(state: &mut State, at: usize, label: usize, content: &[u8]) -> Result<(), usize>
+        requires { only_missing state.old.lack }
+        ensures { only_missing state.new.lack }
+    {
         step_at(SetType::T6310, state, at, label, content, 0, content.len())
     }
 

@@ -6,6 +6,7 @@ use Prim.Native.Nat.{ℕ, ◌+◌, ◌%◌, ◌<◌}
 use native.Mathlib.Omega.{arith}
 use lib.Dec.{eqb}
 use borrow.Author.Tests.{eqb-true, eqb-false, ne_eqb}
+use Rattle.std.specs.Prelude.{Some}
 use Rattle.meaning.specs.declared.Refusal.{Refusal}
 use Rattle.meaning.specs.declared.Row.{Row}
 use Rattle.meaning.specs.declared.SetType.{SetType}
@@ -18,7 +19,7 @@ use Rattle.meaning.specs.Answers.{no_refusal}
 use Rattle.meaning.specs.Groups as G
 use Rattle.meaning.specs.Groups.{no_header}
 use Rattle.meaning.proofs.Bools.{and_left, and_right}
-use Rattle.judge_missing.specs.Lacks.{lacks, lack_here, valued, lack8437, lack8410, lack6302, lack_name, lack_under, group_lack, lack_all, required_labels, Flagged, seen, open_lack}
+use Rattle.judge_missing.specs.Lacks.{lacks, lack_here, valued, lack8437, lack8410, lack6302, lack_name, lack_under, group_lack, lack_all, required_labels, Flagged, seen, open_lack, told, told_lack, only_missing}
 use Rattle.judge_missing.proofs.FlagLaws.{Agrees}
 use Rattle.meaning.proofs.FirstLaws.{first_of, first-rule}
 
@@ -211,3 +212,9 @@ open_is settype pl st ms s =
         → cond b no_refusal (group_lack settype (among ms.members) ms.header st.place) ≡ first_of pl (cond b [] (lacking (table settype) ms.header ms.line (among ms.members)))
     go true e = refl
     go false e = group-lack (among ms.members) pl ms.header ms.line st.place s.place settype (eqb-false ms.header no_header e)
+
+-- ---- what is lacking by 16
+
+-- it is the refusal of a label that is not there
+pub missing-told : (r : Refusal) → only_missing (Some r) → told (Some r) ≡ told_lack (Some (record { place = r.place; label = r.label }))
+missing-told r e = ap (λ (n : ℕ). refusal n r.place r.label) e

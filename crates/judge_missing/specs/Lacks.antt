@@ -46,12 +46,12 @@ abbrev pub has_number : Option Refusal → Type 0
 has_number None = Unit
 has_number (Some r) = r.no ≡ 0 → ⊥
 
--- none, or one by 16
+-- one that is there is by 16
 abbrev pub only_missing : Option Refusal → Type 0
 only_missing None = Unit
 only_missing (Some r) = r.no ≡ missing
 
--- the same of a label that is not there
+-- the refusal of a label that is not there; none if every label is
 abbrev pub told_lack : Option Lack → Refusal
 told_lack None = no_refusal
 told_lack (Some x) = refusal missing x.place x.label

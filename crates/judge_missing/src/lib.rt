@@ -294,8 +294,10 @@ mod tests {
     // The place of the 8410 line.
     const AT: usize = 40;
 
-    // An 8410 group that has a value and no unit.
-    fn group_without_a_unit() -> State {
+    // An 8410 group that has a value and no unit. Nothing was lacking before.
+    fn group_without_a_unit() -> State
+        ensures { only_missing result.lack }
+    {
         let mut state = State::new();
         state.header = meaning::LABEL_8410;
         state.place = AT;
@@ -303,21 +305,23 @@ mod tests {
         state
     }
 
-    // Number, place and label; three zeros are no refusal.
-    fn numbers(refusal: Option<Refusal>) -> (usize, usize, usize) {
-        match refusal {
-            Some(r) => (r.no, r.place, r.label),
-            None => (0, 0, 0),
-        }
+    // Place and label of what is lacking, for a caller that knows 16 alone.
+    fn lack_of(found: Option<Refusal>) -> Option<(usize, usize)>
+        requires { only_missing found }
+    {
+        found.map(|r| (r.place, r.label))
     }
 
     #[test]
     fn a_group_lacks_its_unit(rt: HostRuntime) {
         let state = group_without_a_unit();
-        assert_eq!(rt; numbers(first_lack(SetType::T6310, &state)), (16, AT, 8421));
         assert_eq!(rt;
-            numbers(first_lack(SetType::T6301, &state)),
-            (0, 0, 0),
+            lack_of(first_lack(SetType::T6310, &state)),
+            Some((AT, 8421))
+        );
+        assert_eq!(rt;
+            lack_of(first_lack(SetType::T6301, &state)),
+            None,
             "only 6310 has groups"
         );
     }
@@ -335,16 +339,20 @@ mod tests {
                 place: 7,
                 label: 8437,
             });
-            assert_eq!(rt; numbers(first_lack(SetType::T6310, &state)), told);
+            let found = first_lack(SetType::T6310, &state);
+            assert_eq!(rt; found.map(|r| (r.no, r.place, r.label)), Some(told));
         }
     }
 
     #[test]
     fn the_set_level_comes_first(rt: HostRuntime) {
         let mut state = group_without_a_unit();
-        assert_eq!(rt; numbers(finish_at(SetType::T6310, &state)), (16, 0, 3000));
+        assert_eq!(rt; lack_of(finish_at(SetType::T6310, &state)), Some((0, 3000)));
         state.top = [true; ROWS];
-        assert_eq!(rt; numbers(finish_at(SetType::T6310, &state)), (16, AT, 8421));
-        assert_eq!(rt; numbers(finish_at(SetType::T6301, &state)), (0, 0, 0));
+        assert_eq!(rt;
+            lack_of(finish_at(SetType::T6310, &state)),
+            Some((AT, 8421))
+        );
+        assert_eq!(rt; lack_of(finish_at(SetType::T6301, &state)), None);
     }
 }
