@@ -19,7 +19,8 @@ use Rattle.meaning.specs.Answers.{no_refusal}
 use Rattle.meaning.specs.Groups as G
 use Rattle.meaning.specs.Groups.{no_header}
 use Rattle.meaning.proofs.Bools.{and_left, and_right}
-use Rattle.judge_missing.specs.Lacks.{lacks, lack_here, valued, lack8437, lack8410, lack6302, lack_name, lack_under, group_lack, lack_all, required_labels, Flagged, seen, open_lack, told, told_lack, only_missing}
+use Rattle.judge_missing.specs.Lacks.{lacks, lack_here, valued, lack8437, lack8410, lack6302, lack_name, lack_under, group_lack, lack_all, required_labels, Flagged, seen, open_lack}
+use Rattle.judge_missing.specs.Lacks.{told, told_lack, only_missing}
 use Rattle.judge_missing.proofs.FlagLaws.{Agrees}
 use Rattle.meaning.proofs.FirstLaws.{first_of, first-rule}
 
