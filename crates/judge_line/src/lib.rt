@@ -162,7 +162,7 @@ mod tests {
     }
 
     #[test]
-    fn a_group_that_ends_is_told_by_16(rt: HostRuntime) {
+    fn what_a_group_lacks_is_told_by_16(rt: HostRuntime) {
         let mut state = State::new();
         assert_eq!(rt; step(&mut state, 40, 8410, b"HF"), Ok(()));
         assert_eq!(rt; step(&mut state, 60, 8420, b"171"), Ok(()));

@@ -216,6 +216,6 @@ open_is settype pl st ms s =
 
 -- ---- what is lacking by 16
 
--- it is the refusal of a label that is not there
+-- it is the refusal of a `Lack`, the one with its place and its label
 pub missing-told : (r : Refusal) → only_missing (Some r) → told (Some r) ≡ told_lack (Some (record { place = r.place; label = r.label }))
 missing-told r e = ap (λ (n : ℕ). refusal n r.place r.label) e

@@ -51,7 +51,7 @@ abbrev pub only_missing : Option Refusal → Type 0
 only_missing None = Unit
 only_missing (Some r) = r.no ≡ missing
 
--- the refusal of a label that is not there; none if every label is
+-- the refusal by 16 of a label that is lacking; none if nothing is
 abbrev pub told_lack : Option Lack → Refusal
 told_lack None = no_refusal
 told_lack (Some x) = refusal missing x.place x.label
